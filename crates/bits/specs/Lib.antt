@@ -1,0 +1,15 @@
+-- Definitions first; the laws about each stand in the file below it.
+pub mod Lists
+pub mod ListLaws
+pub mod Bits
+pub mod BitLaws
+pub mod Count
+pub mod CountLaws
+pub mod Xor
+pub mod XorLaws
+pub mod FlipLaws
+pub mod Tests
+pub mod Filling
+pub mod Gathering
+pub mod Seeking
+pub mod Summing

@@ -1,0 +1,23 @@
+-- Laws of answers.
+-- Assumes nothing.
+use Prim.Native.Nat.{ℕ}
+use mathlib.Core.Path.{_≡_, refl}
+use native.Mathlib.Omega.{arith}
+use Rattle.calls.specs.declared.Refusal.{Refusal}
+use Rattle.calls.specs.declared.Refusal.the-variants.{Misfit, BadHeader, CountSpent, NoSuchFrame, OffGrid}
+use Rattle.calls.specs.declared.Answer.{Answer}
+use Rattle.calls.specs.declared.Answer.the-variants.{Done, Refused}
+use Rattle.calls.specs.Answers.{numberOf, refusalOf, Accepted, TurnedBack}
+
+-- No refusal has number 0.
+pub refused-turned : (r : Refusal) → TurnedBack (Refused r)
+refused-turned Misfit e = omega arith
+refused-turned BadHeader e = omega arith
+refused-turned CountSpent e = omega arith
+refused-turned NoSuchFrame e = omega arith
+refused-turned (OffGrid i) e = omega arith
+
+-- An answer whose number is 0 is done.
+pub accepted-done : (a : Answer) → Accepted a → (v : ℕ) × (a ≡ Done v)
+accepted-done (Done v) e = (v, refl)
+accepted-done (Refused r) e = absurd (refused-turned r e)

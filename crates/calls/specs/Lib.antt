@@ -1,0 +1,4 @@
+pub mod Answers
+pub mod AnswerLaws
+pub mod Sequences
+pub mod SequenceLaws

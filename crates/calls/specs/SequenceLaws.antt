@@ -1,0 +1,92 @@
+-- Laws of lists of calls.
+-- Assumes nothing.
+use mathlib.Core.Path.{_≡_, refl, ap, sym, subst, _∙_}
+use mathlib.Core.List.{List, [], _∷_, map}
+use Prim.Native.Nat.{ℕ, zero, suc, _+_, _<_}
+use native.Mathlib.Nat.{add-zero, zero-add}
+use native.Mathlib.Omega.{arith}
+use native.Mathlib.Decide.{ℕ-discrete}
+use borrow.Author.Tests.{eq-eqb, ne-eqb}
+use lib.ListN.{length, getD}
+use Rattle.calls.specs.Answers.{refusalOf, Accepted, TurnedBack}
+use Rattle.calls.specs.Sequences.{Kind, At, here, later, Run, done, takes, turned, elsewhere, accepted, Keeping}
+
+-- ---- places of a list
+
+module _ {A : Type 0} where
+  pub At-nil : {i : ℕ} {x : A} → At [] i x → ⊥
+  At-nil = elim [ ]
+
+  pub At-lt : {l : List A} {i : ℕ} {x : A} → At l i x → i < length l
+  At-lt here = omega arith
+  At-lt (later a) = omega (arith, At-lt a)
+
+  pub At-find : (l : List A) (i : ℕ) → i < length l → (x : A) × At l i x
+  At-find [] i lt = absurd (omega arith)
+  At-find (x ∷ xs) zero lt = (x, here)
+  At-find (x ∷ xs) (suc i) lt = let r = At-find xs i (omega arith) in (r .0, later (r .1))
+
+  pub At-map : {B : Type 0} (f : A → B) (d : B) {l : List A} {i : ℕ} {x : A} → At l i x → getD (map f l) i d ≡ f x
+  At-map f d here = refl
+  At-map f d (later a) = At-map f d a
+
+module _ (K : Kind) where
+  pub accepted-yes : (c : K .Call) (cs : List (K .Call)) → Accepted (K .answer c) → accepted K (c ∷ cs) ≡ c ∷ accepted K cs
+  unfolding accepted
+  accepted-yes c cs p = simp (eq-eqb (refusalOf (K .answer c)) 0 p)
+
+  pub accepted-no : (c : K .Call) (cs : List (K .Call)) → TurnedBack (K .answer c) → accepted K (c ∷ cs) ≡ accepted K cs
+  unfolding accepted
+  accepted-no c cs p = simp (ne-eqb (refusalOf (K .answer c)) 0 p)
+
+  -- An accepted call is accepted.
+  pub is-accepted : (cs : List (K .Call)) {i : ℕ} {x : K .Call} → At (accepted K cs) i x → Accepted (K .answer x)
+  unfolding accepted
+  is-accepted [] a = absurd (At-nil a)
+  is-accepted (c ∷ cs) {i} {x} a = go (ℕ-discrete (refusalOf (K .answer c)) 0) (λ j b. is-accepted cs {i = j} b)
+    where
+      first : (ds : List (K .Call)) → Accepted (K .answer c) → {j : ℕ} {y : K .Call} → At (c ∷ ds) j y
+          → ((k : ℕ) → At ds k y → Accepted (K .answer y)) → Accepted (K .answer y)
+      first ds p here rest = p
+      first ds p (later b) rest = rest _ b
+
+      go : Dec (Accepted (K .answer c)) → ((j : ℕ) → At (accepted K cs) j x → Accepted (K .answer x)) → Accepted (K .answer x)
+      go (yes p) rest = first (accepted K cs) p (subst (λ l. At l i x) (accepted-yes c cs p) a) rest
+      go (no q) rest = rest i (subst (λ l. At l i x) (accepted-no c cs q) a)
+
+  -- ---- refused calls do not matter
+
+  pub without-refused : Keeping K → {s t : K .State} {cs : List (K .Call)} → Run K s cs t → Run K s (accepted K cs) t
+  unfolding accepted
+  without-refused keeps done = done
+  without-refused keeps (takes {c = c} {cs = cs} ok e r) = rw (accepted-yes c cs ok) (takes ok e (without-refused keeps r))
+  without-refused keeps (turned {s} {t} {c = c} {cs = cs} bad e r) =
+      rw (accepted-no c cs bad) (subst (λ u. Run K u (accepted K cs) t) (keeps c bad ∙ e) (without-refused keeps r))
+  without-refused keeps (elsewhere {c = c} {cs = cs} bad r) = rw (accepted-no c cs bad) (without-refused keeps r)
+
+  -- ---- what each accepted call is lent
+
+  -- Where `at` gives the state before each accepted call from the one before, each is lent what `at` says.
+  abbrev pub Follows : (ℕ → K .State) → List (K .Call) → Type 0
+  Follows at cs = (i : ℕ) (c : K .Call) → At (accepted K cs) i c → K .lent c ≡ at i → K .left c ≡ at (suc i)
+
+  first-or-later : (at : ℕ → K .State) (d : K .Call) (ds : List (K .Call)) → K .lent d ≡ at 0
+      → ((j : ℕ) (x : K .Call) → At ds j x → K .lent x ≡ at (suc j)) → {i : ℕ} {c : K .Call} → At (d ∷ ds) i c → K .lent c ≡ at i
+  first-or-later at d ds e rest here = e
+  first-or-later at d ds e rest (later b) = rest _ _ b
+
+  pub lent-at : Keeping K → (at : ℕ → K .State) {s t : K .State} {cs : List (K .Call)} → Run K s cs t → s ≡ at 0 → Follows at cs
+      → (i : ℕ) (c : K .Call) → At (accepted K cs) i c → K .lent c ≡ at i
+  unfolding accepted
+  lent-at keeps at done e f i c a = absurd (At-nil a)
+  lent-at keeps at (takes {c = d} {cs = ds} ok p r) e f i c a =
+      first-or-later at d (accepted K ds) (p ∙ e)
+      (lent-at keeps (λ n. at (suc n)) r (f 0 d (subst (λ l. At l 0 d) (sym (accepted-yes d ds ok)) here) (p ∙ e))
+      (λ j x b. f (suc j) x (subst (λ l. At l (suc j) x) (sym (accepted-yes d ds ok)) (later b))))
+      (subst (λ l. At l i c) (accepted-yes d ds ok) a)
+  lent-at keeps at (turned {c = d} {cs = ds} bad p r) e f i c a =
+      lent-at keeps at r (keeps d bad ∙ p ∙ e) (λ j x b. f j x (subst (λ l. At l j x) (sym (accepted-no d ds bad)) b)) i c
+      (subst (λ l. At l i c) (accepted-no d ds bad) a)
+  lent-at keeps at (elsewhere {c = d} {cs = ds} bad r) e f i c a =
+      lent-at keeps at r e (λ j x b. f j x (subst (λ l. At l j x) (sym (accepted-no d ds bad)) b)) i c
+      (subst (λ l. At l i c) (accepted-no d ds bad) a)

@@ -1,0 +1,45 @@
+-- Lists of calls that hand a state on, refused calls among them. 01, "Whole runs": "Each accepted call gets the history and
+-- pair number that the accepted call before it returned, and nobody else writes them meanwhile. Refused calls, whatever they
+-- are lent, may stand anywhere in a list and leave both as they were."
+-- Assumes nothing.
+use mathlib.Core.Path.{_≡_}
+use mathlib.Core.List.{List, [], _∷_}
+use mathlib.Core.Bool.{cond}
+use Prim.Native.Nat.{ℕ, zero, suc}
+use lib.Dec.{eqb}
+use Rattle.calls.specs.declared.Answer.{Answer}
+use Rattle.calls.specs.Answers.{refusalOf, Accepted, TurnedBack}
+
+-- A kind of calls: what is lent to one, the state that one hands on to the next, the answer, and the state as it is lent and
+-- as the call leaves it.
+pub record Kind : Type 1 where
+  pub Call : Type 0
+  pub State : Type 0
+  pub answer : Call → Answer
+  pub lent : Call → State
+  pub left : Call → State
+
+-- x stands at place i of a list.
+pub data At {A : Type 0} : List A → ℕ → A → Type 0 where
+  here : {x : A} {xs : List A} → At (x ∷ xs) 0 x
+  later : {x y : A} {xs : List A} {i : ℕ} → At xs i x → At (y ∷ xs) (suc i) x
+
+module _ (K : Kind) where
+  -- A list of calls made while the state goes from the first to the last.
+  --   takes      an accepted call is lent the state, and the state is then what it left
+  --   turned     a refused call may be lent the state: then the state is what it left
+  --   elsewhere  a refused call may be lent anything else, and the state is not touched
+  pub data Run : K .State → List (K .Call) → K .State → Type 0 where
+    done : {s : K .State} → Run s [] s
+    takes : {s t : K .State} {c : K .Call} {cs : List (K .Call)} → Accepted (K .answer c) → K .lent c ≡ s → Run (K .left c) cs t → Run s (c ∷ cs) t
+    turned : {s t : K .State} {c : K .Call} {cs : List (K .Call)} → TurnedBack (K .answer c) → K .lent c ≡ s → Run (K .left c) cs t → Run s (c ∷ cs) t
+    elsewhere : {s t : K .State} {c : K .Call} {cs : List (K .Call)} → TurnedBack (K .answer c) → Run s cs t → Run s (c ∷ cs) t
+
+  -- The accepted calls of a list, in order.
+  unfoldable pub accepted : List (K .Call) → List (K .Call)
+  accepted [] = []
+  accepted (c ∷ cs) = cond (eqb (refusalOf (K .answer c)) 0) (c ∷ accepted cs) (accepted cs)
+
+  -- What each kind of calls must show: a refused call leaves the state as it was lent.
+  abbrev pub Keeping : Type 0
+  Keeping = (c : K .Call) → TurnedBack (K .answer c) → K .left c ≡ K .lent c
