@@ -3,11 +3,11 @@
 use mathlib.Core.Path.{_≡_, refl, sym, ap, ap₂, _∙_}
 use mathlib.Core.Logic.{_≢_}
 use Prim.Native.Nat.{ℕ, zero, suc, _+_, _*_, _/_, _%_, _^_, _<_}
-use native.Mathlib.Nat.{mod-lt, zero-lt-suc}
+use native.Mathlib.Nat.{mod-lt, zero-lt-suc, zero-mul, one-mul}
 use native.Mathlib.Omega.{arith}
 use native.Mathlib.Decide.{ℕ-discrete}
 use lib.Arith.{bin-ind, digits-div, digits-mod}
-use lib.Bits.{bitXor, xor-step, xor-comm, xor-self, xor-zero-r, xor-lt, xor-shr, xor-shifted, differ}
+use lib.Bits.{bitXor, xor-step, xor-comm, xor-self, xor-zero-r, xor-lt, xor-shr, xor-shifted, xor-mod, xor-block, differ}
 use Rattle.bits.specs.Xor.{_⊕_, xorSum}
 
 pub ⊕-comm : (a b : ℕ) → a ⊕ b ≡ b ⊕ a
@@ -105,6 +105,33 @@ pub ⊕-move : (a b c : ℕ) → a ⊕ b ≡ c → b ≡ a ⊕ c
 
 pub ⊕-four : (a b c d : ℕ) → (a ⊕ b) ⊕ (c ⊕ d) ≡ (a ⊕ c) ⊕ (b ⊕ d)
 ⊕-four a b c d = simp sums
+
+-- ---- bits, and numbers taken once or not at all
+
+pub ⊕-mod : (a b : ℕ) → (a ⊕ b) % 2 ≡ (a % 2) ⊕ (b % 2)
+unfolding _⊕_
+⊕-mod a b = xor-mod a b 1
+
+pub ⊕-bit : (a b : ℕ) → a < 2 → b < 2 → a ⊕ b < 2
+⊕-bit = ⊕-lt 1
+
+-- A word shifted by one bit, with a bit behind it.
+pub ⊕-double : (s t a b : ℕ) → a < 2 → b < 2 → (s * 2 + a) ⊕ (t * 2 + b) ≡ (s ⊕ t) * 2 + (a ⊕ b)
+unfolding _⊕_
+⊕-double s t a b ha hb = xor-block 1 s t a b ha hb
+
+pub bit-times-⊕ : (b x y : ℕ) → b < 2 → b * (x ⊕ y) ≡ b * x ⊕ b * y
+bit-times-⊕ zero x y h = rw (zero-mul, zero-mul, zero-mul) (sym (zero-⊕ 0))
+bit-times-⊕ (suc zero) x y h = rw (one-mul, one-mul, one-mul) refl
+bit-times-⊕ (suc (suc b)) x y h = absurd (omega arith)
+
+pub bits-⊕-times : (a b x : ℕ) → a < 2 → b < 2 → (a ⊕ b) * x ≡ a * x ⊕ b * x
+unfolding _⊕_
+bits-⊕-times zero b x ha hb = rw zero-mul refl
+bits-⊕-times (suc zero) zero x ha hb = sym (ap (bitXor (1 * x)) (zero-mul x) ∙ xor-zero-r (1 * x))
+bits-⊕-times (suc zero) (suc zero) x ha hb = zero-mul x ∙ sym (xor-self (1 * x))
+bits-⊕-times (suc zero) (suc (suc b)) x ha hb = absurd (omega arith)
+bits-⊕-times (suc (suc a)) b x ha hb = absurd (omega arith)
 
 -- ---- sums over places
 

@@ -1,0 +1,4 @@
+pub mod CodeWord
+pub mod Repair
+pub mod Completion
+pub mod Calls
