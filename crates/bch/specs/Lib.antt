@@ -6,3 +6,6 @@ pub mod RemainderLaws
 pub mod Syndromes
 pub mod SyndromeLaws
 pub mod Distance
+pub mod Search
+pub mod RepairLaws
+pub mod RepairTheorems
