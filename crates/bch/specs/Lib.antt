@@ -9,3 +9,4 @@ pub mod Distance
 pub mod Search
 pub mod RepairLaws
 pub mod RepairTheorems
+pub mod CompletionLaws

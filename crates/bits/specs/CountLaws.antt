@@ -10,6 +10,10 @@ use Rattle.bits.specs.Count.{differs, count, distance}
 
 -- ---- sums
 
+pub count-suc : (n : ℕ) (f : ℕ → ℕ) → count (suc n) f ≡ count n f + f n
+unfolding count
+count-suc n f = refl
+
 pub count-ext : (n : ℕ) (f g : ℕ → ℕ) → ((k : ℕ) → k < n → f k ≡ g k) → count n f ≡ count n g
 unfolding count
 count-ext zero f g h = refl
