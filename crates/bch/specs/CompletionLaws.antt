@@ -200,6 +200,7 @@ module _ (c d : Word) (C : CodeWord c) (D : CodeWord d) (agree : (k : ℕ) → k
       last : c 255 ≡ d 255
       last =
           omega (arith, count-suc 255 c, count-suc 255 d, count-ext 255 c d agree-255, C .even, D .even, C .bits 255 (lit< tt), D .bits 255 (lit< tt))
+
       go : Dec (k < 255) → c k ≡ d k
       go (yes h) = agree-255 k h
       go (no n) = let e : k ≡ 255 = omega arith in ap c e ∙ last ∙ ap d (sym e)
@@ -220,6 +221,7 @@ completed-ext x y e k = go (decLt k 255)
         by : Dec (k < 239) → firstBits x k ≡ firstBits y k
         by (yes l) = first-low x k l ∙ e k l ∙ sym (first-low y k l)
         by (no n) = first-high x k (omega arith) ∙ sym (first-high y k (omega arith))
+
     with-same : (k : ℕ) → withRemainder x k ≡ withRemainder y k
     with-same k = by (decLt k 239)
       where
@@ -229,6 +231,7 @@ completed-ext x y e k = go (decLt k 255)
             with-high x k (omega arith)
             ∙ ap (λ r. r / 2 ^ (254 - k) % 2) (remainder-ext 255 (firstBits x) (firstBits y) (λ j l. first j))
             ∙ sym (with-high y k (omega arith))
+
     go : Dec (k < 255) → completed x k ≡ completed y k
     go (yes l) = completed-low x k l ∙ with-same k ∙ sym (completed-low y k l)
     go (no n) =
