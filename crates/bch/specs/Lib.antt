@@ -15,3 +15,4 @@ pub mod Partial
 pub mod Finding
 pub mod Applying
 pub mod CallLaws
+pub mod Completing

@@ -69,7 +69,7 @@ pub parity-flip : (i : ℕ) (w : Word) → i < 256 → w i < 2 → (parity (flip
 unfolding parity
 parity-flip i w l b = omega (arith, count-flip 256 i w l b)
 
-parity-lt : (w : Word) → parity w < 2
+pub parity-lt : (w : Word) → parity w < 2
 unfolding parity
 parity-lt w = omega arith
 

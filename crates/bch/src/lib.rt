@@ -1,4 +1,6 @@
 // The check word of 01, "Code words": its syndromes, its completion and its repair.
+pub mod completion;
+
 use calls::Answer;
 use calls::Refusal;
 ghost use mathlib.Core.Path.{_≡_};
