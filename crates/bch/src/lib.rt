@@ -1,19 +1,16 @@
 // The check word of 01, "Code words": its syndromes, its completion and its repair.
 pub mod completion;
+mod locating;
+pub mod syndrome;
 
 use calls::Answer;
 use calls::Refusal;
 ghost use mathlib.Core.Path.{_≡_};
-ghost use mathlib.Core.Bool.{Bool};
 ghost use Prim.Native.Nat.{_<_};
 ghost use lib.ListN.{length};
 ghost use Rattle.bits.specs.Bits.{bit, pack};
-ghost use Rattle.bch.specs.Syndromes.{locator, syndromesOf};
-ghost use Rattle.bch.specs.Partial.{absorbed};
-ghost use Rattle.bch.specs.Completion.{completed};
 ghost use Rattle.bch.specs.Repair.{repair, repaired, mark};
-ghost use Rattle.bch.specs.Locating.{Located, confined};
-ghost use Rattle.bch.specs.Finding.{pairSum, FirstPair};
+ghost use Rattle.bch.specs.Locating.{confined};
 ghost use Rattle.bch.specs.Applying.{Inside};
 ghost use Rattle.bch.specs.Calls.{afterRepair, repairCall};
 
@@ -30,107 +27,6 @@ pub struct Syndromes {
     pub s1: u8,
     pub s3: u8,
     pub parity: u8,
-}
-
-// The element of GF(256) that stands for a place, from the table of powers.
-pub fn locator(k: usize) -> u8
-    requires { ⌜ k < 256 ⌝ }
-    ensures { λ r. ⌜ r ≡ locator k ⌝ }
-{
-    if k < 255 { gf256::power(254 - k) } else { 0 }
-}
-
-// The syndromes with bit k taken in.
-fn absorb(s: Syndromes, b: u8, k: usize) -> Syndromes
-    requires { ⌜ (s .parity < 2) × (b < 2) × (k < 256) ⌝ }
-    ensures { λ r. ⌜ r ≡ absorbed s b k ⌝ }
-{
-    if b == 0 {
-        return s;
-    }
-    let x = locator(k);
-    Syndromes {
-        s1: s.s1 ^ x,
-        s3: s.s3 ^ gf256::cube(x),
-        parity: 1 - s.parity,
-    }
-}
-
-// The syndromes and the parity of a word of 32 bytes, in one pass.
-pub fn syndromes_of(w: &[u8]) -> Syndromes
-    requires { ⌜ length (now w) ≡ 32 ⌝ }
-    ensures { λ r. ⌜ r ≡ syndromesOf (bit (now (w .entry))) ⌝ }
-{
-    let mut s = Syndromes {
-        s1: 0,
-        s3: 0,
-        parity: 0,
-    };
-    for k in 0..256 {
-        let b = bits::bit(w, k);
-        s = absorb(s, b, k);
-    }
-    s
-}
-
-// The place that an element of GF(256) stands for.
-fn place_of(x: u8) -> usize
-    ensures { λ r. ⌜ (r < 256) × (locator r ≡ x) ⌝ }
-{
-    if x == 0 {
-        return 255;
-    }
-    254 - gf256::log(x)
-}
-
-// The first place whose locator x, with its partner x ^ s1, has cubes that add up to s3; 256 where there is none.
-fn find_pair(s1: u8, s3: u8) -> usize
-    ensures { λ r. ⌜ FirstPair s1 s3 r ⌝ }
-{
-    let mut k = 0;
-    while k < 256 {
-        if pair_sum(s1, k) == s3 {
-            return k;
-        }
-        k += 1;
-    }
-    k
-}
-
-// What the cubes of a place's locator and of its partner add up to.
-fn pair_sum(s1: u8, k: usize) -> u8
-    requires { ⌜ k < 256 ⌝ }
-    ensures { λ r. ⌜ r ≡ pairSum s1 k ⌝ }
-{
-    let x = locator(k);
-    gf256::cube(x) ^ gf256::cube(x ^ s1)
-}
-
-// The places that the syndromes tell: one of an odd word, none or two of an even one.
-fn locate(s: Syndromes) -> Repair
-    requires { ⌜ s .parity < 2 ⌝ }
-    ensures { λ r. ⌜ Located s r ⌝ }
-{
-    let s1 = s.s1;
-    let s3 = s.s3;
-    if s.parity == 1 {
-        if gf256::cube(s1) == s3 {
-            return Repair::One(place_of(s1));
-        }
-        return Repair::Lost;
-    }
-    if s1 == 0 {
-        if s3 == 0 {
-            return Repair::Sound;
-        }
-        return Repair::Lost;
-    }
-    let i = find_pair(s1, s3);
-    if i < 256 {
-        let j = place_of(locator(i) ^ s1);
-        return Repair::Two(i, j);
-    }
-    Repair::Lost
 }
 
 // Lost where a place falls in the front half and may not.
@@ -181,8 +77,8 @@ pub fn mend(w: &mut [u8], front: bool) -> Repair
     requires { ⌜ length (now w) ≡ 32 ⌝ }
     ensures { λ r. ⌜ (r ≡ repair front (bit (now (w .entry)))) × (now (w .exit) ≡ pack 32 (repaired (repair front (bit (now (w .entry)))) (bit (now (w .entry))))) ⌝ }
 {
-    let s = syndromes_of(w);
-    let r = confine(locate(s), front);
+    let s = syndrome::syndromes_of(w);
+    let r = confine(locating::locate(s), front);
     apply(w, r);
     r
 }

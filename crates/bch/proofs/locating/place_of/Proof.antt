@@ -1,9 +1,9 @@
--- `bch::place_of` meets its contract: the exponent of an element tells its place.
+-- `bch::locating::place_of` meets its contract: the exponent of an element tells its place.
 -- Assumes nothing.
 use Rattle.bch.specs.Finding.{placing}
 use borrow.Author.Needs.{needs}
-use Rattle.bch.proofs.place_of.Statement.{statement}
-use Rattle.bch.proofs.place_of.Tie as tie
+use Rattle.bch.proofs.locating.place_of.Statement.{statement}
+use Rattle.bch.proofs.locating.place_of.Tie as tie
 
 ruleset kit = (needs, placing)
 

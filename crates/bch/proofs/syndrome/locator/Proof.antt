@@ -1,9 +1,9 @@
--- `bch::locator` meets its contract: the table of powers, and 0 for the last place.
+-- `bch::syndrome::locator` meets its contract: the table of powers, and 0 for the last place.
 -- Assumes nothing.
 use borrow.Author.Needs.{needs}
 use Rattle.bch.specs.SyndromeLaws.{locators}
-use Rattle.bch.proofs.locator.Statement.{statement}
-use Rattle.bch.proofs.locator.Tie as tie
+use Rattle.bch.proofs.syndrome.locator.Statement.{statement}
+use Rattle.bch.proofs.syndrome.locator.Tie as tie
 
 ruleset kit = (needs, locators)
 

@@ -1,10 +1,10 @@
--- `bch::absorb` meets its contract: one law for each branch.
+-- `bch::syndrome::absorb` meets its contract: one law for each branch.
 -- Assumes nothing.
 use borrow.Author.Needs.{needs}
 use Rattle.bits.specs.Xor.{_⊕_}
 use Rattle.bch.specs.Partial.{absorbing, absorb-one}
-use Rattle.bch.proofs.absorb.Statement.{statement}
-use Rattle.bch.proofs.absorb.Tie as tie
+use Rattle.bch.proofs.syndrome.absorb.Statement.{statement}
+use Rattle.bch.proofs.syndrome.absorb.Tie as tie
 
 ruleset kit = (needs, absorbing)
 

@@ -1,11 +1,11 @@
--- `bch::syndromes_of` meets its contract: the pass over the bits, by the invariant of specs/Partial.antt.
+-- `bch::syndrome::syndromes_of` meets its contract: the pass over the bits, by the invariant of specs/Partial.antt.
 -- Assumes nothing.
 use Prim.Native.Nat.{_-_}
 use borrow.Author.Needs.{needs}
 use Rattle.bits.specs.Bits.{bit}
 use Rattle.bch.specs.Partial.{Absorbing, absorbing}
-use Rattle.bch.proofs.syndromes_of.Statement.{statement}
-use Rattle.bch.proofs.syndromes_of.Tie as tie
+use Rattle.bch.proofs.syndrome.syndromes_of.Statement.{statement}
+use Rattle.bch.proofs.syndrome.syndromes_of.Tie as tie
 
 ruleset kit = (needs, absorbing)
 

@@ -1,10 +1,10 @@
--- `bch::locate` meets its contract: one law for each branch.
+-- `bch::locating::locate` meets its contract: one law for each branch.
 -- Assumes nothing.
 use Rattle.bits.specs.Xor.{_⊕_}
 use Rattle.bch.specs.Finding.{decoding}
 use borrow.Author.Needs.{needs}
-use Rattle.bch.proofs.locate.Statement.{statement}
-use Rattle.bch.proofs.locate.Tie as tie
+use Rattle.bch.proofs.locating.locate.Statement.{statement}
+use Rattle.bch.proofs.locating.locate.Tie as tie
 
 ruleset kit = (needs, decoding)
 

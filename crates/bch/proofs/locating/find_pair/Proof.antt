@@ -1,10 +1,10 @@
--- `bch::find_pair` meets its contract: no place passed is of a pair.
+-- `bch::locating::find_pair` meets its contract: no place passed is of a pair.
 -- Assumes nothing.
 use Prim.Native.Nat.{_-_}
 use Rattle.bch.specs.Finding.{NoPair, pairing}
 use borrow.Author.Needs.{needs}
-use Rattle.bch.proofs.find_pair.Statement.{statement}
-use Rattle.bch.proofs.find_pair.Tie as tie
+use Rattle.bch.proofs.locating.find_pair.Statement.{statement}
+use Rattle.bch.proofs.locating.find_pair.Tie as tie
 
 ruleset kit = (needs, pairing)
 

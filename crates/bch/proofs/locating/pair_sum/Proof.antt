@@ -1,10 +1,10 @@
--- `bch::pair_sum` meets its contract.
+-- `bch::locating::pair_sum` meets its contract.
 -- Assumes nothing.
 use Rattle.bits.specs.Xor.{_⊕_}
 use Rattle.bch.specs.Finding.{pairing}
 use borrow.Author.Needs.{needs}
-use Rattle.bch.proofs.pair_sum.Statement.{statement}
-use Rattle.bch.proofs.pair_sum.Tie as tie
+use Rattle.bch.proofs.locating.pair_sum.Statement.{statement}
+use Rattle.bch.proofs.locating.pair_sum.Tie as tie
 
 ruleset kit = (needs, pairing)
 
