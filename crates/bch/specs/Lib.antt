@@ -16,3 +16,5 @@ pub mod Finding
 pub mod Applying
 pub mod CallLaws
 pub mod Completing
+pub mod Quotient
+pub mod QuotientLaws
