@@ -18,3 +18,4 @@ pub mod CallLaws
 pub mod Completing
 pub mod Quotient
 pub mod QuotientLaws
+pub mod BenchValues
