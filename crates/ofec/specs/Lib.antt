@@ -1,0 +1,9 @@
+-- Definitions first; the laws about each stand in the file below it.
+pub mod Rows
+pub mod Pairs
+pub mod History
+pub mod Sent
+pub mod Encoding
+pub mod Receiving
+pub mod Calls
+pub mod Promise
