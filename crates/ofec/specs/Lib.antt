@@ -1,6 +1,9 @@
 -- Definitions first; the laws about each stand in the file below it.
 pub mod Rows
+pub mod RowLaws
+pub mod Bench
 pub mod Pairs
+pub mod PairLaws
 pub mod History
 pub mod Sent
 pub mod Encoding
