@@ -2,3 +2,11 @@ pub mod CodeWord
 pub mod Repair
 pub mod Completion
 pub mod Calls
+pub mod RemainderLaws
+pub mod Syndromes
+pub mod SyndromeLaws
+pub mod Distance
+pub mod Search
+pub mod RepairLaws
+pub mod RepairTheorems
+pub mod CompletionLaws

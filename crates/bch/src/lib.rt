@@ -7,3 +7,10 @@ pub enum Repair {
     Two(usize, usize),
     Lost,
 }
+
+// The syndromes of a word, at a and at a^3, and its parity.
+pub struct Syndromes {
+    pub s1: u8,
+    pub s3: u8,
+    pub parity: u8,
+}

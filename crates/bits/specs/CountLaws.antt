@@ -10,6 +10,10 @@ use Rattle.bits.specs.Count.{differs, count, distance}
 
 -- ---- sums
 
+pub count-suc : (n : ℕ) (f : ℕ → ℕ) → count (suc n) f ≡ count n f + f n
+unfolding count
+count-suc n f = refl
+
 pub count-ext : (n : ℕ) (f g : ℕ → ℕ) → ((k : ℕ) → k < n → f k ≡ g k) → count n f ≡ count n g
 unfolding count
 count-ext zero f g h = refl
@@ -59,6 +63,16 @@ count-one (suc n) i f l h = go (ℕ-discrete i n) (λ l′. count-one n i f l′
     go : Dec (i ≡ n) → (i < n → count n f ≡ f i) → count n f + f n ≡ f i
     go (yes p) rest = omega (arith, count-none n f (λ k lk. h k (omega arith) (omega arith)), ap f p)
     go (no p) rest = omega (arith, rest (omega arith), h n (omega arith) (omega arith))
+
+-- A sum in which two places alone may count.
+pub count-two : (n i j : ℕ) (f : ℕ → ℕ) → i < j → j < n → ((k : ℕ) → k < n → k ≢ i → k ≢ j → f k ≡ 0) → count n f ≡ f i + f j
+unfolding count
+count-two zero i j f l m h = absurd (omega arith)
+count-two (suc n) i j f l m h = go (ℕ-discrete j n) (λ m′. count-two n i j f l m′ (λ k lk ne nf. h k (omega arith) ne nf))
+  where
+    go : Dec (j ≡ n) → (j < n → count n f ≡ f i + f j) → count n f + f n ≡ f i + f j
+    go (yes p) rest = omega (arith, count-one n i f (omega arith) (λ k lk ne. h k (omega arith) ne (omega arith)), ap f p)
+    go (no p) rest = omega (arith, rest (omega arith), h n (omega arith) (omega arith) (omega arith))
 
 -- ---- two numbers that differ or not
 
