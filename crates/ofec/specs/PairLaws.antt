@@ -142,21 +142,22 @@ pub ownIndex-lt : (w k : ℕ) → w < 32 → k < 111 → ownIndex w k < 3552
 unfolding ownIndex
 ownIndex-lt w k lw lk = payloadIndex-lt (w / 16) (w % 16) k (omega arith) (omega arith) lk
 
+own-digits : (i a w b : ℕ) → w < 32 → b < 16 → i ≡ 512 * a + 16 * w + b → (i % 512 / 16 ≡ w) × (i / 512 ≡ a) × (i % 16 ≡ b)
+own-digits i a w b lw lb e = let m : i % 512 ≡ 16 * w + b = omega arith in (rw m (omega arith), omega arith, omega arith)
+
 own-back : (w k : ℕ) → w < 32 → k < 111 → (ownWord (ownIndex w k) ≡ w) × (ownPlace (ownIndex w k) ≡ k)
 unfolding ownWord ownPlace
 own-back w k lw lk = go (decLt k 96)
   where
     go : Dec (k < 96) → (ownWord (ownIndex w k) ≡ w) × (ownPlace (ownIndex w k) ≡ k)
     go (yes l) =
-        let e = ownIndex-low w k lw l in
-        let t : ltb (ownIndex w k) 3072 ≡ true = lt-ltb _ _ (omega arith) in
-        let m : ownIndex w k % 512 ≡ 16 * w + k % 16 = omega arith in
-        let ew : (16 * w + k % 16) / 16 ≡ w = omega arith in
-        let ek : 16 * (ownIndex w k / 512) + ownIndex w k % 16 ≡ k = omega arith in
-        (rw (t, m) ew, rw t ek)
+        let e : ownIndex w k ≡ 512 * (k / 16) + 16 * w + k % 16 = ownIndex-low w k lw l ∙ omega arith in
+        let t : ltb (ownIndex w k) 3072 ≡ true = lt-ltb (ownIndex w k) 3072 (omega arith) in
+        let d = own-digits (ownIndex w k) (k / 16) w (k % 16) lw (omega arith) e in
+        (rw t (d .0), rw t (rw (d .1, d .2) (omega arith)))
     go (no l) =
         let e = ownIndex-high w k lw (omega arith) lk in
-        let t : ltb (ownIndex w k) 3072 ≡ false = le-ltb _ _ (omega arith) in
+        let t : ltb (ownIndex w k) 3072 ≡ false = le-ltb (ownIndex w k) 3072 (omega arith) in
         let ew : (ownIndex w k - 3072) / 15 ≡ w = omega arith in
         let ek : 96 + (ownIndex w k - 3072) % 15 ≡ k = omega arith in
         (rw t ew, rw t ek)
@@ -166,6 +167,18 @@ pub record Own (i : ℕ) : Type 0 where
   pub word : ownWord i < 32
   pub place : ownPlace i < 111
   pub is : ownIndex (ownWord i) (ownPlace i) ≡ i
+
+digits : (i : ℕ) → 16 * (i % 512 / 16) + 512 * ((16 * (i / 512) + i % 16) / 16) + (16 * (i / 512) + i % 16) % 16 ≡ i
+digits i = rw (high (i / 512) (i % 16) small, low (i / 512) (i % 16) small) (omega arith)
+  where
+    small : i % 16 < 16
+    small = omega arith
+
+    high : (a b : ℕ) → b < 16 → (16 * a + b) / 16 ≡ a
+    high a b l = omega arith
+
+    low : (a b : ℕ) → b < 16 → (16 * a + b) % 16 ≡ b
+    low a b l = omega arith
 
 pub own-from : (i : ℕ) → i < 3552 → Own i
 unfolding ownWord ownPlace
@@ -179,10 +192,10 @@ own-from i l = go (decLt i 3072)
         record {
           word = rw t lw;
           place = rw t (omega arith);
-          is = rw t (ownIndex-low (i % 512 / 16) (16 * (i / 512) + i % 16) lw lk ∙ omega arith);
+          is = rw t (ownIndex-low (i % 512 / 16) (16 * (i / 512) + i % 16) lw lk ∙ digits i);
         }
     go (no m) =
-        let t : ltb i 3072 ≡ false = le-ltb _ _ (omega arith) in
+        let t : ltb i 3072 ≡ false = le-ltb i 3072 (omega arith) in
         let lw : (i - 3072) / 15 < 32 = omega arith in
         record {
           word = rw t lw;

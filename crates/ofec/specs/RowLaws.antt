@@ -1,12 +1,13 @@
 -- Laws of rows: where each bit of a word stands, and where a row's bit stands in its word.
 -- Assumes nothing.
 use mathlib.Core.Path.{_≡_, refl, sym, ap, ap₂, _∙_}
-use mathlib.Core.Bool.{true, false, cond}
+use mathlib.Core.Bool.{Bool, true, false, cond}
 use Prim.Native.Nat.{ℕ, zero, suc, _+_, _-_, _*_, _/_, _%_, _<_, _≤_}
 use native.Mathlib.Omega.{arith}
 use native.Mathlib.Decide.{decLt}
 use borrow.Author.Tests.{lt-ltb, le-ltb, le-leb, lt-leb}
 use lib.Bits.{differ}
+use lib.Dec.{ltb}
 use Rattle.bits.specs.Xor.{_⊕_}
 use Rattle.bits.specs.XorLaws.{sums, ⊕-lt, ⊕-half, ⊕-last, ⊕-zero}
 use Rattle.bch.specs.CodeWord.{Word}
@@ -89,6 +90,20 @@ backBit-at v R C r c lr lc =
 
 pub word-at : (v : RowBits) (R C r c : ℕ) → r < 16 → c < 16 → wordOf v R r (backPlace C r c) ≡ v R C r c
 word-at v R C r c lr lc = word-back v R r (backPlace C r c) (backPlace-low C r c) ∙ backBit-at v R C r c lr lc
+
+pub backPlace-of : (r k : ℕ) → 128 ≤ k → backPlace ((k - 128) / 16) r ((k % 16) ⊕ r) ≡ k
+unfolding backPlace
+backPlace-of r k l = rw (xor-back (k % 16) r) (omega arith)
+
+-- Words of bits.
+pub word-lt : (v : RowBits) → ((R C r c : ℕ) → v R C r c < 2) → (R r k : ℕ) → wordOf v R r k < 2
+unfolding wordOf frontBit backBit
+word-lt v b R r k = go (ltb k 128) (frontCounts R)
+  where
+    go : (s t : Bool) → cond s (cond t (v ((R ⊕ 1) - 20 + 2 * (k / 16)) (k / 16) ((k % 16) ⊕ r) r) 0) (v R ((k - 128) / 16) r ((k % 16) ⊕ r)) < 2
+    go true true = b _ _ _ _
+    go true false = omega arith
+    go false t = b _ _ _ _
 
 -- ---- the payload index
 
