@@ -3,7 +3,7 @@
 -- 4,294,967,295". "Buffers and pair number stay."
 -- Assumes nothing.
 use mathlib.Core.Bool.{cond}
-use mathlib.Core.List.{List}
+use mathlib.Core.List.{List, map}
 use Prim.Native.Nat.{ℕ, _+_}
 use lib.Dec.{eqb}
 use lib.ListN.{length}
@@ -11,7 +11,7 @@ use Rattle.calls.specs.declared.Answer.{Answer}
 use Rattle.calls.specs.declared.Answer.the-variants.{Done, Refused}
 use Rattle.calls.specs.declared.Refusal.the-variants.{Misfit, CountSpent}
 use Rattle.calls.specs.Answers.{valueOr}
-use Rattle.calls.specs.Sequences.{Kind}
+use Rattle.calls.specs.Sequences.{Kind, accepted}
 use Rattle.ofec.specs.History.{fresh, shift}
 use Rattle.ofec.specs.Encoding.{encoded}
 use Rattle.ofec.specs.Receiving.{newestPair, payloadOut, marks}
@@ -118,3 +118,7 @@ Receivings =
       lent = λ c. state (c .history) (c .pair);
       left = λ c. state (receive c .history) (valueOr (receive c .answer) (c .pair));
     }
+
+-- "the payloads of its accepted calls"
+unfoldable pub payloads : List Encoding → List (List ℕ)
+payloads cs = map (λ (c : Encoding). c .payload) (accepted Encodings cs)

@@ -13,5 +13,8 @@ pub mod EncodingLaws
 pub mod Sent
 pub mod SentLaws
 pub mod Receiving
+pub mod ReceivingLaws
 pub mod Calls
+pub mod CallLaws
 pub mod Promise
+pub mod PromiseLaws

@@ -9,14 +9,19 @@ use Prim.Native.Nat.{ℕ, _+_, _-_, _*_, _/_, _%_, _<_, _≤_}
 use lib.ListN.{getD}
 use Rattle.bits.specs.Bits.{bit}
 use Rattle.bits.specs.Count.{distance}
+use Rattle.calls.specs.Sequences.{At, accepted}
 use Rattle.ofec.specs.Rows.{RowBits, wordOf, payloadIndex}
 use Rattle.ofec.specs.Pairs.{pairBit}
 use Rattle.ofec.specs.History.{heldBits}
-use Rattle.ofec.specs.Calls.{Received, Receiving, receive}
+use Rattle.ofec.specs.Calls.{Received, Receiving, receive, Receivings}
 
 -- A coded pair holds the bits of pair P's two rows.
 pub record Holds (v : RowBits) (P : ℕ) (pair : List ℕ) : Type 0 where
   pub holds : (R C r c : ℕ) → R / 2 ≡ P → C < 8 → r < 16 → c < 16 → pairBit pair (R % 2) C r c ≡ v R C r c
+
+-- "The accepted calls of a receiver take its encoder's received pairs in order from pair 0, all or only the first so many."
+pub record Takes (W : RowBits) (cs : List Receiving) : Type 0 where
+  pub takes : (P : ℕ) (c : Receiving) → At (accepted Receivings cs) P c → Holds W P (c .coded)
 
 -- "A word's wrong received bits are counted in both halves as the line delivered them, not as a history holds them; for R < 20 in the
 -- back half only." (In front of those rows' words stand zeros on both sides.)

@@ -51,12 +51,6 @@ module _ (ys : List (List ℕ)) where
 
   -- The words of these bits are the encoder's.
   module _ (R r : ℕ) (lr : r < 16) where
-    y : List ℕ
-    y = getD ys (R / 2) []
-
-    h : List ℕ
-    h = encoderHistory ys (R / 2)
-
     word : Word
     word = encodedWord (encoderHistory ys (R / 2)) (R / 2) (getD ys (R / 2) []) (16 * (R % 2) + r)
 
