@@ -7,11 +7,13 @@ pub mod PairLaws
 pub mod BufferLaws
 pub mod History
 pub mod HistoryLaws
+pub mod Moving
 pub mod WordLaws
 pub mod Encoding
 pub mod EncodingLaws
 pub mod Sent
 pub mod SentLaws
+pub mod Sources
 pub mod Receiving
 pub mod ReceivingLaws
 pub mod Calls

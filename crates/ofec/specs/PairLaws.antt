@@ -130,11 +130,11 @@ ownWord i = cond (ltb i 3072) (i % 512 / 16) ((i - 3072) / 15)
 unfoldable pub ownPlace : ℕ → ℕ
 ownPlace i = cond (ltb i 3072) (16 * (i / 512) + i % 16) (96 + (i - 3072) % 15)
 
-ownIndex-low : (w k : ℕ) → w < 32 → k < 96 → ownIndex w k ≡ 16 * w + 512 * (k / 16) + k % 16
+pub ownIndex-low : (w k : ℕ) → w < 32 → k < 96 → ownIndex w k ≡ 16 * w + 512 * (k / 16) + k % 16
 unfolding ownIndex
 ownIndex-low w k lw l = payloadIndex-low (w / 16) (w % 16) k (omega arith) l ∙ omega arith
 
-ownIndex-high : (w k : ℕ) → w < 32 → 96 ≤ k → k < 111 → ownIndex w k ≡ 3072 + 15 * w + (k - 96)
+pub ownIndex-high : (w k : ℕ) → w < 32 → 96 ≤ k → k < 111 → ownIndex w k ≡ 3072 + 15 * w + (k - 96)
 unfolding ownIndex
 ownIndex-high w k lw l m = payloadIndex-high (w / 16) (w % 16) k (omega arith) l m ∙ omega arith
 

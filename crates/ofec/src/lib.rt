@@ -1,4 +1,4 @@
 // Rows and pairs of 01: encoding and receiving a pair.
-
-// The number of words of a pair.
-pub const WORDS: usize = 32;
+mod words;
+mod pairs;
+mod history;
