@@ -76,6 +76,35 @@ taken-in n (suc m) w z l b =
 last-sixteen : (w : Word) → ((k : ℕ) → k < 239 → w k ≡ 0) → BitsTo 255 w → remainder 255 w ≡ fromBits 16 (λ i. w (239 + i))
 last-sixteen w z b = taken-in 239 16 w z (lit≤ tt) b
 
+-- The sixteen bits of R in bits 239 to 254, and zeros before them.
+unfoldable pub checkBits : ℕ → Word
+checkBits R k = cond (ltb k 239) 0 (R / 2 ^ (254 - k) % 2)
+
+pub check-low : (R k : ℕ) → k < 239 → checkBits R k ≡ 0
+unfolding checkBits
+check-low R k h = simp (lt-ltb k 239 h)
+
+pub check-high : (R k : ℕ) → 239 ≤ k → checkBits R k ≡ R / 2 ^ (254 - k) % 2
+unfolding checkBits
+check-high R k h = simp (le-ltb k 239 h)
+
+pub check-bits : (R k : ℕ) → checkBits R k < 2
+check-bits R k = go (decLt k 239)
+  where
+    go : Dec (k < 239) → checkBits R k < 2
+    go (yes l) = rw (check-low R k l) (lit< tt)
+    go (no n) = rw (check-high R k (omega arith)) (mod-lt _ (zero-lt-suc 1))
+
+pub check-remainder : (R : ℕ) → R < 65536 → remainder 255 (checkBits R) ≡ R
+unfolding bitOf
+check-remainder R h =
+    last-sixteen (checkBits R) (check-low R) (λ k l. check-bits R k)
+    ∙ fromBits-ext 16 (λ i. checkBits R (239 + i)) (bitOf 16 R) (λ i l. ap (λ u. u % 2) (check-high R (239 + i) (omega arith) ∙ place i l))
+    ∙ fromBits-bitOf 16 R h
+  where
+    place : (i : ℕ) → i < 16 → R / 2 ^ (254 - (239 + i)) % 2 ≡ bitOf 16 R i
+    place i l = let e : 254 - (239 + i) ≡ 16 - 1 - i = omega arith in ap (λ k. R / 2 ^ k % 2) e
+
 -- ---- the completion is a code word
 
 module _ (w : Word) (b : (k : ℕ) → k < 239 → w k < 2) where
@@ -93,56 +122,24 @@ module _ (w : Word) (b : (k : ℕ) → k < 239 → w k < 2) where
       go (yes l) = rw (with-low w k l) (b k l)
       go (no n) = rw (with-high w k (omega arith)) (mod-lt _ (zero-lt-suc 1))
 
-  R : ℕ
-  R = remainder 255 (firstBits w)
+  check : Word
+  check = checkBits (remainder 255 (firstBits w))
 
-  R-lt : R < 65536
-  unfolding R
-  R-lt = remainder-lt 255 (firstBits w) (λ k l. first-bits k)
-
-  -- The sixteen check bits alone.
-  checkBits : Word
-  checkBits k = cond (ltb k 239) 0 (R / 2 ^ (254 - k) % 2)
-
-  check-low : (k : ℕ) → k < 239 → checkBits k ≡ 0
-  unfolding checkBits
-  check-low k h = simp (lt-ltb k 239 h)
-
-  check-high : (k : ℕ) → 239 ≤ k → checkBits k ≡ R / 2 ^ (254 - k) % 2
-  unfolding checkBits
-  check-high k h = simp (le-ltb k 239 h)
-
-  check-bits : (k : ℕ) → checkBits k < 2
-  check-bits k = go (decLt k 239)
-    where
-      go : Dec (k < 239) → checkBits k < 2
-      go (yes l) = rw (check-low k l) (lit< tt)
-      go (no n) = rw (check-high k (omega arith)) (mod-lt _ (zero-lt-suc 1))
-
-  check-remainder : remainder 255 checkBits ≡ R
-  unfolding bitOf
-  check-remainder =
-      last-sixteen checkBits check-low (λ k l. check-bits k)
-      ∙ fromBits-ext 16 (λ i. checkBits (239 + i)) (bitOf 16 R) (λ i l. ap (λ u. u % 2) (check-high (239 + i) (omega arith) ∙ place i l))
-      ∙ fromBits-bitOf 16 R R-lt
-    where
-      place : (i : ℕ) → i < 16 → R / 2 ^ (254 - (239 + i)) % 2 ≡ bitOf 16 R i
-      place i l = let e : 254 - (239 + i) ≡ 16 - 1 - i = omega arith in ap (λ k. R / 2 ^ k % 2) e
-
-  split : (k : ℕ) → withRemainder w k ≡ added (firstBits w) checkBits k
-  unfolding added R
+  split : (k : ℕ) → withRemainder w k ≡ added (firstBits w) check k
+  unfolding added check
   split k = go (decLt k 239)
     where
-      go : Dec (k < 239) → withRemainder w k ≡ firstBits w k ⊕ checkBits k
-      go (yes l) = with-low w k l ∙ sym (ap₂ _⊕_ (first-low w k l) (check-low k l) ∙ ⊕-zero (w k))
-      go (no n) = with-high w k (omega arith) ∙ sym (ap₂ _⊕_ (first-high w k (omega arith)) (check-high k (omega arith)) ∙ zero-⊕ _)
+      go : Dec (k < 239) → withRemainder w k ≡ firstBits w k ⊕ check k
+      go (yes l) = with-low w k l ∙ sym (ap₂ _⊕_ (first-low w k l) (check-low _ k l) ∙ ⊕-zero (w k))
+      go (no n) = with-high w k (omega arith) ∙ sym (ap₂ _⊕_ (first-high w k (omega arith)) (check-high _ k (omega arith)) ∙ zero-⊕ _)
 
   with-divisible : remainder 255 (withRemainder w) ≡ 0
-  unfolding R
+  unfolding check
   with-divisible =
-      remainder-ext 255 (withRemainder w) (added (firstBits w) checkBits) (λ k l. split k)
-      ∙ remainder-added 255 (firstBits w) checkBits (λ k l. first-bits k) (λ k l. check-bits k)
-      ∙ ap (λ u. remainder 255 (firstBits w) ⊕ u) check-remainder ∙ ⊕-self (remainder 255 (firstBits w))
+      remainder-ext 255 (withRemainder w) (added (firstBits w) check) (λ k l. split k)
+      ∙ remainder-added 255 (firstBits w) check (λ k l. first-bits k) (λ k l. check-bits _ k)
+      ∙ ap (λ u. remainder 255 (firstBits w) ⊕ u) (check-remainder _ (remainder-lt 255 (firstBits w) (λ k l. first-bits k)))
+      ∙ ⊕-self (remainder 255 (firstBits w))
 
   pub completed-code : CodeWord (completed w)
   unfolding parity
@@ -200,6 +197,7 @@ module _ (c d : Word) (C : CodeWord c) (D : CodeWord d) (agree : (k : ℕ) → k
       last : c 255 ≡ d 255
       last =
           omega (arith, count-suc 255 c, count-suc 255 d, count-ext 255 c d agree-255, C .even, D .even, C .bits 255 (lit< tt), D .bits 255 (lit< tt))
+
       go : Dec (k < 255) → c k ≡ d k
       go (yes h) = agree-255 k h
       go (no n) = let e : k ≡ 255 = omega arith in ap c e ∙ last ∙ ap d (sym e)
@@ -220,6 +218,7 @@ completed-ext x y e k = go (decLt k 255)
         by : Dec (k < 239) → firstBits x k ≡ firstBits y k
         by (yes l) = first-low x k l ∙ e k l ∙ sym (first-low y k l)
         by (no n) = first-high x k (omega arith) ∙ sym (first-high y k (omega arith))
+
     with-same : (k : ℕ) → withRemainder x k ≡ withRemainder y k
     with-same k = by (decLt k 239)
       where
@@ -229,6 +228,7 @@ completed-ext x y e k = go (decLt k 255)
             with-high x k (omega arith)
             ∙ ap (λ r. r / 2 ^ (254 - k) % 2) (remainder-ext 255 (firstBits x) (firstBits y) (λ j l. first j))
             ∙ sym (with-high y k (omega arith))
+
     go : Dec (k < 255) → completed x k ≡ completed y k
     go (yes l) = completed-low x k l ∙ with-same k ∙ sym (completed-low y k l)
     go (no n) =

@@ -33,6 +33,7 @@ locator-eq i j hi hj e = go (decLt i 255) (decLt j 255)
   where
     last : (k : ℕ) → k < 256 → (k < 255 → ⊥) → locator k ≡ 0
     last k h n = let p : k ≡ 255 = omega arith in ap locator p ∙ locator-last
+
     go : Dec (i < 255) → Dec (j < 255) → i ≡ j
     go (yes l) (yes m) =
         let p = power-eq (254 - i) (254 - j) (omega arith) (omega arith) (sym (locator-power i l) ∙ e ∙ locator-power j m) in omega arith

@@ -10,3 +10,9 @@ pub mod Search
 pub mod RepairLaws
 pub mod RepairTheorems
 pub mod CompletionLaws
+pub mod Locating
+pub mod Partial
+pub mod Finding
+pub mod Applying
+pub mod CallLaws
+pub mod Completing

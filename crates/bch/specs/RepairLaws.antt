@@ -87,7 +87,7 @@ pub repaired-two-second : (i j : ℕ) (w : Word) → i < j → repaired (Two i j
 unfolding repaired places flipAll
 repaired-two-second i j w l = flipped-off i (flipped j w) j (omega arith) ∙ flipped-at j w
 
-flipped-ext : (i : ℕ) (x y : Word) (k : ℕ) → x k ≡ y k → flipped i x k ≡ flipped i y k
+pub flipped-ext : (i : ℕ) (x y : Word) (k : ℕ) → x k ≡ y k → flipped i x k ≡ flipped i y k
 unfolding flipped
 flipped-ext i x y k e = ap (λ b. cond (eqb k i) (1 - b) b) e
 

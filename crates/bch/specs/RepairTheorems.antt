@@ -18,7 +18,7 @@ use Rattle.bch.specs.declared.Repair.{Repair}
 use Rattle.bch.specs.declared.Repair.the-variants.{Sound, One, Two, Lost}
 
 -- Flips from a later place on are flips from an earlier one on.
-allowed-low : (front : Bool) (r : Repair) → Allowed (firstPlace front) r → Allowed 0 r
+pub allowed-low : (front : Bool) (r : Repair) → Allowed (firstPlace front) r → Allowed 0 r
 allowed-low front Sound t = tt
 allowed-low front (One i) t = (omega arith, t .1)
 allowed-low front (Two i j) t = (omega arith, t .1, t .2)
@@ -49,8 +49,15 @@ module _ (front : Bool) (w : Word) (b : Bits w) where
       let u0 = allowed-low front s u in
       same-repair w b r s t0 u0
       (code-distance (repaired r w) (repaired s w) C D
-      (omega (arith, distance-triangle 256 (repaired r w) w (repaired s w), distance-sym 256 (repaired r w) w, mark-distance w b r t0, mark-distance w b s u0,
-      allowed-mark r t0, allowed-mark s u0)))
+      (omega (
+        arith,
+        distance-triangle 256 (repaired r w) w (repaired s w),
+        distance-sym 256 (repaired r w) w,
+        mark-distance w b r t0,
+        mark-distance w b s u0,
+        allowed-mark r t0,
+        allowed-mark s u0,
+      )))
 
   pub repair-is : (r : Repair) → Allowed (firstPlace front) r → CodeWord (repaired r w) → repair front w ≡ r
   unfolding repair
@@ -112,8 +119,10 @@ module _ (front : Bool) (w : Word) (b : Bits w) where
         where
           p : Last f 256 0
           p = peel f 256 0 f-bits e
+
           i : ℕ
           i = p .place
+
           by : (k : ℕ) → k < 256 → Dec (k ≡ i) → Dec (k < i) → repaired (One i) w k ≡ c k
           by k l (yes q) d = rw q (repaired-one i w ∙ sym (flip-of i (p .inside) (p .set)))
           by k l (no n) (yes m) = repaired-off (One i) w k n ∙ equal-at k (count-zero i f (p .fewer) k m)
@@ -126,16 +135,22 @@ module _ (front : Bool) (w : Word) (b : Bits w) where
         where
           p : Last f 256 1
           p = peel f 256 1 f-bits e
+
           j : ℕ
           j = p .place
+
           q : Last f (p .place) 0
           q = peel f (p .place) 0 (λ k l. f-bits k (omega (arith, p .inside))) (p .fewer)
+
           i : ℕ
           i = q .place
+
           i-lt : i < 256
           i-lt = omega (arith, p .inside, q .inside)
+
           off : (k : ℕ) → k < 256 → k ≢ i → k ≢ j → f k ≡ 0 → repaired (Two i j) w k ≡ c k
           off k l n m z = repaired-off (Two i j) w k (n, m) ∙ equal-at k z
+
           by : (k : ℕ) → k < 256 → Dec (k ≡ i) → Dec (k ≡ j) → Dec (k < i) → Dec (k < j) → repaired (Two i j) w k ≡ c k
           by k l (yes d) _ _ _ = rw d (repaired-two-first i j w (q .inside) ∙ sym (flip-of i i-lt (q .set)))
           by k l (no n) (yes d) _ _ = rw d (repaired-two-second i j w (q .inside) ∙ sym (flip-of j (p .inside) (p .set)))
@@ -157,9 +172,10 @@ module _ (front : Bool) (w : Word) (b : Bits w) where
       pub repair-only : distance 256 w c ≤ 2 → (mark (repair front w) ≡ distance 256 w c) × ((k : ℕ) → k < 256 → repaired (repair front w) w k ≡ c k)
       repair-only h =
           let y = near h in
-          let e : repair front w ≡ y .0 = repair-is (y .0) (y .1) (code-ext c (repaired (y .0) w) (λ k l. sym (y .2 k l)) C) in
-          (ap mark e ∙ sym (mark-distance w b (y .0) (allowed-low front (y .0) (y .1))) ∙ distance-ext 256 w (repaired (y .0) w) w c (λ k l. refl) (y .2),
-          λ k l. ap (λ r. repaired r w k) e ∙ y .2 k l)
+          let e : repair front w ≡ y .0 = repair-is (y .0) (y .1) (code-ext c (repaired (y .0) w) (λ k l. sym (y .2 k l)) C) in (
+            ap mark e ∙ sym (mark-distance w b (y .0) (allowed-low front (y .0) (y .1))) ∙ distance-ext 256 w (repaired (y .0) w) w c (λ k l. refl) (y .2),
+            λ k l. ap (λ r. repaired r w k) e ∙ y .2 k l,
+          )
 
   -- ---- the theorems
 

@@ -129,6 +129,7 @@ of-candidates a n e r m = first (List·Memᴰ·cases-cons m)
     rest (inr k) =
         let p = of-pairs a n k in
         subst (Allowed a) (sym (p .2 .0)) (p .2 .1, p .2 .2, omega (arith, p .2 .3))
+
     first : (r ≡ Sound) ⊎ List·Memᴰ r (map One (from a n) ++ pairs (from a n)) → Allowed a r
     first (inl k) = subst (Allowed a) (sym k) tt
     first (inr k) = rest (List·Memᴰ·append-cases (map One (from a n)) k)

@@ -3,11 +3,11 @@
 use mathlib.Core.Path.{_≡_, refl, sym, ap, ap₂, _∙_}
 use mathlib.Core.Bool.{cond}
 use mathlib.Core.List.{List, [], _∷_, map}
-use Prim.Native.Nat.{ℕ, zero, suc, _+_, _-_, _*_, _^_, _<_}
+use Prim.Native.Nat.{ℕ, zero, suc, _+_, _-_, _*_, _^_, _<_, _≤_}
 use native.Mathlib.Nat.{suc-mul, mul-zero}
 use native.Mathlib.Numerals.{add-three}
 use native.Mathlib.Omega.{arith}
-use borrow.Author.Tests.{lt-ltb}
+use borrow.Author.Tests.{lt-ltb, le-ltb}
 use lib.Dec.{lit<}
 use Rattle.bits.specs.Xor.{_⊕_, xorSum}
 use Rattle.bits.specs.XorLaws.{zero-⊕, ⊕-zero, xorSum-ext}
@@ -87,6 +87,16 @@ at-a3-sum w b =
 pub locator-power : (k : ℕ) → k < 255 → locator k ≡ power (254 - k)
 unfolding locator
 locator-power k h = simp (lt-ltb k 255 h)
+
+-- As code reads it off the table.
+pub locator-read : (k x : ℕ) → k < 255 → x ≡ power (254 - k) → x ≡ locator k
+locator-read k x h e = e ∙ sym (locator-power k h)
+
+pub locator-end : (k : ℕ) → 255 ≤ k → 0 ≡ locator k
+unfolding locator
+locator-end k h = simp (le-ltb k 255 h)
+
+pub ruleset locators = (locator-read, locator-end)
 
 pub locator-last : locator 255 ≡ 0
 unfolding locator
