@@ -13,9 +13,9 @@ pub mod Encoding
 pub mod EncodingLaws
 pub mod Sent
 pub mod SentLaws
-pub mod Sources
 pub mod Receiving
 pub mod ReceivingLaws
+pub mod Sources
 pub mod Calls
 pub mod CallLaws
 pub mod Promise

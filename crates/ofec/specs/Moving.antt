@@ -9,7 +9,7 @@ use borrow.Author.Count.{below-none, below-more}
 use borrow.Rule.Slice.PartMut.{putMid}
 use lib.ListN.{length, getD, set, take, drop, length-set, length-take, length-drop, drop-of-length-le}
 use lib.Seq.{getD-set-same, getD-set-other, getD-take, getD-drop, ext-getD, length-take-le, drop-append-le}
-use Rattle.bits.specs.Lists.{tabulate}
+use Rattle.bits.specs.Filling.{Filling, fill-done}
 use Rattle.bits.specs.ListLaws.{is-tabulate}
 use Rattle.ofec.specs.History.{shift}
 
@@ -43,9 +43,9 @@ move-done {m} {h} {i} {d} s l =
 
 pub ruleset moving = (move-none, move-more, move-done)
 
--- A buffer with each of its own numbers is itself.
-pub tabulate-self : (s : List ℕ) (n : ℕ) (d : List ℕ) → n ≡ length s → d ≡ tabulate n (λ k. getD s k 0) → d ≡ s
-tabulate-self s n d l e = e ∙ sym (is-tabulate s n (λ k. getD s k 0) (sym l) (λ k _. refl))
+-- A buffer that is filled with another's numbers is the other.
+pub copy-done : {s : List ℕ} {i : ℕ} {d : List ℕ} → Filling (λ k. getD s k 0) (length s) i d → length s ≤ i → d ≡ s
+copy-done {s} h l = fill-done h l ∙ sym (is-tabulate s (length s) (λ k. getD s k 0) refl (λ k _. refl))
 
 -- With the newest pair behind what was moved down, the history is shifted.
 pub shift-is : (h d q r : List ℕ) (n : ℕ) → 512 ≤ length h → length d ≡ length h → n ≡ length h - 512 → take (length h - 512) d ≡ drop 512 h → r ≡ q
@@ -55,4 +55,4 @@ shift-is h d q r n l s e moved p =
     rw (e, moved, p) (ap (λ t. drop 512 h ++ (q ++ t)) rest ∙ ap (λ t. drop 512 h ++ t) (append-nil q) ∙ sym (drop-append-le 512 h q l))
   where
     rest : drop (length d - (length h - 512)) (drop (length h - 512) d) ≡ []
-    rest = drop-of-length-le (drop (length h - 512) d) (omega (arith, length-drop (length h - 512) d))
+    rest = drop-of-length-le (drop (length h - 512) d) {i = length d - (length h - 512)} (omega (arith, length-drop (length h - 512) d))

@@ -26,7 +26,7 @@ use Rattle.ofec.specs.Receiving.{heldWord, repairOf, mendedWord, newestP
 use Rattle.ofec.specs.Promise.{Holds, wrongBits}
 
 module _ (h : List ℕ) (P : ℕ) (p : List ℕ) where
-  held-bits : (w k : ℕ) → heldWord h P p w k < 2
+  pub held-bits : (w k : ℕ) → heldWord h P p w k < 2
   unfolding heldWord
   held-bits w k = word-lt (heldBits 10 (h ++ p) P) (heldBits-lt 10 (h ++ p) P) (rowOf P w) (bitRowOf w) k
 

@@ -6,23 +6,31 @@ use mathlib.Core.List.{List, _++_}
 use Prim.Native.Nat.{ℕ, _+_, _-_, _*_, _/_, _%_, _<_, _≤_}
 use native.Mathlib.Omega.{arith}
 use native.Mathlib.Decide.{decLt}
-use borrow.Author.Tests.{lt-ltb, le-ltb}
-use lib.Dec.{ltb}
-use lib.ListN.{length}
+use borrow.Author.Tests.{lt-ltb, le-ltb, le-leb, lt-leb}
+use lib.Dec.{ltb, leb}
+use lib.ListN.{length, getD}
 use Rattle.bits.specs.Bits.{bit, byteOf, fromBits, pack}
-use Rattle.bits.specs.BitLaws.{fromBits-ext, bit-pack, pack-ext, bit-lt}
+use Rattle.bits.specs.Lists.{tabulate}
+use Rattle.bits.specs.ListLaws.{getD-tabulate, tabulate-ext}
+use Rattle.bits.specs.BitLaws.{fromBits-ext, bit-pack, bit-pack-of, pack-ext, bit-lt}
 use Rattle.bits.specs.Xor.{_⊕_}
 use Rattle.bch.specs.CodeWord.{Word}
-use Rattle.bch.specs.Completion.{firstBits}
-use Rattle.ofec.specs.Rows.{RowBits, frontBit, backBit, wordOf}
+use Rattle.bch.specs.Completion.{firstBits, completed}
+use Rattle.bch.specs.CompletionLaws.{completed-ext}
+use Rattle.bch.specs.Repair.{repair, repaired, mark}
+use Rattle.bch.specs.RepairLaws.{repaired-ext}
+use Rattle.bch.specs.RepairTheorems.{repair-ext}
+use Rattle.bch.specs.declared.Repair.{Repair}
+use Rattle.ofec.specs.Rows.{RowBits, frontBit, backBit, frontCounts, wordOf}
 use Rattle.ofec.specs.RowLaws.{xor-16, other-pair, other-row, word-start, word-front, word-back, Place, zeros, before, own, place}
 use Rattle.ofec.specs.Pairs.{pairIndex, pairBit, rowOf, bitRowOf, laidOut, codedIndex, ownIndex, codedPair, payloadOf}
 use Rattle.ofec.specs.PairLaws.{codedIndex-is, codedPlace, codedPlace-lt, coded-laid, ownWord, ownPlace, Own, own-from, ownIndex-low, ownIndex-high, payload-laid}
 use Rattle.ofec.specs.History.{heldBits}
 use Rattle.ofec.specs.HistoryLaws.{held-before, held-newest}
-use Rattle.ofec.specs.Encoding.{openWord}
-use Rattle.ofec.specs.EncodingLaws.{of-pair, open-front, open-back}
-use Rattle.ofec.specs.Receiving.{heldWord}
+use Rattle.ofec.specs.Encoding.{openWord, encodedWord, encoded}
+use Rattle.ofec.specs.EncodingLaws.{of-pair, open-front, open-back, open-bits, encoded-code}
+use Rattle.ofec.specs.Receiving.{heldWord, repairOf, mendedWord, newestPair, payloadOut}
+use Rattle.ofec.specs.ReceivingLaws.{held-bits, mended-bits}
 
 -- ---- from the back halves of the 32 words, one after another
 
@@ -243,3 +251,81 @@ module _ (h y : List ℕ) (P w j : ℕ) (lw : w < 32) where
       (λ k lo hi. sym (first-front k (omega arith) ∙ front-held h P w k lw m (omega arith)))
 
 pub ruleset started-bytes = (started-byte-back, started-byte-none, started-byte-front)
+
+-- ---- a word made and put away
+
+-- The back half of a word is its bits from 128 on.
+back-half : (f : Word) (s b : List ℕ) → s ≡ pack 32 f → b ≡ tabulate 16 (λ j. getD s (16 + j) 0) → b ≡ pack 16 (λ k. f (128 + k))
+unfolding pack byteOf
+back-half f s b e p =
+    p ∙ tabulate-ext 16 (λ j. getD s (16 + j) 0) (byteOf (λ k. f (128 + k)))
+    (λ j l. ap (λ t. getD t (16 + j) 0) e ∙ getD-tabulate 32 (byteOf f) (16 + j) (omega arith)
+    ∙ fromBits-ext 8 (λ k. f ((16 + j) * 8 + k)) (λ k. f (128 + (j * 8 + k))) (λ k lk. ap (λ x. f x % 2) (omega arith)))
+
+-- A word of 32 bytes has the bits that were packed.
+word-bit : (f : Word) (s : List ℕ) → ((k : ℕ) → k < 256 → f k < 2) → s ≡ pack 32 f → (k : ℕ) → k < 256 → bit s k ≡ f k
+word-bit f s b e k l = ap (λ t. bit t k) e ∙ bit-pack 32 f k (omega arith) ∙ omega (arith, b k l)
+
+pub encoded-back : (h : List ℕ) (P : ℕ) (y : List ℕ) (w : ℕ) (s t b : List ℕ) → s ≡ pack 32 (firstBits (openWord h P y w)) → t ≡ pack 32 (completed (bit s))
+    → b ≡ tabulate 16 (λ j. getD t (16 + j) 0) → b ≡ pack 16 (λ k. encodedWord h P y w (128 + k))
+unfolding encodedWord firstBits
+encoded-back h P y w s t b es et eb =
+    back-half (completed (openWord h P y w)) t b
+    (et ∙ pack-ext 32 (completed (bit s)) (completed (openWord h P y w)) (λ k l. completed-ext (bit s) (openWord h P y w) same k)) eb
+  where
+    same : (k : ℕ) → k < 239 → bit s k ≡ openWord h P y w k
+    same k l =
+        let n : ltb k 239 ≡ true = lt-ltb k 239 l in
+        let is : firstBits (openWord h P y w) k ≡ openWord h P y w k = rw n in
+        ap (λ u. bit u k) es ∙ bit-pack 32 (firstBits (openWord h P y w)) k (omega arith) ∙ omega (arith, is, open-bits h P y w k)
+
+front-same : (P w : ℕ) → w < 32 → frontCounts (rowOf P w) ≡ leb 10 P
+unfolding frontCounts
+front-same P w l = go (decLt P 10)
+  where
+    go : Dec (P < 10) → leb 20 (rowOf P w) ≡ leb 10 P
+    go (yes m) = lt-leb 20 (rowOf P w) (omega arith) ∙ sym (lt-leb 10 P m)
+    go (no m) = le-leb 20 (rowOf P w) (omega arith) ∙ sym (le-leb 10 P (omega arith))
+
+module _ (h : List ℕ) (P : ℕ) (p : List ℕ) (w : ℕ) (lw : w < 32) (s : List ℕ) (es : s ≡ pack 32 (heldWord h P p w)) where
+  repair-same : repair (leb 10 P) (bit s) ≡ repairOf h P p w
+  unfolding repairOf
+  repair-same =
+      repair-ext (leb 10 P) (bit s) (heldWord h P p w) (word-bit (heldWord h P p w) s (λ k l. held-bits h P p w k) es)
+      ∙ ap (λ f. repair f (heldWord h P p w)) (sym (front-same P w lw))
+
+  pub mended-mark : (r : Repair) (m : ℕ) → r ≡ repair (leb 10 P) (bit s) → m ≡ mark r → m ≡ mark (repairOf h P p w)
+  mended-mark r m er em = em ∙ ap mark (er ∙ repair-same)
+
+  pub mended-back : (t b : List ℕ) → t ≡ pack 32 (repaired (repair (leb 10 P) (bit s)) (bit s)) → b ≡ tabulate 16 (λ j. getD t (16 + j) 0)
+      → b ≡ pack 16 (λ k. mendedWord h P p w (128 + k))
+  unfolding mendedWord
+  mended-back t b et eb =
+      back-half (repaired (repairOf h P p w) (heldWord h P p w)) t b
+      (et ∙ ap (λ r. pack 32 (repaired r (bit s))) repair-same
+      ∙ pack-ext 32 (repaired (repairOf h P p w) (bit s)) (repaired (repairOf h P p w) (heldWord h P p w))
+      (λ k l. repaired-ext (repairOf h P p w) (bit s) (heldWord h P p w) k (word-bit (heldWord h P p w) s (λ k l. held-bits h P p w k) es k (omega arith)))) eb
+
+-- The back halves one after another.
+pub back-block : (words : ℕ → Word) (w : ℕ) (b : List ℕ) → b ≡ pack 16 (λ k. words w (128 + k)) → b ≡ tabulate 16 (λ i. byteOf (backHalves words) (w * 16 + i))
+unfolding pack byteOf backHalves
+back-block words w b e =
+    e ∙ tabulate-ext 16 (byteOf (λ k. words w (128 + k))) (λ i. byteOf (backHalves words) (w * 16 + i))
+    (λ i l. fromBits-ext 8 (λ k. words w (128 + (i * 8 + k))) (λ k. words (((w * 16 + i) * 8 + k) / 128) (128 + ((w * 16 + i) * 8 + k) % 128))
+    (λ k lk. let d : ((w * 16 + i) * 8 + k) / 128 ≡ w = omega arith in
+    let m : ((w * 16 + i) * 8 + k) % 128 ≡ i * 8 + k = omega arith in
+    rw (d, m)))
+
+-- ---- the pair from its words
+
+pub encoded-is : (h : List ℕ) (P : ℕ) (y s q : List ℕ) → s ≡ pack 512 (backHalves (encodedWord h P y)) → q ≡ pack 512 (λ i. bit s (codedSource i)) → q ≡ encoded h P y
+unfolding encoded
+encoded-is h P y s q e p = coded-gathered (encodedWord h P y) (λ w k lw l. encoded-code h P y w .bits k l) s e q p
+
+pub newest-is : (h : List ℕ) (P : ℕ) (p s : List ℕ) → s ≡ pack 512 (backHalves (mendedWord h P p)) → pack 512 (λ i. bit s (codedSource i)) ≡ newestPair h P p
+unfolding newestPair
+newest-is h P p s e = coded-gathered (mendedWord h P p) (λ w k lw l. mended-bits h P p w k) s e (pack 512 (λ i. bit s (codedSource i))) refl
+
+pub payload-is : (h : List ℕ) (P : ℕ) (p s y : List ℕ) → s ≡ pack 512 (backHalves (mendedWord h P p)) → y ≡ pack 444 (λ i. bit s (payloadSource i)) → y ≡ payloadOut h P p
+unfolding payloadOut
+payload-is h P p s y e g = payload-gathered (mendedWord h P p) (λ w k lw l. mended-bits h P p w k) s e y g

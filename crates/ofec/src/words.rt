@@ -1,8 +1,9 @@
 // The words of a pair, assembled byte by byte from the history and what is lent.
 ghost use mathlib.Core.Path.{_≡_};
-ghost use Prim.Native.Nat.{_<_};
-ghost use lib.ListN.{length};
+ghost use Prim.Native.Nat.{_+_, _<_};
+ghost use lib.ListN.{length, getD};
 ghost use Rattle.bits.specs.Bits.{bit, byteOf, pack};
+ghost use Rattle.bits.specs.Lists.{tabulate};
 ghost use Rattle.bits.specs.Xor.{_⊕_};
 ghost use Rattle.bch.specs.Completion.{firstBits};
 ghost use Rattle.ofec.specs.Sources.{frontSource, backSource, openBit};
@@ -130,4 +131,14 @@ pub fn open_word(history: &[u8], payload: &[u8], pair: u32, w: usize) -> [u8; 32
         word[j] = started_byte(history, payload, pair, w, j);
     }
     word
+}
+
+// The back half of a word.
+pub fn put_back_half(word: &[u8], back: &mut [u8])
+    requires { ⌜ (length (now word) ≡ 32) × (length (now back) ≡ 16) ⌝ }
+    ensures { λ _. ⌜ now (back .exit) ≡ tabulate 16 (λ j. getD (now (word .entry)) (16 + j) 0) ⌝ }
+{
+    for j in 0..16 {
+        back[j] = word[16 + j];
+    }
 }
