@@ -48,11 +48,11 @@ pub copy-done : {s : List ℕ} {i : ℕ} {d : List ℕ} → Filling (λ k. getD 
 copy-done {s} h l = fill-done h l ∙ sym (is-tabulate s (length s) (λ k. getD s k 0) refl (λ k _. refl))
 
 -- With the newest pair behind what was moved down, the history is shifted.
-pub shift-is : (h d q r : List ℕ) (n : ℕ) → 512 ≤ length h → length d ≡ length h → n ≡ length h - 512 → take (length h - 512) d ≡ drop 512 h → r ≡ q
-    → putMid n (length d - n) d r ≡ shift h q
+pub shift-is : (h d q r : List ℕ) → 512 ≤ length h → length d ≡ length h → take (length h - 512) d ≡ drop 512 h → r ≡ q
+    → putMid (length d - 512) (length d - (length d - 512)) d r ≡ shift h q
 unfolding shift
-shift-is h d q r n l s e moved p =
+shift-is h d q r l e moved p =
     rw (e, moved, p) (ap (λ t. drop 512 h ++ (q ++ t)) rest ∙ ap (λ t. drop 512 h ++ t) (append-nil q) ∙ sym (drop-append-le 512 h q l))
   where
-    rest : drop (length d - (length h - 512)) (drop (length h - 512) d) ≡ []
-    rest = drop-of-length-le (drop (length h - 512) d) {i = length d - (length h - 512)} (omega (arith, length-drop (length h - 512) d))
+    rest : drop (length h - (length h - 512)) (drop (length h - 512) d) ≡ []
+    rest = drop-of-length-le (drop (length h - 512) d) {i = length h - (length h - 512)} (omega (arith, length-drop (length h - 512) d))

@@ -69,8 +69,8 @@ module _ (cs : List Encoding) where
       let eh : c .history ≡ encoderHistory (payloads cs) P = ap (λ (s : State). s .history) lent in
       let ep : c .pair ≡ P = ap (λ (s : State). s .pair) lent in
       let same : encode c .coded ≡ encoded (encoderHistory (payloads cs) P) P (getD (payloads cs) P []) =
-        ap (λ (x : Encoded). x .coded) (ok .1) ∙ ap₂ (λ h Q. encoded h Q (c .payload)) eh ep
-        ∙ ap (encoded (encoderHistory (payloads cs) P) P) (sym (given-at a)) in
+      ap (λ (x : Encoded). x .coded) (ok .1) ∙ ap₂ (λ h Q. encoded h Q (c .payload)) eh ep
+      ∙ ap (encoded (encoderHistory (payloads cs) P) P) (sym (given-at a)) in
       subst (λ q. Holds v P q) (sym same) (encoded-holds sent (encoder-right sent P (omega arith)) within)
 
 -- ---- one word of an accepted call on pair R div 2, whose history is right and whose pair was delivered

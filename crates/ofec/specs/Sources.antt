@@ -25,7 +25,7 @@ use Rattle.ofec.specs.Rows.{RowBits, frontBit, backBit, frontCounts, wor
 use Rattle.ofec.specs.RowLaws.{xor-16, other-pair, other-row, word-start, word-front, word-back, Place, zeros, before, own, place}
 use Rattle.ofec.specs.Pairs.{pairIndex, pairBit, rowOf, bitRowOf, laidOut, codedIndex, ownIndex, codedPair, payloadOf}
 use Rattle.ofec.specs.PairLaws.{codedIndex-is, codedPlace, codedPlace-lt, coded-laid, ownWord, ownPlace, Own, own-from, ownIndex-low, ownIndex-high, payload-laid}
-use Rattle.ofec.specs.History.{heldBits}
+use Rattle.ofec.specs.History.{heldBits, shift}
 use Rattle.ofec.specs.HistoryLaws.{held-before, held-newest}
 use Rattle.ofec.specs.Encoding.{openWord, encodedWord, encoded}
 use Rattle.ofec.specs.EncodingLaws.{of-pair, open-front, open-back, open-bits, encoded-code}
@@ -38,11 +38,22 @@ use Rattle.ofec.specs.ReceivingLaws.{held-bits, mended-bits}
 unfoldable pub backHalves : (ℕ → Word) → ℕ → ℕ
 backHalves words m = words (m / 128) (128 + m % 128)
 
+-- The back half of word w.
+unfoldable pub backHalf : (ℕ → Word) → ℕ → List ℕ
+backHalf words w = pack 16 (λ k. words w (128 + k))
+
 unfoldable pub codedSource : ℕ → ℕ
 codedSource i = i / 16 * 16 + ((i % 16) ⊕ (i / 128 % 16))
 
 unfoldable pub payloadSource : ℕ → ℕ
 payloadSource i = cond (ltb i 3072) (i % 512 / 16 * 128 + i / 512 * 16 + i % 16) ((i - 3072) / 15 * 128 + 96 + (i - 3072) % 15)
+
+-- The coded pair and the payload as they are gathered from the back halves.
+unfoldable pub codedFrom : List ℕ → List ℕ
+codedFrom backs = pack 512 (λ i. bit backs (codedSource i))
+
+unfoldable pub payloadFrom : List ℕ → List ℕ
+payloadFrom backs = pack 444 (λ i. bit backs (payloadSource i))
 
 codedSource-is : (i : ℕ) → codedSource i ≡ 128 * (i / 128) + codedPlace i
 unfolding codedSource codedPlace
@@ -74,15 +85,15 @@ module _ (words : ℕ → Word) (bits : (w k : ℕ) → w < 32 → k < 256 → w
       ap (λ s. bit s i) e ∙ bit-pack 512 (backHalves words) i (omega arith) ∙ rw (d, m) (omega (arith, bits w (128 + k) lw (omega arith)))
 
   -- The coded pair,
-  pub coded-gathered : (q : List ℕ) → q ≡ pack 512 (λ i. bit backs (codedSource i)) → q ≡ codedPair words
-  unfolding codedPair
+  pub coded-gathered : (q : List ℕ) → q ≡ codedFrom backs → q ≡ codedPair words
+  unfolding codedPair codedFrom
   coded-gathered q g =
       g ∙ pack-ext 512 (λ i. bit backs (codedSource i)) (laidOut 128 codedIndex words)
       (λ i l. back-at (codedSource i) (i / 128) (codedPlace i) (omega arith) (codedPlace-lt i) (codedSource-is i) ∙ sym (coded-laid words i (omega arith)))
 
   -- and the payload.
-  pub payload-gathered : (y : List ℕ) → y ≡ pack 444 (λ i. bit backs (payloadSource i)) → y ≡ payloadOf words
-  unfolding payloadOf
+  pub payload-gathered : (y : List ℕ) → y ≡ payloadFrom backs → y ≡ payloadOf words
+  unfolding payloadOf payloadFrom
   payload-gathered y g =
       g ∙ pack-ext 444 (λ i. bit backs (payloadSource i)) (laidOut 111 ownIndex words)
       (λ i l. let o = own-from i (omega arith) in
@@ -185,7 +196,7 @@ unfolding openBit
 open-bit-none y w k l = simp (le-ltb _ _ l)
 
 pub ruleset bit-sources =
-  (coded-bit-is, payload-bit-low, payload-bit-high, front-bit-is, back-bit-is, open-bit-low, open-bit-high, open-bit-none)
+    (coded-bit-is, payload-bit-low, payload-bit-high, front-bit-is, back-bit-is, open-bit-low, open-bit-high, open-bit-none)
 
 -- Bytes of words.
 byte-ext : (f g : Word) (j : ℕ) → ((k : ℕ) → j * 8 ≤ k → k < j * 8 + 8 → f k ≡ g k) → byteOf f j ≡ byteOf g j
@@ -254,23 +265,27 @@ pub ruleset started-bytes = (started-byte-back, started-byte-none, started-byte-
 
 -- ---- a word made and put away
 
+-- The last 16 of a word's 32 bytes.
+unfoldable pub lastHalf : List ℕ → List ℕ
+lastHalf s = tabulate 16 (λ j. getD s (16 + j) 0)
+
 -- The back half of a word is its bits from 128 on.
-back-half : (f : Word) (s b : List ℕ) → s ≡ pack 32 f → b ≡ tabulate 16 (λ j. getD s (16 + j) 0) → b ≡ pack 16 (λ k. f (128 + k))
-unfolding pack byteOf
-back-half f s b e p =
-    p ∙ tabulate-ext 16 (λ j. getD s (16 + j) 0) (byteOf (λ k. f (128 + k)))
-    (λ j l. ap (λ t. getD t (16 + j) 0) e ∙ getD-tabulate 32 (byteOf f) (16 + j) (omega arith)
-    ∙ fromBits-ext 8 (λ k. f ((16 + j) * 8 + k)) (λ k. f (128 + (j * 8 + k))) (λ k lk. ap (λ x. f x % 2) (omega arith)))
+back-half : (words : ℕ → Word) (w : ℕ) (s b : List ℕ) → s ≡ pack 32 (words w) → b ≡ lastHalf s → b ≡ backHalf words w
+unfolding pack byteOf lastHalf backHalf
+back-half words w s b e p =
+    p ∙ tabulate-ext 16 (λ j. getD s (16 + j) 0) (byteOf (λ k. words w (128 + k)))
+    (λ j l. ap (λ t. getD t (16 + j) 0) e ∙ getD-tabulate 32 (byteOf (words w)) (16 + j) (omega arith)
+    ∙ fromBits-ext 8 (λ k. words w ((16 + j) * 8 + k)) (λ k. words w (128 + (j * 8 + k))) (λ k lk. ap (λ x. words w x % 2) (omega arith)))
 
 -- A word of 32 bytes has the bits that were packed.
 word-bit : (f : Word) (s : List ℕ) → ((k : ℕ) → k < 256 → f k < 2) → s ≡ pack 32 f → (k : ℕ) → k < 256 → bit s k ≡ f k
 word-bit f s b e k l = ap (λ t. bit t k) e ∙ bit-pack 32 f k (omega arith) ∙ omega (arith, b k l)
 
 pub encoded-back : (h : List ℕ) (P : ℕ) (y : List ℕ) (w : ℕ) (s t b : List ℕ) → s ≡ pack 32 (firstBits (openWord h P y w)) → t ≡ pack 32 (completed (bit s))
-    → b ≡ tabulate 16 (λ j. getD t (16 + j) 0) → b ≡ pack 16 (λ k. encodedWord h P y w (128 + k))
+    → b ≡ lastHalf t → b ≡ backHalf (encodedWord h P y) w
 unfolding encodedWord firstBits
 encoded-back h P y w s t b es et eb =
-    back-half (completed (openWord h P y w)) t b
+    back-half (encodedWord h P y) w t b
     (et ∙ pack-ext 32 (completed (bit s)) (completed (openWord h P y w)) (λ k l. completed-ext (bit s) (openWord h P y w) same k)) eb
   where
     same : (k : ℕ) → k < 239 → bit s k ≡ openWord h P y w k
@@ -297,18 +312,18 @@ module _ (h : List ℕ) (P : ℕ) (p : List ℕ) (w : ℕ) (lw : w < 32) (s : Li
   pub mended-mark : (r : Repair) (m : ℕ) → r ≡ repair (leb 10 P) (bit s) → m ≡ mark r → m ≡ mark (repairOf h P p w)
   mended-mark r m er em = em ∙ ap mark (er ∙ repair-same)
 
-  pub mended-back : (t b : List ℕ) → t ≡ pack 32 (repaired (repair (leb 10 P) (bit s)) (bit s)) → b ≡ tabulate 16 (λ j. getD t (16 + j) 0)
-      → b ≡ pack 16 (λ k. mendedWord h P p w (128 + k))
+  pub mended-back : (t b : List ℕ) → t ≡ pack 32 (repaired (repair (leb 10 P) (bit s)) (bit s)) → b ≡ lastHalf t
+      → b ≡ backHalf (mendedWord h P p) w
   unfolding mendedWord
   mended-back t b et eb =
-      back-half (repaired (repairOf h P p w) (heldWord h P p w)) t b
+      back-half (mendedWord h P p) w t b
       (et ∙ ap (λ r. pack 32 (repaired r (bit s))) repair-same
       ∙ pack-ext 32 (repaired (repairOf h P p w) (bit s)) (repaired (repairOf h P p w) (heldWord h P p w))
       (λ k l. repaired-ext (repairOf h P p w) (bit s) (heldWord h P p w) k (word-bit (heldWord h P p w) s (λ k l. held-bits h P p w k) es k (omega arith)))) eb
 
 -- The back halves one after another.
-pub back-block : (words : ℕ → Word) (w : ℕ) (b : List ℕ) → b ≡ pack 16 (λ k. words w (128 + k)) → b ≡ tabulate 16 (λ i. byteOf (backHalves words) (w * 16 + i))
-unfolding pack byteOf backHalves
+pub back-block : (words : ℕ → Word) (w : ℕ) (b : List ℕ) → b ≡ backHalf words w → b ≡ tabulate 16 (λ i. byteOf (backHalves words) (w * 16 + i))
+unfolding pack byteOf backHalf backHalves
 back-block words w b e =
     e ∙ tabulate-ext 16 (byteOf (λ k. words w (128 + k))) (λ i. byteOf (backHalves words) (w * 16 + i))
     (λ i l. fromBits-ext 8 (λ k. words w (128 + (i * 8 + k))) (λ k. words (((w * 16 + i) * 8 + k) / 128) (128 + ((w * 16 + i) * 8 + k) % 128))
@@ -318,14 +333,18 @@ back-block words w b e =
 
 -- ---- the pair from its words
 
-pub encoded-is : (h : List ℕ) (P : ℕ) (y s q : List ℕ) → s ≡ pack 512 (backHalves (encodedWord h P y)) → q ≡ pack 512 (λ i. bit s (codedSource i)) → q ≡ encoded h P y
+pub encoded-is : (h : List ℕ) (P : ℕ) (y s q : List ℕ) → s ≡ pack 512 (backHalves (encodedWord h P y)) → q ≡ codedFrom s → q ≡ encoded h P y
 unfolding encoded
 encoded-is h P y s q e p = coded-gathered (encodedWord h P y) (λ w k lw l. encoded-code h P y w .bits k l) s e q p
 
-pub newest-is : (h : List ℕ) (P : ℕ) (p s : List ℕ) → s ≡ pack 512 (backHalves (mendedWord h P p)) → pack 512 (λ i. bit s (codedSource i)) ≡ newestPair h P p
+pub shifted-is : (h : List ℕ) (P : ℕ) (p s t : List ℕ) → s ≡ pack 512 (backHalves (mendedWord h P p)) → t ≡ shift h (codedFrom s) → t ≡ shift h (newestPair h P p)
 unfolding newestPair
-newest-is h P p s e = coded-gathered (mendedWord h P p) (λ w k lw l. mended-bits h P p w k) s e (pack 512 (λ i. bit s (codedSource i))) refl
+shifted-is h P p s t e g = g ∙ ap (shift h) (coded-gathered (mendedWord h P p) (λ w k lw l. mended-bits h P p w k) s e (codedFrom s) refl)
 
-pub payload-is : (h : List ℕ) (P : ℕ) (p s y : List ℕ) → s ≡ pack 512 (backHalves (mendedWord h P p)) → y ≡ pack 444 (λ i. bit s (payloadSource i)) → y ≡ payloadOut h P p
+-- The history with a pair that was gathered.
+pub taken-in : (h s q t : List ℕ) → q ≡ codedFrom s → t ≡ shift h q → t ≡ shift h (codedFrom s)
+taken-in h s q t e g = g ∙ ap (shift h) e
+
+pub payload-is : (h : List ℕ) (P : ℕ) (p s y : List ℕ) → s ≡ pack 512 (backHalves (mendedWord h P p)) → y ≡ payloadFrom s → y ≡ payloadOut h P p
 unfolding payloadOut
 payload-is h P p s y e g = payload-gathered (mendedWord h P p) (λ w k lw l. mended-bits h P p w k) s e y g

@@ -4,17 +4,17 @@ use crate::pairs::put_coded;
 use crate::words::open_word;
 use crate::words::put_back_half;
 ghost use mathlib.Core.Path.{_≡_};
-ghost use Prim.Native.Nat.{_+_, _<_};
+ghost use Prim.Native.Nat.{_<_};
 ghost use lib.ListN.{length};
 ghost use Rattle.bits.specs.Bits.{pack};
-ghost use Rattle.ofec.specs.Sources.{backHalves};
+ghost use Rattle.ofec.specs.Sources.{backHalf, backHalves};
 ghost use Rattle.ofec.specs.History.{shift};
 ghost use Rattle.ofec.specs.Encoding.{encodedWord, encoded};
 
 // The back half of word w.
 fn encode_word(history: &[u8], payload: &[u8], pair: u32, w: usize, back: &mut [u8])
     requires { ⌜ (length (now history) ≡ 5120) × (length (now payload) ≡ 444) × (w < 32) × (length (now back) ≡ 16) ⌝ }
-    ensures { λ _. ⌜ now (back .exit) ≡ pack 16 (λ k. encodedWord (now (history .entry)) pair (now (payload .entry)) w (128 + k)) ⌝ }
+    ensures { λ _. ⌜ now (back .exit) ≡ backHalf (encodedWord (now (history .entry)) pair (now (payload .entry))) w ⌝ }
 {
     let mut word = open_word(history, payload, pair, w);
     bch::completion::complete(&mut word);

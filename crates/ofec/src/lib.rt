@@ -33,7 +33,13 @@ pub fn encode_pair(payload: &[u8], coded: &mut [u8], history: &mut [u8], pair: u
 }
 
 // Receives a pair: payload and marks, the shifted history and the next pair number.
-pub fn receive_pair(coded: &[u8], payload: &mut [u8], marks: &mut [u8], history: &mut [u8], pair: u32) -> Answer
+pub fn receive_pair(
+    coded: &[u8],
+    payload: &mut [u8],
+    marks: &mut [u8],
+    history: &mut [u8],
+    pair: u32,
+) -> Answer
     ensures { λ r. ⌜ afterReceive r (now (payload .exit)) (now (marks .exit)) (now (history .exit)) ≡ receiveCall (now (coded .entry)) (now (payload .entry)) (now (marks .entry)) (now (history .entry)) pair ⌝ }
 {
     if coded.len() != 512 {

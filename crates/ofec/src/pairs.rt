@@ -2,9 +2,8 @@
 ghost use mathlib.Core.Path.{_≡_};
 ghost use Prim.Native.Nat.{_<_};
 ghost use lib.ListN.{length};
-ghost use Rattle.bits.specs.Bits.{bit, byteOf, pack};
-ghost use Rattle.ofec.specs.Sources.{codedSource, payloadSource};
-
+ghost use Rattle.bits.specs.Bits.{bit, byteOf};
+ghost use Rattle.ofec.specs.Sources.{codedSource, payloadSource, codedFrom, payloadFrom};
 use crate::words::xor16;
 
 // Bit i of the coded pair, where it stands among the back halves.
@@ -29,7 +28,7 @@ fn coded_byte(backs: &[u8], j: usize) -> u8
 
 pub fn put_coded(backs: &[u8], coded: &mut [u8])
     requires { ⌜ (length (now backs) ≡ 512) × (length (now coded) ≡ 512) ⌝ }
-    ensures { λ _. ⌜ now (coded .exit) ≡ pack 512 (λ i. bit (now (backs .entry)) (codedSource i)) ⌝ }
+    ensures { λ _. ⌜ now (coded .exit) ≡ codedFrom (now (backs .entry)) ⌝ }
 {
     for j in 0..512 {
         coded[j] = coded_byte(backs, j);
@@ -60,7 +59,7 @@ fn payload_byte(backs: &[u8], j: usize) -> u8
 
 pub fn put_payload(backs: &[u8], payload: &mut [u8])
     requires { ⌜ (length (now backs) ≡ 512) × (length (now payload) ≡ 444) ⌝ }
-    ensures { λ _. ⌜ now (payload .exit) ≡ pack 444 (λ i. bit (now (backs .entry)) (payloadSource i)) ⌝ }
+    ensures { λ _. ⌜ now (payload .exit) ≡ payloadFrom (now (backs .entry)) ⌝ }
 {
     for j in 0..444 {
         payload[j] = payload_byte(backs, j);

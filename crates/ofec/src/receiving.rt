@@ -5,18 +5,18 @@ use crate::pairs::put_payload;
 use crate::words::held_word;
 use crate::words::put_back_half;
 ghost use mathlib.Core.Path.{_≡_};
-ghost use Prim.Native.Nat.{_+_, _<_};
+ghost use Prim.Native.Nat.{_<_};
 ghost use lib.ListN.{length};
-ghost use Rattle.bits.specs.Bits.{bit, pack};
+ghost use Rattle.bits.specs.Bits.{pack};
 ghost use Rattle.bch.specs.Repair.{mark};
-ghost use Rattle.ofec.specs.Sources.{backHalves, codedSource};
+ghost use Rattle.ofec.specs.Sources.{backHalf, backHalves, codedFrom};
 ghost use Rattle.ofec.specs.History.{shift};
 ghost use Rattle.ofec.specs.Receiving.{repairOf, mendedWord, newestPair, payloadOut, marks as marksOf};
 
 // The repaired back half of word w, and its mark.
 fn receive_word(history: &[u8], coded: &[u8], pair: u32, w: usize, back: &mut [u8]) -> u8
     requires { ⌜ (length (now history) ≡ 5120) × (length (now coded) ≡ 512) × (w < 32) × (length (now back) ≡ 16) ⌝ }
-    ensures { λ r. ⌜ (r ≡ mark (repairOf (now (history .entry)) pair (now (coded .entry)) w)) × (now (back .exit) ≡ pack 16 (λ k. mendedWord (now (history .entry)) pair (now (coded .entry)) w (128 + k))) ⌝ }
+    ensures { λ r. ⌜ (r ≡ mark (repairOf (now (history .entry)) pair (now (coded .entry)) w)) × (now (back .exit) ≡ backHalf (mendedWord (now (history .entry)) pair (now (coded .entry))) w) ⌝ }
 {
     let mut word = held_word(history, coded, pair, w);
     let r = bch::mend(&mut word, 10 <= pair);
@@ -39,7 +39,7 @@ fn receive_words(history: &[u8], coded: &[u8], pair: u32, backs: &mut [u8], mark
 // The newest pair, which enters the history.
 fn take_in(backs: &[u8], history: &mut [u8])
     requires { ⌜ (length (now backs) ≡ 512) × (length (now history) ≡ 5120) ⌝ }
-    ensures { λ _. ⌜ now (history .exit) ≡ shift (now (history .entry)) (pack 512 (λ i. bit (now (backs .entry)) (codedSource i))) ⌝ }
+    ensures { λ _. ⌜ now (history .exit) ≡ shift (now (history .entry)) (codedFrom (now (backs .entry))) ⌝ }
 {
     let mut newest = [0u8; 512];
     put_coded(backs, &mut newest);
@@ -47,7 +47,13 @@ fn take_in(backs: &[u8], history: &mut [u8])
 }
 
 // Payload and marks of a pair received, and its history.
-pub fn receive_into(coded: &[u8], payload: &mut [u8], marks: &mut [u8], history: &mut [u8], pair: u32)
+pub fn receive_into(
+    coded: &[u8],
+    payload: &mut [u8],
+    marks: &mut [u8],
+    history: &mut [u8],
+    pair: u32,
+)
     requires { ⌜ (length (now coded) ≡ 512) × (length (now payload) ≡ 444) × (length (now marks) ≡ 32) × (length (now history) ≡ 5120) ⌝ }
     ensures { λ _. ⌜ (now (payload .exit) ≡ payloadOut (now (history .entry)) pair (now (coded .entry))) × (now (marks .exit) ≡ marksOf (now (history .entry)) pair (now (coded .entry))) × (now (history .exit) ≡ shift (now (history .entry)) (newestPair (now (history .entry)) pair (now (coded .entry)))) ⌝ }
 {

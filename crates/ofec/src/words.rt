@@ -1,12 +1,11 @@
 // The words of a pair, assembled byte by byte from the history and what is lent.
 ghost use mathlib.Core.Path.{_≡_};
-ghost use Prim.Native.Nat.{_+_, _<_};
-ghost use lib.ListN.{length, getD};
+ghost use Prim.Native.Nat.{_<_};
+ghost use lib.ListN.{length};
 ghost use Rattle.bits.specs.Bits.{bit, byteOf, pack};
-ghost use Rattle.bits.specs.Lists.{tabulate};
 ghost use Rattle.bits.specs.Xor.{_⊕_};
 ghost use Rattle.bch.specs.Completion.{firstBits};
-ghost use Rattle.ofec.specs.Sources.{frontSource, backSource, openBit};
+ghost use Rattle.ofec.specs.Sources.{frontSource, backSource, openBit, lastHalf};
 ghost use Rattle.ofec.specs.Encoding.{openWord};
 ghost use Rattle.ofec.specs.Receiving.{heldWord};
 
@@ -24,7 +23,10 @@ fn front_bit(history: &[u8], w: usize, k: usize) -> u8
     ensures { λ r. ⌜ (r ≡ bit (now (history .entry)) (frontSource w k)) × (r < 2) ⌝ }
 {
     let a = xor16(k % 16, w % 16);
-    bits::bit(history, k / 16 * 4112 + (1 - w / 16) * 2048 + a * 128 + w % 16)
+    bits::bit(
+        history,
+        k / 16 * 4112 + (1 - w / 16) * 2048 + a * 128 + w % 16,
+    )
 }
 
 fn front_byte(history: &[u8], w: usize, j: usize) -> u8
@@ -136,7 +138,7 @@ pub fn open_word(history: &[u8], payload: &[u8], pair: u32, w: usize) -> [u8; 32
 // The back half of a word.
 pub fn put_back_half(word: &[u8], back: &mut [u8])
     requires { ⌜ (length (now word) ≡ 32) × (length (now back) ≡ 16) ⌝ }
-    ensures { λ _. ⌜ now (back .exit) ≡ tabulate 16 (λ j. getD (now (word .entry)) (16 + j) 0) ⌝ }
+    ensures { λ _. ⌜ now (back .exit) ≡ lastHalf (now (word .entry)) ⌝ }
 {
     for j in 0..16 {
         back[j] = word[16 + j];

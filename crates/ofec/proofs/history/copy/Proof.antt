@@ -22,11 +22,11 @@ copy-spec =
     (tie.spec
     Inv-loop
     μ-loop
-    (λ c. search kit) -- loop-holds
-    (λ c. search kit) -- shared-slice-read-to
-    (λ c. search kit) -- slice-write-to
-    (λ c. search kit) -- add-i
-    (λ c. search kit) -- loop-less
-    (λ c. search kit) -- loop-again
-    (λ c. search kit) -- same-length
-    (λ c. search kit)) -- returns
+    (λ c. search kit)  -- loop-holds
+    (λ c. search kit)  -- shared-slice-read-to
+    (λ c. search kit)  -- slice-write-to
+    (λ c. search kit)  -- add-i
+    (λ c. search kit)  -- loop-less
+    (λ c. search kit)  -- loop-again
+    (λ c. search kit)  -- same-length
+    (λ c. search kit))  -- returns

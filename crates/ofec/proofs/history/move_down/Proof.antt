@@ -21,13 +21,13 @@ move-down-spec =
     (tie.spec
     Inv-loop
     μ-loop
-    (λ c. search kit) -- sub-n
-    (λ c. search kit) -- loop-holds
-    (λ c. search kit) -- add-history
-    (λ c. search kit) -- slice-read-history
-    (λ c. search kit) -- slice-write-history
-    (λ c. search kit) -- add-i
-    (λ c. search kit) -- loop-less
-    (λ c. search kit) -- loop-again
-    (λ c. search kit) -- same-length
-    (λ c. search kit)) -- returns
+    (λ c. search kit)  -- sub-n
+    (λ c. search kit)  -- loop-holds
+    (λ c. search kit)  -- add-history
+    (λ c. search kit)  -- slice-read-history
+    (λ c. search kit)  -- slice-write-history
+    (λ c. search kit)  -- add-i
+    (λ c. search kit)  -- loop-less
+    (λ c. search kit)  -- loop-again
+    (λ c. search kit)  -- same-length
+    (λ c. search kit))  -- returns

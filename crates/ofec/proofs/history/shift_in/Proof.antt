@@ -11,11 +11,11 @@ pub shift-in-spec : {M : Type 1} → statement M
 shift-in-spec =
     tie.close
     (tie.spec
-    (λ c κs. search kit) -- move-down-requires
-    (λ c. search kit) -- sub-n
-    (λ c. search kit) -- sub-copy
-    (λ c. search kit) -- part-copy-start
-    (λ c. search kit) -- part-copy-end
-    (λ c κs. search kit) -- copy-requires
-    (λ c. search kit) -- same-length
-    (λ c. search kit)) -- returns
+    (λ c κs. search kit)  -- move-down-requires
+    (λ c. search kit)  -- sub-n
+    (λ c. search kit)  -- sub-copy
+    (λ c. search kit)  -- part-copy-start
+    (λ c. search kit)  -- part-copy-end
+    (λ c κs. search kit)  -- copy-requires
+    (λ c. search kit)  -- same-length
+    (λ c. search kit))  -- returns

@@ -3,7 +3,7 @@
 use Prim.Native.Nat.{_-_}
 use Rattle.bits.specs.Bits.{bit, byteOf, pack}
 use Rattle.bits.specs.Filling.{Filling, fill}
-use Rattle.ofec.specs.Sources.{payloadSource}
+use Rattle.ofec.specs.Sources.{payloadSource, payloadFrom}
 use borrow.Author.Needs.{needs}
 use Rattle.ofec.proofs.pairs.put_payload.Statement.{statement}
 use Rattle.ofec.proofs.pairs.put_payload.Tie as tie
@@ -17,17 +17,17 @@ abbrev μ-loop : tie.MeasureT-loop
 μ-loop backs payload₀ j₀ payload j = 444 - j
 
 pub put-payload-spec : {M : Type 1} → statement M
-unfolding pack
+unfolding pack payloadFrom
 put-payload-spec =
     tie.close
     (tie.spec
     Inv-loop
     μ-loop
-    (λ c. search kit) -- loop-holds
-    (λ c κs. search kit) -- payload-byte-requires
-    (λ c. search kit) -- slice-write-payload
-    (λ c. search kit) -- add-j
-    (λ c. search kit) -- loop-less
-    (λ c. search kit) -- loop-again
-    (λ c. search kit) -- same-length
-    (λ c. search kit)) -- returns
+    (λ c. search kit)  -- loop-holds
+    (λ c κs. search kit)  -- payload-byte-requires
+    (λ c. search kit)  -- slice-write-payload
+    (λ c. search kit)  -- add-j
+    (λ c. search kit)  -- loop-less
+    (λ c. search kit)  -- loop-again
+    (λ c. search kit)  -- same-length
+    (λ c. search kit))  -- returns

@@ -11,8 +11,8 @@ pub held-byte-spec : {M : Type 1} → statement M
 held-byte-spec =
     tie.close
     (tie.spec
-    (λ c κs. search kit) -- back-byte-requires
-    (λ c. search kit) -- returns
-    (λ c. search kit) -- returns-2
-    (λ c κs. search kit) -- front-byte-requires
-    (λ c. search kit)) -- returns-3
+    (λ c κs. search kit)  -- back-byte-requires
+    (λ c. search kit)  -- returns
+    (λ c. search kit)  -- returns-2
+    (λ c κs. search kit)  -- front-byte-requires
+    (λ c. search kit))  -- returns-3

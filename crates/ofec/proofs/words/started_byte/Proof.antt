@@ -11,8 +11,8 @@ pub started-byte-spec : {M : Type 1} → statement M
 started-byte-spec =
     tie.close
     (tie.spec
-    (λ c κs. search kit) -- open-byte-requires
-    (λ c. search kit) -- returns
-    (λ c. search kit) -- returns-2
-    (λ c κs. search kit) -- front-byte-requires
-    (λ c. search kit)) -- returns-3
+    (λ c κs. search kit)  -- open-byte-requires
+    (λ c. search kit)  -- returns
+    (λ c. search kit)  -- returns-2
+    (λ c κs. search kit)  -- front-byte-requires
+    (λ c. search kit))  -- returns-3
