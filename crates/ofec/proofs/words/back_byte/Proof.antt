@@ -1,0 +1,35 @@
+-- `ofec::words::back_byte` meets its contract: eight bits shifted in.
+-- Assumes nothing.
+use Prim.Native.Nat.{_+_, _-_, _*_}
+use Rattle.bits.specs.Bits.{bit, byteOf}
+use Rattle.bits.specs.Gathering.{Gathering, gather}
+use Rattle.ofec.specs.Sources.{backSource}
+use borrow.Author.Needs.{needs}
+use Rattle.ofec.proofs.words.back_byte.Statement.{statement}
+use Rattle.ofec.proofs.words.back_byte.Tie as tie
+
+ruleset kit = (needs, gather)
+
+abbrev Inv-loop : tie.InvT-loop
+Inv-loop coded w j byte₀ b₀ byte b = Gathering (λ k. bit coded (backSource w (j * 8 + k))) 8 b byte
+
+abbrev μ-loop : tie.MeasureT-loop
+μ-loop coded w j byte₀ b₀ byte b = 8 - b
+
+pub back-byte-spec : {M : Type 1} → statement M
+unfolding byteOf
+back-byte-spec =
+    tie.close
+    (tie.spec
+    Inv-loop
+    μ-loop
+    (λ c. search kit)  -- loop-holds
+    (λ c. search kit)  -- mul-byte
+    (λ c. search kit)  -- mul-back-bit
+    (λ c. search kit)  -- add-back-bit
+    (λ c κs. search kit)  -- back-bit-requires
+    (λ c. search kit)  -- add-byte
+    (λ c. search kit)  -- add-b
+    (λ c. search kit)  -- loop-less
+    (λ c. search kit)  -- loop-again
+    (λ c. search kit))  -- returns
