@@ -1,0 +1,9 @@
+-- Definitions first; the laws about each stand in the file below it.
+pub mod Least
+pub mod LeastLaws
+pub mod Rows
+pub mod SubsetLaws
+pub mod Block
+pub mod BlockLaws
+pub mod Positions
+pub mod BenchValues
