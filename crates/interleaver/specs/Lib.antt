@@ -6,4 +6,7 @@ pub mod SubsetLaws
 pub mod Block
 pub mod BlockLaws
 pub mod Positions
+pub mod PositionLaws
 pub mod BenchValues
+pub mod Interleaving
+pub mod Calls
