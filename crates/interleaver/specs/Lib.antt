@@ -9,4 +9,5 @@ pub mod Positions
 pub mod PositionLaws
 pub mod BenchValues
 pub mod Interleaving
+pub mod InterleavingLaws
 pub mod Calls
