@@ -1,6 +1,7 @@
 -- Definitions first; the laws about each stand in the file below it.
 pub mod Least
 pub mod LeastLaws
+pub mod HalfLaws
 pub mod Rows
 pub mod SubsetLaws
 pub mod Block
@@ -11,3 +12,5 @@ pub mod BenchValues
 pub mod Interleaving
 pub mod InterleavingLaws
 pub mod Calls
+pub mod BlockBuffer
+pub mod BlockBufferLaws
