@@ -45,3 +45,14 @@ two-bytes s j x y f p q lx ly same =
     (fromBits-ext 8 (λ k. bit s ((j + 1) * 8 + k)) (λ k. f (8 + k))
     (λ k l. ap (λ v. v % 2) (ap (bit s) (omega arith) ∙ sym (same (8 + k) (omega arith)))))
     ∙ sym (fromBits-split 8 8 f)
+
+-- Half h of sixteen bits.
+pub half-is : (w h : ℕ) → w < 2 ^ 16 → h < 2 → w / 2 ^ (8 - 8 * h) % 256 ≡ fromBits 8 (λ k. bitOf 16 w (8 * h + k))
+half-is w zero lw lh =
+    upper ∙ fromBits-ext 8 (bitOf 16 w) (λ k. bitOf 16 w (8 * 0 + k)) (λ k l. ap (λ x. bitOf 16 w x % 2) (omega arith))
+  where
+    upper : w / 2 ^ (8 - 8 * 0) % 256 ≡ fromBits 8 (bitOf 16 w)
+    upper = omega (arith, fromBits-bitOf 16 w lw, fromBits-split 8 8 (bitOf 16 w), fromBits-lt 8 (bitOf 16 w), fromBits-lt 8 (λ k. bitOf 16 w (8 + k)))
+half-is w (suc zero) lw lh =
+    omega (arith, fromBits-bitOf 16 w lw, fromBits-split 8 8 (bitOf 16 w), fromBits-lt 8 (bitOf 16 w), fromBits-lt 8 (λ k. bitOf 16 w (8 + k)))
+half-is w (suc (suc h)) lw lh = absurd (omega arith)
