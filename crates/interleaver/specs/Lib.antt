@@ -12,5 +12,6 @@ pub mod BenchValues
 pub mod Interleaving
 pub mod InterleavingLaws
 pub mod Calls
+pub mod CallLaws
 pub mod BlockBuffer
 pub mod BlockBufferLaws

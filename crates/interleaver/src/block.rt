@@ -2,7 +2,6 @@
 ghost use mathlib.Core.Path.{_≡_};
 ghost use Prim.Native.Nat.{_<_};
 ghost use Rattle.interleaver.specs.Block.{place, blockLine, shift, reorderedBit, reordered, restoredBit, restored};
-
 use crate::rows::BitRow;
 
 // The bit at bit row i, column j.

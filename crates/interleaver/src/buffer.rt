@@ -2,7 +2,6 @@
 ghost use mathlib.Core.Path.{_≡_};
 ghost use Prim.Native.Nat.{_<_};
 ghost use Rattle.interleaver.specs.BlockBuffer.{heldRow};
-
 use crate::rows::BitRow;
 use crate::rows::BlockRow;
 

@@ -5,7 +5,6 @@ ghost use lib.ListN.{length};
 ghost use Rattle.bits.specs.Bits.{fromBits, pack};
 ghost use Rattle.interleaver.specs.Block.{reordered};
 ghost use Rattle.interleaver.specs.BlockBuffer.{Held, pairsBlock, sentBlock, reorderedBlock, columnBit, partsBit, outputBit};
-
 use crate::block::reorder;
 use crate::buffer::held_row;
 use crate::rows::BitRow;
