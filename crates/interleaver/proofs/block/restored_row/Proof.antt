@@ -1,0 +1,32 @@
+-- `interleaver::block::restored_row` meets its contract: the sixteen bits are gathered.
+-- Assumes nothing.
+use Prim.Native.Nat.{_-_}
+use Rattle.bits.specs.Gathering.{Gathering, gather}
+use Rattle.interleaver.specs.Block.{blockLine, restoredBit}
+use borrow.Author.Needs.{needs}
+use Rattle.interleaver.proofs.block.restored_row.Statement.{statement}
+use Rattle.interleaver.proofs.block.restored_row.Tie as tie
+
+ruleset kit = (needs, gather)
+
+abbrev Inv-loop : tie.InvT-loop
+Inv-loop b r acc₀ c₀ acc c = Gathering (restoredBit b (r .0)) 16 c acc
+
+abbrev μ-loop : tie.MeasureT-loop
+μ-loop b r acc₀ c₀ acc c = 16 - c
+
+pub restored-row-spec : {M : Type 1} → statement M
+unfolding blockLine
+restored-row-spec =
+    tie.close
+    (tie.spec
+    Inv-loop
+    μ-loop
+    (λ c. search kit)  -- loop-holds
+    (λ c. search kit)  -- mul-acc
+    (λ c κs. search kit)  -- moved-bit-requires
+    (λ c. search kit)  -- add-acc
+    (λ c. search kit)  -- add-c
+    (λ c. search kit)  -- loop-less
+    (λ c. search kit)  -- loop-again
+    (λ c. search kit))  -- returns

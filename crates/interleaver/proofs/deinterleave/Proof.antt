@@ -1,0 +1,23 @@
+-- `interleaver::deinterleave` meets its contract: one law for each case.
+-- Assumes nothing.
+use Rattle.interleaver.specs.BlockBufferLaws.{apart-blocks}
+use Rattle.interleaver.specs.CallLaws.{parting}
+use borrow.Author.Needs.{needs}
+use Rattle.interleaver.proofs.deinterleave.Statement.{statement}
+use Rattle.interleaver.proofs.deinterleave.Tie as tie
+
+ruleset kit = (needs, parting, apart-blocks)
+
+pub deinterleave-spec : {M : Type 1} → statement M
+deinterleave-spec =
+    tie.close
+    (tie.spec
+    (λ c. search kit)  -- returns
+    (λ c. search kit)  -- returns-2
+    (λ c. search kit)  -- returns-3
+    (λ c κs. search kit)  -- restored-blocks-requires
+    (λ c κs. search kit)  -- write-pairs-requires
+    (λ c κs. search kit)  -- write-pairs-requires-2
+    (λ c. search kit)  -- same-length
+    (λ c. search kit)  -- same-length-2
+    (λ c. search kit))  -- returns-4

@@ -1,0 +1,17 @@
+-- `interleaver::rows::block_row_of` meets its contract: the first block row and every second from it.
+-- Assumes nothing.
+use Rattle.interleaver.specs.SubsetLaws.{row-of}
+use borrow.Author.Needs.{needs}
+use Rattle.interleaver.proofs.rows.block_row_of.Statement.{statement}
+use Rattle.interleaver.proofs.rows.block_row_of.Tie as tie
+
+ruleset kit = (needs, row-of)
+
+pub block-row-of-spec : {M : Type 1} → statement M
+block-row-of-spec =
+    tie.close
+    (tie.spec
+    (λ c κs. search kit)  -- first-of-requires
+    (λ c. search kit)  -- mul-t5
+    (λ c. search kit)  -- add-t6
+    (λ c. search kit))  -- returns

@@ -1,0 +1,170 @@
+-- Laws of blocks: bits and rows, the inverse of the reordering, each undoing the other.
+-- Assumes nothing.
+use mathlib.Core.Path.{_≡_, refl, sym, ap, ap₂, _∙_}
+use mathlib.Core.List.{List}
+use Prim.Native.Nat.{ℕ, _+_, _-_, _*_, _/_, _%_, _^_, _<_, _≤_}
+use native.Mathlib.Omega.{arith}
+use borrow.Author.Tests.{lt-ltb, le-ltb}
+use lib.ListN.{length, getD}
+use lib.Seq.{ext-getD}
+use Rattle.bits.specs.ListLaws.{length-tabulate, getD-tabulate, tabulate-below, tabulate-ext}
+use Rattle.bits.specs.Bits.{bitOf, fromBits}
+use Rattle.bits.specs.BitLaws.{bitOf-lt, bitOf-fromBits, bitOf-equal, fromBits-lt, fromBits-ext}
+use Rattle.bits.specs.Tests.{agree, grid}
+use Rattle.interleaver.specs.Least.{least}
+use Rattle.interleaver.specs.LeastLaws.{least-pair}
+use Rattle.interleaver.specs.Block.{place, blockLine, block, shift, sourceRow, sourceColumn, reorderedBit, reordered, placeFrom, restoredBit, restored}
+
+-- ---- a block and its bits
+
+-- A list of sixteen 16-bit rows.
+pub record Block (b : List ℕ) : Type 0 where
+  pub rows : length b ≡ 16
+  pub row : (i : ℕ) → getD b i 0 < 2 ^ 16
+
+pub place-lt : (b : List ℕ) (i j : ℕ) → place b i j < 2
+unfolding place
+place-lt b i j = bitOf-lt 16 (getD b i 0) j
+
+pub place-block : (f : ℕ → ℕ → ℕ) (i j : ℕ) → i < 16 → j < 16 → place (block f) i j ≡ f i j % 2
+unfolding place block blockLine
+place-block f i j hi hj = ap (λ x. bitOf 16 x j) (getD-tabulate 16 (blockLine f) i hi) ∙ bitOf-fromBits 16 (f i) j hj
+
+-- The same where f gives bits.
+pub place-block-of : (f : ℕ → ℕ → ℕ) → ((i j : ℕ) → f i j < 2) → (i j : ℕ) → i < 16 → j < 16 → place (block f) i j ≡ f i j
+place-block-of f small i j hi hj = place-block f i j hi hj ∙ omega (arith, small i j)
+
+pub block-is : (f : ℕ → ℕ → ℕ) → Block (block f)
+unfolding block blockLine
+block-is f =
+    record {
+      rows = length-tabulate 16 (blockLine f);
+      row = tabulate-below 16 (blockLine f) (2 ^ 16) (λ i. fromBits-lt 16 (f i)) (omega arith);
+    }
+
+-- Blocks whose bits agree are equal.
+pub block-equal : (a b : List ℕ) → Block a → Block b → ((i j : ℕ) → i < 16 → j < 16 → place a i j ≡ place b i j) → a ≡ b
+unfolding place
+block-equal a b ha hb same =
+    ext-getD 0 a b (ha .rows ∙ sym (hb .rows))
+    (λ i l. bitOf-equal 16 (getD a i 0) (getD b i 0) (ha .row i) (hb .row i) (λ j lj. same i j (omega (arith, ha .rows)) lj))
+
+-- Functions that agree on the places give one block.
+pub block-ext : (f g : ℕ → ℕ → ℕ) → ((i j : ℕ) → i < 16 → j < 16 → f i j ≡ g i j) → block f ≡ block g
+unfolding block blockLine
+block-ext f g same =
+    tabulate-ext 16 (blockLine f) (blockLine g) (λ i l. fromBits-ext 16 (f i) (g i) (λ j lj. ap (λ x. x % 2) (same i j l lj)))
+
+-- ---- the inverse of the reordering
+
+pub shift-first : (i : ℕ) → i < 8 → 0 ≡ shift i
+unfolding shift
+shift-first i l = simp (lt-ltb i 8 l)
+
+pub shift-last : (i : ℕ) → 8 ≤ i → 1 ≡ shift i
+unfolding shift
+shift-last i l = simp (le-ltb i 8 l)
+
+-- (r, c) goes to place (i, j), i = (c−r) mod 16 and j = (c+i+d) mod 16.
+unfoldable pub targetRow : ℕ → ℕ → ℕ
+targetRow r c = (c + 16 - r) % 16
+
+unfoldable pub targetColumn : ℕ → ℕ → ℕ
+targetColumn r c = (c + targetRow r c + shift (targetRow r c)) % 16
+
+pub targetRow-lt : (r c : ℕ) → targetRow r c < 16
+unfolding targetRow
+targetRow-lt r c = omega arith
+
+pub targetColumn-lt : (r c : ℕ) → targetColumn r c < 16
+unfolding targetColumn
+targetColumn-lt r c = omega arith
+
+pub sourceRow-lt : (i j : ℕ) → sourceRow i j < 16
+unfolding sourceRow
+sourceRow-lt i j = omega arith
+
+pub sourceColumn-lt : (i j : ℕ) → sourceColumn i j < 16
+unfolding sourceColumn
+sourceColumn-lt i j = omega arith
+
+pub source-target-row : (r c : ℕ) → r < 16 → c < 16 → sourceRow (targetRow r c) (targetColumn r c) ≡ r
+unfolding shift sourceRow targetRow targetColumn
+source-target-row = grid 16 16 (λ r c. sourceRow (targetRow r c) (targetColumn r c)) (λ r c. r) tt
+
+pub source-target-column : (r c : ℕ) → r < 16 → c < 16 → sourceColumn (targetRow r c) (targetColumn r c) ≡ c
+unfolding shift sourceColumn targetRow targetColumn
+source-target-column = grid 16 16 (λ r c. sourceColumn (targetRow r c) (targetColumn r c)) (λ r c. c) tt
+
+pub target-source-row : (i j : ℕ) → i < 16 → j < 16 → targetRow (sourceRow i j) (sourceColumn i j) ≡ i
+unfolding shift sourceRow sourceColumn targetRow
+target-source-row = grid 16 16 (λ i j. targetRow (sourceRow i j) (sourceColumn i j)) (λ i j. i) tt
+
+pub target-source-column : (i j : ℕ) → i < 16 → j < 16 → targetColumn (sourceRow i j) (sourceColumn i j) ≡ j
+unfolding shift sourceRow sourceColumn targetRow targetColumn
+target-source-column = grid 16 16 (λ i j. targetColumn (sourceRow i j) (sourceColumn i j)) (λ i j. j) tt
+
+-- The place that takes its bit from (r, c) is that one.
+placeFrom-is : (r c : ℕ) → r < 16 → c < 16 → placeFrom r c ≡ 16 * targetRow r c + targetColumn r c
+unfolding placeFrom
+placeFrom-is r c lr lc =
+    least-pair 256 (λ x. sourceRow (x / 16) (x % 16)) (λ x. sourceColumn (x / 16) (x % 16)) r c x
+    (omega (arith, targetRow-lt r c, targetColumn-lt r c))
+    (rw (high, low) (source-target-row r c lr lc))
+    (rw (high, low) (source-target-column r c lr lc))
+    (λ y ly p q. omega (arith, ap₂ targetRow p q, ap₂ targetColumn p q, target-source-row (y / 16) (y % 16) (omega arith) (omega arith), target-source-column (y / 16) (y % 16) (omega arith) (omega arith)))
+  where
+    x : ℕ
+    x = 16 * targetRow r c + targetColumn r c
+
+    high : (16 * targetRow r c + targetColumn r c) / 16 ≡ targetRow r c
+    high = omega (arith, targetColumn-lt r c)
+
+    low : (16 * targetRow r c + targetColumn r c) % 16 ≡ targetColumn r c
+    low = omega (arith, targetColumn-lt r c)
+
+pub placeFrom-row : (r c : ℕ) → r < 16 → c < 16 → placeFrom r c / 16 ≡ targetRow r c
+placeFrom-row r c lr lc = omega (arith, placeFrom-is r c lr lc, targetColumn-lt r c)
+
+pub placeFrom-column : (r c : ℕ) → r < 16 → c < 16 → placeFrom r c % 16 ≡ targetColumn r c
+placeFrom-column r c lr lc = omega (arith, placeFrom-is r c lr lc, targetColumn-lt r c)
+
+-- ---- reordered and restored
+
+pub place-reordered : (b : List ℕ) (i j : ℕ) → i < 16 → j < 16 → place (reordered b) i j ≡ place b (sourceRow i j) (sourceColumn i j)
+unfolding reorderedBit
+place-reordered b = place-block-of (reorderedBit b) (λ i j. place-lt b (sourceRow i j) (sourceColumn i j))
+
+pub place-restored : (b : List ℕ) (r c : ℕ) → r < 16 → c < 16 → place (restored b) r c ≡ place b (targetRow r c) (targetColumn r c)
+unfolding restoredBit
+place-restored b r c lr lc =
+    place-block-of (restoredBit b) (λ i j. place-lt b (placeFrom i j / 16) (placeFrom i j % 16)) r c lr lc
+    ∙ ap₂ (place b) (placeFrom-row r c lr lc) (placeFrom-column r c lr lc)
+
+-- A block that is reordered and restored is as it was, and the other way round.
+pub restored-reordered : (b : List ℕ) → Block b → restored (reordered b) ≡ b
+restored-reordered b h =
+    block-equal (restored (reordered b)) b (block-is (restoredBit (reordered b))) h
+    (λ r c lr lc.
+    place-restored (reordered b) r c lr lc
+    ∙ place-reordered b (targetRow r c) (targetColumn r c) (targetRow-lt r c) (targetColumn-lt r c)
+    ∙ ap₂ (place b) (source-target-row r c lr lc) (source-target-column r c lr lc))
+
+pub reordered-restored : (b : List ℕ) → Block b → reordered (restored b) ≡ b
+reordered-restored b h =
+    block-equal (reordered (restored b)) b (block-is (reorderedBit (restored b))) h
+    (λ i j li lj.
+    place-reordered (restored b) i j li lj
+    ∙ place-restored b (sourceRow i j) (sourceColumn i j) (sourceRow-lt i j) (sourceColumn-lt i j)
+    ∙ ap₂ (place b) (target-source-row i j li lj) (target-source-column i j li lj))
+
+-- ---- as code finds the bits
+
+pub reordered-bit : (b : List ℕ) (i j d v : ℕ) → d ≡ shift i → v ≡ place b ((j + 32 - 2 * i - d) % 16) ((j + 32 - i - d) % 16) → v ≡ reorderedBit b i j
+unfolding reorderedBit sourceRow sourceColumn
+reordered-bit b i j d v p e = e ∙ rw p
+
+pub restored-bit : (b : List ℕ) (r c d v : ℕ) → d ≡ shift ((c + 16 - r) % 16) → v ≡ place b ((c + 16 - r) % 16) ((c + (c + 16 - r) % 16 + d) % 16)
+    → r < 16 → c < 16 → v ≡ restoredBit b r c
+unfolding restoredBit targetRow targetColumn
+restored-bit b r c d v p e lr lc = e ∙ rw p (sym (ap₂ (place b) (placeFrom-row r c lr lc) (placeFrom-column r c lr lc)))

@@ -1,0 +1,58 @@
+-- A number as its upper and its lower bits, and a byte of a buffer as its bits.
+-- Assumes nothing.
+use mathlib.Core.Path.{_≡_, refl, sym, ap, ap₂, _∙_}
+use mathlib.Core.List.{List}
+use Prim.Native.Nat.{ℕ, zero, suc, _+_, _-_, _*_, _/_, _%_, _^_, _<_}
+use native.Mathlib.Nat.{pow-suc}
+use native.Mathlib.Omega.{arith}
+use lib.ListN.{getD}
+use Rattle.bits.specs.Bits.{bitOf, bit, fromBits, byteOf}
+use Rattle.bits.specs.BitLaws.{fromBits-lt, fromBits-ext, fromBits-bitOf}
+
+-- m + n bits are m bits and then n.
+pub fromBits-split : (m n : ℕ) (f : ℕ → ℕ) → fromBits (m + n) f ≡ fromBits m f * 2 ^ n + fromBits n (λ k. f (m + k))
+unfolding fromBits
+fromBits-split m zero f = let e : m + 0 ≡ m = omega arith in ap (λ w. fromBits w f) e ∙ omega arith
+fromBits-split m (suc n) f =
+    ap (λ w. fromBits w f) again ∙ ap (λ x. x * 2 + f (m + n) % 2) (fromBits-split m n f)
+    ∙ omega (arith, ap (λ p. fromBits m f * p) (pow-suc 2 n) ∙ double (fromBits m f) (2 ^ n))
+  where
+    again : m + suc n ≡ suc (m + n)
+    again = omega arith
+
+    double : (a p : ℕ) → a * (p * 2) ≡ a * p * 2
+    double a p = omega arith
+
+-- The bits of a byte of a buffer.
+pub byteOf-bit : (s : List ℕ) (j x : ℕ) → x ≡ getD s j 0 → x < 256 → byteOf (bit s) j ≡ x
+unfolding byteOf bit
+byteOf-bit s j x e l =
+    fromBits-ext 8 (λ k. bit s (j * 8 + k)) (bitOf 8 x)
+    (λ k lk.
+    let h : (j * 8 + k) / 8 ≡ j = omega arith in
+    let m : (j * 8 + k) % 8 ≡ k = omega arith in
+    rw (h, m, e))
+    ∙ fromBits-bitOf 8 x l
+
+-- Sixteen bits of a buffer from the first bit of a byte on are two bytes.
+pub two-bytes : (s : List ℕ) (j x y : ℕ) (f : ℕ → ℕ) → x ≡ getD s j 0 → y ≡ getD s (j + 1) 0 → x < 256 → y < 256
+    → ((k : ℕ) → k < 16 → f k ≡ bit s (j * 8 + k)) → x * 256 + y ≡ fromBits 16 f
+unfolding byteOf
+two-bytes s j x y f p q lx ly same =
+    ap₂ (λ a b. a * 256 + b) (sym (byteOf-bit s j x p lx)) (sym (byteOf-bit s (j + 1) y q ly))
+    ∙ ap₂ (λ a b. a * 256 + b)
+    (fromBits-ext 8 (λ k. bit s (j * 8 + k)) f (λ k l. ap (λ v. v % 2) (sym (same k (omega arith)))))
+    (fromBits-ext 8 (λ k. bit s ((j + 1) * 8 + k)) (λ k. f (8 + k))
+    (λ k l. ap (λ v. v % 2) (ap (bit s) (omega arith) ∙ sym (same (8 + k) (omega arith)))))
+    ∙ sym (fromBits-split 8 8 f)
+
+-- Half h of sixteen bits.
+pub half-is : (w h : ℕ) → w < 2 ^ 16 → h < 2 → w / 2 ^ (8 - 8 * h) % 256 ≡ fromBits 8 (λ k. bitOf 16 w (8 * h + k))
+half-is w zero lw lh =
+    upper ∙ fromBits-ext 8 (bitOf 16 w) (λ k. bitOf 16 w (8 * 0 + k)) (λ k l. ap (λ x. bitOf 16 w x % 2) (omega arith))
+  where
+    upper : w / 2 ^ (8 - 8 * 0) % 256 ≡ fromBits 8 (bitOf 16 w)
+    upper = omega (arith, fromBits-bitOf 16 w lw, fromBits-split 8 8 (bitOf 16 w), fromBits-lt 8 (bitOf 16 w), fromBits-lt 8 (λ k. bitOf 16 w (8 + k)))
+half-is w (suc zero) lw lh =
+    omega (arith, fromBits-bitOf 16 w lw, fromBits-split 8 8 (bitOf 16 w), fromBits-lt 8 (bitOf 16 w), fromBits-lt 8 (λ k. bitOf 16 w (8 + k)))
+half-is w (suc (suc h)) lw lh = absurd (omega arith)

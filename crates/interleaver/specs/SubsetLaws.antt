@@ -1,0 +1,57 @@
+-- Laws of subsets: the subset of a block row, and where its bit rows stand in it.
+-- Assumes nothing.
+use mathlib.Core.Path.{_≡_, refl, ap, _∙_}
+use Prim.Native.Nat.{ℕ, _+_, _*_, _/_, _%_, _<_}
+use native.Mathlib.Omega.{arith}
+use borrow.Author.Tests.{ne-eqb}
+use Rattle.bits.specs.Tests.{agree}
+use Rattle.interleaver.specs.declared.rows.BlockRow.{BlockRow}
+use Rattle.interleaver.specs.declared.rows.BitRow.{BitRow}
+use Rattle.interleaver.specs.Rows.{blockRow, encoderIn, rowIn, firstOf, subsetRow, blockRowOf, within}
+
+-- ---- an encoder's row and its block row
+
+pub blockRow-in : (k : BlockRow) → blockRow (encoderIn k) (rowIn k) ≡ k
+blockRow-in k = let e : 2 * (k .0 / 2) + k .0 % 2 ≡ k .0 = omega arith in λ i. record { 0 = e i }
+
+pub encoderIn-row : (e R : ℕ) → e < 2 → encoderIn (blockRow e R) ≡ e
+encoderIn-row e R l = omega arith
+
+pub rowIn-row : (e R : ℕ) → e < 2 → rowIn (blockRow e R) ≡ R
+rowIn-row e R l = omega arith
+
+-- ---- a block row and its subset
+
+pub firstOf-is : (s : ℕ) → s < 4 → firstOf s ≡ s / 2 * 42 + s % 2
+unfolding firstOf
+firstOf-is = agree 4 firstOf (λ s. s / 2 * 42 + s % 2) tt
+
+-- The subset of a block row; and bit row i of a block row, counted in the subset.
+abbrev pub subsetIn : BlockRow → ℕ
+subsetIn k = k .0 / 42 * 2 + k .0 % 2
+
+abbrev pub bitRowIn : BlockRow → BitRow → BitRow
+bitRowIn k i = record { 0 = k .0 % 42 / 2 * 16 + i .0 }
+
+-- The first block row, as code finds it.
+pub first-0 : (s : ℕ) → s ≡ 0 → 0 ≡ firstOf s
+unfolding firstOf
+first-0 s e = rw e
+
+pub first-1 : (s : ℕ) → s ≡ 1 → 1 ≡ firstOf s
+unfolding firstOf
+first-1 s e = rw e
+
+pub first-2 : (s : ℕ) → s ≡ 2 → 42 ≡ firstOf s
+unfolding firstOf
+first-2 s e = rw e
+
+pub first-3 : (s : ℕ) → (s ≡ 0 → ⊥) → (s ≡ 1 → ⊥) → (s ≡ 2 → ⊥) → 43 ≡ firstOf s
+unfolding firstOf
+first-3 s p q r = simp (ne-eqb s 0 p, ne-eqb s 1 q, ne-eqb s 2 r)
+
+pub ruleset firsts = (first-0, first-1, first-2, first-3)
+
+-- The block row of a bit row of a subset, as code finds it.
+pub row-of : (s f : ℕ) (q : BitRow) → f ≡ firstOf s → record { 0 = f + 2 * (q .0 / 16) } ≡ blockRowOf s q
+row-of s f q e = rw e

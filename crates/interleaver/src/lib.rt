@@ -1,0 +1,49 @@
+// The interleaver: 21 pairs of each encoder to the bits of a buffer, and back.
+ghost use mathlib.Core.Path.{_≡_};
+ghost use Rattle.interleaver.specs.Calls.{joined, interleave, parted, deinterleave};
+
+pub mod block;
+pub mod buffer;
+pub mod interleaving;
+pub mod rows;
+pub mod taking_apart;
+
+use calls::Answer;
+use calls::Refusal;
+
+// Interleaves 21 pairs of each encoder, 10,752 bytes each, to 21,504 bytes.
+pub fn interleave(pairs0: &[u8], pairs1: &[u8], bits: &mut [u8]) -> Answer
+    ensures { λ a. ⌜ joined a (now (bits .exit)) ≡ interleave (now (pairs0 .entry)) (now (pairs1 .entry)) (now (bits .entry)) ⌝ }
+{
+    if pairs0.len() != 10752 {
+        return Answer::Refused(Refusal::Misfit);
+    }
+    if pairs1.len() != 10752 {
+        return Answer::Refused(Refusal::Misfit);
+    }
+    if bits.len() != 21504 {
+        return Answer::Refused(Refusal::Misfit);
+    }
+    let blocks = interleaving::reordered_blocks(pairs0, pairs1);
+    interleaving::write_bits(&blocks, bits);
+    Answer::Done(0)
+}
+
+// Takes 21,504 bytes apart to 21 pairs of each encoder.
+pub fn deinterleave(bits: &[u8], pairs0: &mut [u8], pairs1: &mut [u8]) -> Answer
+    ensures { λ a. ⌜ parted a (now (pairs0 .exit)) (now (pairs1 .exit)) ≡ deinterleave (now (bits .entry)) (now (pairs0 .entry)) (now (pairs1 .entry)) ⌝ }
+{
+    if bits.len() != 21504 {
+        return Answer::Refused(Refusal::Misfit);
+    }
+    if pairs0.len() != 10752 {
+        return Answer::Refused(Refusal::Misfit);
+    }
+    if pairs1.len() != 10752 {
+        return Answer::Refused(Refusal::Misfit);
+    }
+    let blocks = taking_apart::restored_blocks(bits);
+    taking_apart::write_pairs(&blocks, 0, pairs0);
+    taking_apart::write_pairs(&blocks, 1, pairs1);
+    Answer::Done(0)
+}
