@@ -1,7 +1,7 @@
 -- The calls: bits to cells and cells to bits, each as one definition from what is lent to what stands afterwards, with the refusals
 -- tested in the order of 01, "Turned-back calls".
 -- Assumes nothing.
-use mathlib.Core.Bool.{cond}
+use mathlib.Core.Bool.{cond, not}
 use mathlib.Core.List.{List}
 use Prim.Native.Nat.{ℕ}
 use lib.Dec.{eqb, ltb}
@@ -19,21 +19,16 @@ pub record After : Type 0 where
 abbrev pub after : Answer → List ℕ → After
 after a w = record { answer = a; written = w }
 
--- A buffer: 21,504 bytes of bits ("Output 21,504 bytes"), "43,008 bytes of cells".
+-- A buffer: 21,504 bytes of bits ("Output 21,504 bytes") and "43,008 bytes of cells". Each test is the refusal's; No. 1 comes before No. 5.
 unfoldable pub bitsToCells : List ℕ → List ℕ → After
 bitsToCells bits cells =
-    cond (eqb (length bits) 21504)
-    (cond (eqb (length cells) 43008)
-    (after (Done 0) (toCells bits))
-    (after (Refused Misfit) cells))
-    (after (Refused Misfit) cells)
+    cond (not (eqb (length bits) 21504)) (after (Refused Misfit) cells)
+    (cond (not (eqb (length cells) 43008)) (after (Refused Misfit) cells)
+    (after (Done 0) (toCells bits)))
 
 unfoldable pub cellsToBits : List ℕ → List ℕ → After
 cellsToBits cells bits =
-    cond (eqb (length cells) 43008)
-    (cond (eqb (length bits) 21504)
-    (cond (ltb (firstIllegal cells) (length cells))
-    (after (Refused (OffGrid (firstIllegal cells))) bits)
-    (after (Done 0) (toBits cells)))
-    (after (Refused Misfit) bits))
-    (after (Refused Misfit) bits)
+    cond (not (eqb (length cells) 43008)) (after (Refused Misfit) bits)
+    (cond (not (eqb (length bits) 21504)) (after (Refused Misfit) bits)
+    (cond (ltb (firstIllegal cells) (length cells)) (after (Refused (OffGrid (firstIllegal cells))) bits)
+    (after (Done 0) (toBits cells))))

@@ -85,3 +85,7 @@ secondBit-lt l = go (eqb (natAbs l) 1)
     go : (t : Bool) → cond t 1 0 < 2
     go true = lit< tt
     go false = lit< tt
+
+pub ordinal-below : {l : ℤ} → Level l → ordinal l < 4
+unfolding ordinal
+ordinal-below = ordinal-lt
