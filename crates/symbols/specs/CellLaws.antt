@@ -16,7 +16,7 @@ use Rattle.bits.specs.ListLaws.{length-tabulate, getD-tabulate, tabulate-below}
 use Rattle.bits.specs.Bits.{bitOf, bit, fromBits}
 use Rattle.bits.specs.BitLaws.{bitOf-fromBits, fromBits-lt}
 use Rattle.bits.specs.Seeking.{Seeking, seek-all, none-passes}
-use Rattle.bits.specs.Tests.{agree, grid}
+use Rattle.bits.specs.Tests.{agree}
 use Rattle.symbols.specs.Levels.{level, ordinal, levelAt, firstBit, secondBit}
 use Rattle.symbols.specs.LevelLaws.{level-is, ordinal-below, firstBit-lt, secondBit-lt}
 use Rattle.symbols.specs.Cells.{rails, xOf, yOf, cellByte, cellsAt, toCells, illegal, firstIllegal, Legal, iOf, qOf, symbol, railBits, byteOfCell, byteAt, toBits}
@@ -37,14 +37,30 @@ half-y b h r z e = simp (ne-eqb h 0 z, div-one) e
 
 pub ruleset halves = (half-x, half-y)
 
-pub byte-read : (x y xi xq yi yq : ℕ)
-    → (xi / 2 ≡ firstBit (levelAt (x / 4))) × (xi % 2 ≡ secondBit (levelAt (x / 4))) × (xi < 4)
-    → (xq / 2 ≡ firstBit (levelAt (x % 4))) × (xq % 2 ≡ secondBit (levelAt (x % 4))) × (xq < 4)
-    → (yi / 2 ≡ firstBit (levelAt (y / 4))) × (yi % 2 ≡ secondBit (levelAt (y / 4))) × (yi < 4)
-    → (yq / 2 ≡ firstBit (levelAt (y % 4))) × (yq % 2 ≡ secondBit (levelAt (y % 4))) × (yq < 4)
-    → (xi / 2 * 8 + yi / 2 * 4 + xi % 2 * 2 + yi % 2) * 16 + (xq / 2 * 8 + yq / 2 * 4 + xq % 2 * 2 + yq % 2) ≡ byteOfCell x y
+pub weave-is : (x y p q : ℕ) → (p / 2 ≡ firstBit (levelAt x)) × (p % 2 ≡ secondBit (levelAt x)) × (p < 4)
+    → (q / 2 ≡ firstBit (levelAt y)) × (q % 2 ≡ secondBit (levelAt y)) × (q < 4)
+    → (p / 2 * 8 + q / 2 * 4 + p % 2 * 2 + q % 2 ≡ firstBit (levelAt x) * 8 + firstBit (levelAt y) * 4 + secondBit (levelAt x) * 2 + secondBit (levelAt y))
+    × (p / 2 * 8 + q / 2 * 4 + p % 2 * 2 + q % 2 < 16)
+weave-is x y p q (a, b, u) (c, d, v) = (rw (a, b, c, d), omega arith)
+
+pub byte-woven : (x y u l : ℕ)
+    → u ≡ firstBit (levelAt (x / 4)) * 8 + firstBit (levelAt (y / 4)) * 4 + secondBit (levelAt (x / 4)) * 2 + secondBit (levelAt (y / 4))
+    → l ≡ firstBit (levelAt (x % 4)) * 8 + firstBit (levelAt (y % 4)) * 4 + secondBit (levelAt (x % 4)) * 2 + secondBit (levelAt (y % 4))
+    → u * 16 + l ≡ byteOfCell x y
 unfolding byteOfCell symbol fromBits iOf qOf
-byte-read x y xi xq yi yq (a, b, _) (c, d, _) (e, f, _) (g, h, _) = rw (a, b, c, d, e, f, g, h) (omega (arith, firstBit-lt (levelAt (x / 4)), firstBit-lt (levelAt (x % 4)), firstBit-lt (levelAt (y / 4)), firstBit-lt (levelAt (y % 4)), secondBit-lt (levelAt (x / 4)), secondBit-lt (levelAt (x % 4)), secondBit-lt (levelAt (y / 4)), secondBit-lt (levelAt (y % 4))))
+byte-woven x y u l eu el =
+    rw (eu, el)
+    (omega (
+      arith,
+      firstBit-lt (levelAt (x / 4)),
+      firstBit-lt (levelAt (y / 4)),
+      secondBit-lt (levelAt (x / 4)),
+      secondBit-lt (levelAt (y / 4)),
+      firstBit-lt (levelAt (x % 4)),
+      firstBit-lt (levelAt (y % 4)),
+      secondBit-lt (levelAt (x % 4)),
+      secondBit-lt (levelAt (y % 4)),
+    ))
 
 pub legal-cell : {cells : List ℕ} {k : ℕ} → Legal cells → k < length cells → getD cells k 0 < 16
 legal-cell {cells} {k} h l = leb-false 16 (getD cells k 0) (h .legal k l)
@@ -93,18 +109,10 @@ pub byteOfCell-lt : (x y : ℕ) → byteOfCell x y < 256
 unfolding byteOfCell
 byteOfCell-lt x y = fromBits-lt 8 (λ k. getD (symbol x y) k 0)
 
--- Each symbol comes back from its cell, and each legal cell from its symbol.
+-- Each symbol comes back from its cell.
 pub symbol-back : (b : ℕ) → b < 256 → byteOfCell (xOf b) (yOf b) ≡ b
 unfolding byteOfCell symbol fromBits iOf qOf firstBit secondBit levelAt xOf yOf rails ordinal level bitOf
 symbol-back = agree 256 (λ b. byteOfCell (xOf b) (yOf b)) (λ b. b) tt
-
-pub x-back : (x y : ℕ) → x < 16 → y < 16 → xOf (byteOfCell x y) ≡ x
-unfolding byteOfCell symbol fromBits iOf qOf firstBit secondBit levelAt xOf yOf rails ordinal level bitOf
-x-back = grid 16 16 (λ x y. xOf (byteOfCell x y)) (λ x y. x) tt
-
-pub y-back : (x y : ℕ) → x < 16 → y < 16 → yOf (byteOfCell x y) ≡ y
-unfolding byteOfCell symbol fromBits iOf qOf firstBit secondBit levelAt xOf yOf rails ordinal level bitOf
-y-back = grid 16 16 (λ x y. yOf (byteOfCell x y)) (λ x y. y) tt
 
 -- ---- the bits of a symbol by their places
 
@@ -123,6 +131,23 @@ symbol-lt x y (suc (suc (suc (suc (suc (suc (suc (suc k)))))))) = lit< tt
 pub byteOfCell-bit : (x y k : ℕ) → k < 8 → bitOf 8 (byteOfCell x y) k ≡ getD (symbol x y) k 0
 unfolding byteOfCell
 byteOfCell-bit x y k l = bitOf-fromBits 8 (λ i. getD (symbol x y) i 0) k l ∙ omega (arith, symbol-lt x y k)
+
+-- A legal X or Y byte comes back from its levels' bit pairs.
+rails-back : (v : ℕ) → v < 16 → rails (level (firstBit (iOf v)) (secondBit (iOf v))) (level (firstBit (qOf v)) (secondBit (qOf v))) ≡ v
+unfolding iOf qOf firstBit secondBit levelAt rails ordinal level
+rails-back = agree 16 (λ v. rails (level (firstBit (iOf v)) (secondBit (iOf v))) (level (firstBit (qOf v)) (secondBit (qOf v)))) (λ v. v) tt
+
+pub x-back : (x y : ℕ) → x < 16 → xOf (byteOfCell x y) ≡ x
+unfolding xOf symbol
+x-back x y l =
+    ap₂ rails (ap₂ level (byteOfCell-bit x y 0 (lit< tt)) (byteOfCell-bit x y 2 (lit< tt))) (ap₂ level (byteOfCell-bit x y 4 (lit< tt)) (byteOfCell-bit x y 6 (lit< tt)))
+    ∙ rails-back x l
+
+pub y-back : (x y : ℕ) → y < 16 → yOf (byteOfCell x y) ≡ y
+unfolding yOf symbol
+y-back x y l =
+    ap₂ rails (ap₂ level (byteOfCell-bit x y 1 (lit< tt)) (byteOfCell-bit x y 3 (lit< tt))) (ap₂ level (byteOfCell-bit x y 5 (lit< tt)) (byteOfCell-bit x y 7 (lit< tt)))
+    ∙ rails-back y l
 
 -- Even bits are X's, odd ones Y's.
 pub symbol-rail : (x y k : ℕ) → k < 8 → getD (symbol x y) k 0 ≡ getD (railBits (cond (eqb (k % 2) 0) x y)) (k / 2) 0
@@ -201,10 +226,10 @@ cells-back cells n e legal =
   where
     half : (j h : ℕ) → j < n * 2 → h ≡ j % 2 → cellByte (byteOfCell (getD cells (j / 2 * 2) 0) (getD cells (j / 2 * 2 + 1) 0)) h ≡ getD cells j 0
     half j zero l z =
-        x-back (getD cells (j / 2 * 2) 0) (getD cells (j / 2 * 2 + 1) 0) (legal-cell legal (omega arith)) (legal-cell legal (omega arith))
+        x-back (getD cells (j / 2 * 2) 0) (getD cells (j / 2 * 2 + 1) 0) (legal-cell legal (omega arith))
         ∙ ap (λ k. getD cells k 0) (omega arith)
     half j (suc zero) l z =
-        y-back (getD cells (j / 2 * 2) 0) (getD cells (j / 2 * 2 + 1) 0) (legal-cell legal (omega arith)) (legal-cell legal (omega arith))
+        y-back (getD cells (j / 2 * 2) 0) (getD cells (j / 2 * 2 + 1) 0) (legal-cell legal (omega arith))
         ∙ ap (λ k. getD cells k 0) (omega arith)
     half j (suc (suc h)) l z = absurd (omega arith)
 

@@ -66,13 +66,13 @@ symbol x y =
     firstBit (iOf x) ∷ firstBit (iOf y) ∷ secondBit (iOf x) ∷ secondBit (iOf y)
     ∷ firstBit (qOf x) ∷ firstBit (qOf y) ∷ secondBit (qOf x) ∷ secondBit (qOf y) ∷ []
 
--- The bits of the X or Y byte v of a cell by themselves: I's pair, then Q's.
-unfoldable pub railBits : ℕ → List ℕ
-railBits v = firstBit (iOf v) ∷ secondBit (iOf v) ∷ firstBit (qOf v) ∷ secondBit (qOf v) ∷ []
-
 -- The byte whose cell is x, y.
 unfoldable pub byteOfCell : ℕ → ℕ → ℕ
 byteOfCell x y = fromBits 8 (λ k. getD (symbol x y) k 0)
+
+-- The bits of the X or Y byte v of a cell by themselves: I's pair, then Q's.
+unfoldable pub railBits : ℕ → List ℕ
+railBits v = firstBit (iOf v) ∷ secondBit (iOf v) ∷ firstBit (qOf v) ∷ secondBit (qOf v) ∷ []
 
 -- The bits of a buffer of cells: byte i of them, and all.
 unfoldable pub byteAt : List ℕ → ℕ → ℕ

@@ -11,7 +11,7 @@ use lib.ListN.{getD}
 use lib.Signed.{nonNeg}
 use mir.Syntax.{w8}
 use mir.Val.{SFits, toZ, ofZ}
-use Rattle.bits.specs.Tests.{agree, each}
+use Rattle.bits.specs.Tests.{agree, each, grid}
 use Rattle.symbols.specs.Levels.{level, Level, minus-three, minus-one, plus-three, plus-one, ordinal, levelAt, firstBit, secondBit}
 
 -- What holds of the four levels holds of each.
@@ -73,6 +73,26 @@ level-is zero (suc b) = minus-one
 level-is (suc a) zero = plus-three
 level-is (suc a) (suc b) = plus-one
 
+-- The bit pair of a level gives the level, and the level of a bit pair gives its bits.
+pub level-back : {l : ℤ} → Level l → level (firstBit l) (secondBit l) ≡ l
+unfolding level firstBit secondBit
+level-back = on-levels (λ l. level (firstBit l) (secondBit l) ≡ l) refl refl refl refl
+
+pub pair-back : (a b : ℕ) → a < 2 → b < 2 → (firstBit (level a b) ≡ a) × (secondBit (level a b) ≡ b)
+unfolding level firstBit secondBit
+pair-back a b la lb = (grid 2 2 (λ i j. firstBit (level i j)) (λ i j. i) tt a b la lb, grid 2 2 (λ i j. secondBit (level i j)) (λ i j. j) tt a b la lb)
+
+-- (I+3)/2 gives I back.
+pub ordinal-back : {l : ℤ} → Level l → levelAt (ordinal l) ≡ l
+unfolding levelAt ordinal
+ordinal-back = on-levels (λ l. levelAt (ordinal l) ≡ l) refl refl refl refl
+
+pub ordinal-below : {l : ℤ} → Level l → ordinal l < 4
+unfolding ordinal
+ordinal-below = ordinal-lt
+
+-- ---- bits are 0 or 1
+
 pub firstBit-lt : (l : ℤ) → firstBit l < 2
 unfolding firstBit
 firstBit-lt (pos n) = lit< tt
@@ -85,7 +105,3 @@ secondBit-lt l = go (eqb (natAbs l) 1)
     go : (t : Bool) → cond t 1 0 < 2
     go true = lit< tt
     go false = lit< tt
-
-pub ordinal-below : {l : ℤ} → Level l → ordinal l < 4
-unfolding ordinal
-ordinal-below = ordinal-lt

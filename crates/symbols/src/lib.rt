@@ -1,4 +1,5 @@
 // Bits to cells and cells to bits (01, "Cells"): the two calls, each over a worker that takes any number of symbols.
+pub mod legal;
 mod levels;
 mod mapping;
 
@@ -37,7 +38,7 @@ pub fn cells_to_bits(cells: &[u8], bits: &mut [u8]) -> Answer
     if bits.len() != BITS {
         return Answer::Refused(Refusal::Misfit);
     }
-    let at = mapping::first_illegal(cells);
+    let at = legal::first_illegal(cells);
     if at < cells.len() {
         return Answer::Refused(Refusal::OffGrid(at));
     }

@@ -3,10 +3,10 @@ use crate::levels::level;
 use crate::levels::ordinal;
 use crate::levels::pair;
 ghost use mathlib.Core.Path.{_≡_};
-ghost use Prim.Native.Nat.{_*_, _<_};
+ghost use Prim.Native.Nat.{_+_, _*_, _<_};
 ghost use lib.ListN.{length};
-ghost use Rattle.symbols.specs.Levels.{level};
-ghost use Rattle.symbols.specs.Cells.{rails, cellByte, byteOfCell, firstIllegal, Legal, toCells, toBits};
+ghost use Rattle.symbols.specs.Levels.{level, levelAt, firstBit, secondBit};
+ghost use Rattle.symbols.specs.Cells.{rails, cellByte, byteOfCell, Legal, toCells, toBits};
 
 // The byte 4×(I+3)/2 + (Q+3)/2 of the bit pairs (a, b) of I and (c, d) of Q.
 fn rails(a: u8, b: u8, c: u8, d: u8) -> u8
@@ -28,18 +28,22 @@ fn cell_byte(b: u8, h: usize) -> u8
     rails(b / 64 % 2, b / 16 % 2, b / 4 % 2, b % 2)
 }
 
+// Four bits of a symbol: the pairs of an X level and of a Y level, by their ordinals, woven.
+fn weave(x: u8, y: u8) -> u8
+    requires { ⌜ (x < 4) × (y < 4) ⌝ }
+    ensures { λ r. ⌜ (r ≡ firstBit (levelAt x) * 8 + firstBit (levelAt y) * 4 + secondBit (levelAt x) * 2 + secondBit (levelAt y)) × (r < 16) ⌝ }
+{
+    let p = pair(x);
+    let q = pair(y);
+    p / 2 * 8 + q / 2 * 4 + p % 2 * 2 + q % 2
+}
+
 // The symbol's byte of a legal cell.
 fn byte_of(x: u8, y: u8) -> u8
     requires { ⌜ (x < 16) × (y < 16) ⌝ }
     ensures { λ r. ⌜ r ≡ byteOfCell x y ⌝ }
 {
-    let xi = pair(x / 4);
-    let xq = pair(x % 4);
-    let yi = pair(y / 4);
-    let yq = pair(y % 4);
-    let upper = xi / 2 * 8 + yi / 2 * 4 + xi % 2 * 2 + yi % 2;
-    let lower = xq / 2 * 8 + yq / 2 * 4 + xq % 2 * 2 + yq % 2;
-    upper * 16 + lower
+    weave(x / 4, y / 4) * 16 + weave(x % 4, y % 4)
 }
 
 // The cells of a buffer of symbols.
@@ -50,18 +54,6 @@ pub fn map(bits: &[u8], cells: &mut [u8])
     for j in 0..cells.len() {
         cells[j] = cell_byte(bits[j / 2], j % 2);
     }
-}
-
-// The index of the first illegal byte, or the number of bytes where all are legal.
-pub fn first_illegal(cells: &[u8]) -> usize
-    ensures { λ r. ⌜ r ≡ firstIllegal (now (cells .entry)) ⌝ }
-{
-    for i in 0..cells.len() {
-        if 16 <= cells[i] {
-            return i;
-        }
-    }
-    cells.len()
 }
 
 // The symbols of a buffer of legal cells.

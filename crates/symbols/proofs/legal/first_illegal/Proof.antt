@@ -1,4 +1,4 @@
--- `symbols::mapping::first_illegal` meets its contract: a search from the front.
+-- `symbols::legal::first_illegal` meets its contract: a search from the front.
 -- Assumes nothing.
 use Prim.Native.Nat.{_-_}
 use lib.ListN.{length}
@@ -6,8 +6,8 @@ use borrow.Author.Tests.{le-leb, lt-leb}
 use Rattle.bits.specs.Seeking.{Seeking, seek}
 use Rattle.symbols.specs.Cells.{illegal, firstIllegal}
 use borrow.Author.Needs.{needs}
-use Rattle.symbols.proofs.mapping.first_illegal.Statement.{statement}
-use Rattle.symbols.proofs.mapping.first_illegal.Tie as tie
+use Rattle.symbols.proofs.legal.first_illegal.Statement.{statement}
+use Rattle.symbols.proofs.legal.first_illegal.Tie as tie
 
 ruleset kit = (needs, seek, le-leb, lt-leb)
 
