@@ -1,0 +1,5 @@
+-- Definitions first; the laws about each stand in the file below it.
+pub mod Frames
+pub mod Layout
+pub mod LayoutLaws
+pub mod PlaceLaws
