@@ -144,6 +144,9 @@ pub cells-all : (s : ℕ) → payloadCells s + overheadCells s ≡ 3712
 unfolding overheadCells payloadCells
 cells-all s = both-kinds s 3712
 
+pub edge-cells : (s : ℕ) → edge s ≤ overheadCells s
+edge-cells s = omega (arith, overheadCells-gap s, gap-edge s, edge-le s)
+
 -- "3,490 cells in sub-frame 0, 3,586 in each other"; "222 for sub-frame 0, then 126 each".
 pub overhead-zeroth : overheadCells 0 ≡ 222
 unfolding gap
@@ -159,12 +162,59 @@ payload-zeroth = omega (arith, cells-all 0, overhead-zeroth)
 pub payload-other : (s : ℕ) → s ≢ 0 → payloadCells s ≡ 3586
 payload-other s n = omega (arith, cells-all s, overhead-other s n)
 
+-- The numbers of sub-frame 0 and of the others together, as the code has them.
+pub record Sizes (s e g o p : ℕ) : Type 0 where
+  pub edge-is : e ≡ edge s
+  pub gap-is : g ≡ gap s
+  pub overhead-is : o ≡ overheadCells s
+  pub payload-is : p ≡ payloadCells s
+
+pub sizes-zeroth : {s : ℕ} → s ≡ 0 → Sizes s 110 106 222 3490
+unfolding edge gap
+sizes-zeroth {s} z =
+    let g : gap s ≡ 106 = simp (eq-eqb s 0 z) in
+    record {
+      edge-is = simp (eq-eqb s 0 z);
+      gap-is = sym g;
+      overhead-is = omega (arith, overheadCells-gap s);
+      payload-is = omega (arith, overheadCells-gap s, cells-all s);
+    }
+
+pub sizes-other : {s : ℕ} → s ≢ 0 → Sizes s 11 10 126 3586
+unfolding edge gap
+sizes-other {s} z =
+    let g : gap s ≡ 10 = simp (ne-eqb s 0 z) in
+    record {
+      edge-is = simp (ne-eqb s 0 z);
+      gap-is = sym g;
+      overhead-is = omega (arith, overheadCells-gap s);
+      payload-is = omega (arith, overheadCells-gap s, cells-all s);
+    }
+
 -- ---- where a sub-frame starts
+
+pub overheadStart-next : (s : ℕ) → overheadStart (suc s) ≡ overheadStart s + overheadCells s
+unfolding overheadStart count
+overheadStart-next s = refl
 
 pub overheadStart-closed : (t : ℕ) → overheadStart (suc t) ≡ 222 + 126 * t
 unfolding overheadStart count
 overheadStart-closed zero = omega (arith, overhead-zeroth)
 overheadStart-closed (suc t) = omega (arith, overheadStart-closed t, overhead-other (suc t) (omega arith))
+
+-- As the code has it.
+pub start-zeroth : (s : ℕ) → s ≡ 0 → overheadStart s ≡ 0
+unfolding overheadStart count
+start-zeroth zero z = refl
+start-zeroth (suc s) z = absurd (omega arith)
+
+pub start-other : (s : ℕ) → s ≢ 0 → overheadStart s ≡ s * 126 + 96
+start-other zero z = absurd (z refl)
+start-other (suc s) z = omega (arith, overheadStart-closed s)
+
+-- A sub-frame's part of the overhead list ends inside it.
+pub own-within : (s : ℕ) → s ≤ 47 → overheadStart s + overheadCells s ≤ 6144
+own-within s l = omega (arith, overheadStart-next s, overheadStart-closed s)
 
 pub payloadStart-closed : (t : ℕ) → payloadStart (suc t) ≡ 3490 + 3586 * t
 unfolding payloadStart count

@@ -3,3 +3,7 @@ pub mod Frames
 pub mod Layout
 pub mod LayoutLaws
 pub mod PlaceLaws
+pub mod FrameLaws
+pub mod ByteLaws
+pub mod Calls
+pub mod CallLaws

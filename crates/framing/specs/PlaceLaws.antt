@@ -12,7 +12,7 @@ use lib.Dec.{eqb, ltb}
 use Rattle.bits.specs.Count.{count}
 use Rattle.framing.specs.Frames.{isOverhead, overheadBefore, payloadBefore, overheadCells, payloadCells, payloadStart, firstBelow, carries, payloadCell, subFrameOf, cellOf}
 use Rattle.framing.specs.Layout.{edge, gap, spot}
-use Rattle.framing.specs.LayoutLaws.{Place, low, pilot, rest, place, low-is, pilot-is, rest-is, which, payload-rest, payload-zeroth, payload-other, cells-all, overheadCells-gap, edge-le, Stands, spot-stands, spot-of, payloadStart-closed, payload-all}
+use Rattle.framing.specs.LayoutLaws.{Place, low, pilot, rest, place, low-is, pilot-is, rest-is, which, overhead-low, overhead-pilot, edge-cells, payload-rest, payload-zeroth, payload-other, cells-all, overheadCells-gap, edge-le, Stands, spot-stands, spot-of, payloadStart-closed, payload-all}
 
 -- ---- the first number that passes
 
@@ -23,6 +23,17 @@ firstBelow-is (suc n) p zero l e all = simp e
 firstBelow-is (suc n) p (suc i) l e all =
     let z : p 0 ≡ false = all 0 (omega arith) in
     simp z (ap suc (firstBelow-is n (λ k. p (suc k)) i (le-of-suc-le-suc l) e (λ k lk. all (suc k) (omega arith))))
+
+-- ---- overhead cells of a sub-frame
+
+-- The index of an overhead cell is below the number of overhead cells.
+pub overhead-index-lt : (s m : ℕ) → m < 3712 → isOverhead s m ≡ true → overheadBefore s m < overheadCells s
+overhead-index-lt s m l e = go (place s m)
+  where
+    go : Place s m → overheadBefore s m < overheadCells s
+    go (low k t) = omega (arith, overhead-low s m k, edge-cells s)
+    go (pilot k z t) = omega (arith, overhead-pilot s m k z, overheadCells-gap s)
+    go (rest k z t) = let c : _≡_ {A = Bool} true false = sym e ∙ t in absurd (true≢false c)
 
 -- ---- payload cells of a sub-frame
 
