@@ -1,6 +1,6 @@
 -- Laws of the calls: what each answers and leaves in every case, one law a case for both calls; refused calls leave the buffer as it was.
 -- Assumes nothing.
-use mathlib.Core.Path.{_≡_, refl, ap, sym, _∙_}
+use mathlib.Core.Path.{_≡_, refl, ap, ap₂, sym, _∙_}
 use mathlib.Core.Bool.{Bool, true, false, cond, not, _||_}
 use mathlib.Core.List.{List}
 use mathlib.Core.Logic.{_≢_}
@@ -81,3 +81,84 @@ module _ (number : ℕ) (overhead frame payload read lent : List ℕ) (done : Af
               passes a h e = e ∙ sym (simp (eq-eqb _ _ lo, eq-eqb _ _ lf, le-ltb _ _ ln, eq-eqb _ _ fits, own-ok, off-no read to et h))
 
 pub ruleset sub-frame-cases = (list-misfit, frame-misfit, no-such-frame, payload-misfit, overhead-off-grid, read-off-grid, passes)
+
+-- ---- calls that pass
+
+module _ (number : ℕ) (overhead frame payload own : List ℕ) (n at to : ℕ) (eo : own ≡ ownOverhead number overhead) (ea : at ≡ firstIllegal own)
+    (en : n ≡ payloadCells number) (lo : length overhead ≡ 12288) (lf : length frame ≡ 7424) (ln : number ≤ 47) (lp : length payload ≡ n * 2)
+    (ok : length own ≤ at) where
+  pub frame-done : (d : List ℕ) → d ≡ framed number payload own → to ≡ firstIllegal payload → length payload ≤ to
+      → after (Done 0) d ≡ frameCall number payload overhead frame
+  frame-done d e et h =
+      passes number overhead frame payload payload frame (after (Done 0) (framed number payload (ownOverhead number overhead)))
+      lo lf ln n en lp own eo at ea ok to et (after (Done 0) d) h
+      (ap (after (Done 0)) (e ∙ ap (framed number payload) eo))
+
+  pub unframe-done : (d : List ℕ) (v : ℕ) → d ≡ unframed number frame → v ≡ differing number frame own → to ≡ firstIllegal frame → length frame ≤ to
+      → after (Done v) d ≡ unframeCall number frame overhead payload
+  unframe-done d v e ev et h =
+      passes number overhead frame payload frame payload (after (Done (differing number frame (ownOverhead number overhead))) (unframed number frame))
+      lo lf ln n en lp own eo at ea ok to et (after (Done v) d) h
+      (ap₂ (λ x y. after (Done x) y) (ev ∙ ap (differing number frame) eo) e)
+
+-- ---- refused calls leave the buffer as it was
+
+module _ (number : ℕ) (overhead frame payload read lent : List ℕ) (done : After) where
+  call-keeps : Kept lent done → Kept lent (subFrameCall number overhead frame payload read lent done)
+  unfolding subFrameCall
+  call-keeps k =
+      either (Kept lent) (not (eqb (length overhead) 12288)) _ _ (refused-kept lent Misfit)
+      (either (Kept lent) (not (eqb (length frame) 7424)) _ _ (refused-kept lent Misfit)
+      (either (Kept lent) (not (payloadFits number payload)) _ _ (refused-kept lent Misfit)
+      (either (Kept lent) (ltb 47 number) _ _ (refused-kept lent NoSuchFrame)
+      (either (Kept lent) (offGrid (ownOverhead number overhead)) _ _ (refused-kept lent (OffGrid (overheadIndex number overhead)))
+      (either (Kept lent) (offGrid read) _ _ (refused-kept lent (OffGrid (firstIllegal read))) k)))))
+
+pub frame-keeps : (number : ℕ) (payload overhead frame : List ℕ) → TurnedBack (frameCall number payload overhead frame .answer)
+    → frameCall number payload overhead frame .written ≡ frame
+frame-keeps number payload overhead frame =
+    call-keeps number overhead frame payload payload frame _ (done-kept frame (framed number payload (ownOverhead number overhead)) 0)
+
+pub unframe-keeps : (number : ℕ) (frame overhead payload : List ℕ) → TurnedBack (unframeCall number frame overhead payload .answer)
+    → unframeCall number frame overhead payload .written ≡ payload
+unframe-keeps number frame overhead payload =
+    call-keeps number overhead frame payload frame payload _ (done-kept payload (unframed number frame) (differing number frame (ownOverhead number overhead)))
+
+-- ---- calls that are accepted
+
+module _ (number : ℕ) (overhead frame payload : List ℕ) (ln : number ≤ 47) (lo : length overhead ≡ 12288) (lf : length frame ≡ 7424)
+    (lp : length payload ≡ payloadCells number * 2) (own : Legal (ownOverhead number overhead)) where
+  pub frame-accepts : Legal payload → frameCall number payload overhead frame ≡ after (Done 0) (framed number payload (ownOverhead number overhead))
+  frame-accepts legal =
+      sym
+      (frame-done number overhead frame payload (ownOverhead number overhead) (payloadCells number) (firstIllegal (ownOverhead number overhead)) (firstIllegal payload)
+      refl refl refl lo lf ln lp (none-illegal (ownOverhead number overhead) own) _ refl refl (none-illegal payload legal))
+
+  pub unframe-accepts : Legal frame
+      → unframeCall number frame overhead payload ≡ after (Done (differing number frame (ownOverhead number overhead))) (unframed number frame)
+  unframe-accepts legal =
+      sym
+      (unframe-done number overhead frame payload (ownOverhead number overhead) (payloadCells number) (firstIllegal (ownOverhead number overhead)) (firstIllegal frame)
+      refl refl refl lo lf ln lp (none-illegal (ownOverhead number overhead) own) _ _ refl refl refl (none-illegal frame legal))
+
+-- ---- each call undoes the other
+
+module _ (number : ℕ) (overhead frame payload : List ℕ) (ln : number ≤ 47) (lo : length overhead ≡ 12288) (lf : length frame ≡ 7424)
+    (lp : length payload ≡ payloadCells number * 2) (own : Legal (ownOverhead number overhead)) where
+  -- Unframing, lent what framing left and the same list, is accepted and gives the payload and 0, whatever stood in the buffers.
+  pub unframe-after-frame : (out : List ℕ) → length out ≡ payloadCells number * 2 → Legal payload
+      → unframeCall number (frameCall number payload overhead frame .written) overhead out ≡ after (Done 0) payload
+  unframe-after-frame out lq legal =
+      ap (λ a. unframeCall number (a .written) overhead out) (frame-accepts number overhead frame payload ln lo lf lp own legal)
+      ∙ unframe-accepts number overhead (framed number payload (ownOverhead number overhead)) out ln lo
+      (framed-length number payload (ownOverhead number overhead)) lq own
+      (framed-legal number payload (ownOverhead number overhead) lp (own-length number overhead ln lo) legal own)
+      ∙ ap₂ (λ v d. after (Done v) d) (differing-framed number payload (ownOverhead number overhead)) (unframed-framed number payload (ownOverhead number overhead) lp)
+
+  -- Framing, lent what unframing left and the same list, gives the frame back where no overhead cell differed.
+  pub frame-after-unframe : (out : List ℕ) → length out ≡ 7424 → Legal frame → differing number frame (ownOverhead number overhead) ≡ 0
+      → frameCall number (unframeCall number frame overhead payload .written) overhead out ≡ after (Done 0) frame
+  frame-after-unframe out lq legal zero =
+      ap (λ a. frameCall number (a .written) overhead out) (unframe-accepts number overhead frame payload ln lo lf lp own legal)
+      ∙ frame-accepts number overhead out (unframed number frame) ln lo lq (unframed-length number frame) own (unframed-legal number frame lf legal)
+      ∙ ap (after (Done 0)) (framed-unframed number frame (ownOverhead number overhead) lf zero)

@@ -181,7 +181,7 @@ pub own-legal : (s : ℕ) (overhead : List ℕ) → s ≤ 47 → length overhead
 own-legal s overhead l e h =
     record {
       legal = λ k lk. let i : k < overheadCells s * 2 = omega (arith, own-length s overhead l e) in
-      ap illegal (own-at s overhead k i) ∙ h .legal (overheadStart s * 2 + k) (omega (arith, own-within s l));
+          ap illegal (own-at s overhead k i) ∙ h .legal (overheadStart s * 2 + k) (omega (arith, own-within s l));
     }
 
 -- A buffer of n cells whose every byte is legal.
