@@ -1,0 +1,21 @@
+-- `framing::comparing::overhead_differs` meets its contract: one law for each of the three kinds of cells.
+-- Assumes nothing.
+use Rattle.framing.specs.ByteLaws.{overhead-differs}
+use borrow.Author.Needs.{needs}
+use Rattle.framing.proofs.comparing.overhead_differs.Statement.{statement}
+use Rattle.framing.proofs.comparing.overhead_differs.Tie as tie
+
+ruleset kit = (needs, overhead-differs)
+
+pub overhead-differs-spec : {M : Type 1} → statement M
+overhead-differs-spec =
+    tie.close
+    (tie.spec
+    (λ c κs. search kit)  -- edge-requires
+    (λ c κs. search kit)  -- cell-differs-requires
+    (λ c. search kit)  -- returns
+    (λ c. search kit)  -- returns-2
+    (λ c κs. search kit)  -- gap-requires
+    (λ c. search kit)  -- add-cell-differs
+    (λ c κs. search kit)  -- cell-differs-requires-2
+    (λ c. search kit))  -- returns-3

@@ -1,0 +1,22 @@
+-- `framing::placing::payload_byte` meets its contract: the closed form of the cell that carries a payload cell.
+-- Assumes nothing.
+use Rattle.framing.specs.ByteLaws.{payload-read}
+use borrow.Author.Needs.{needs}
+use Rattle.framing.proofs.placing.payload_byte.Statement.{statement}
+use Rattle.framing.proofs.placing.payload_byte.Tie as tie
+
+ruleset kit = (needs, payload-read)
+
+pub payload-byte-spec : {M : Type 1} → statement M
+payload-byte-spec =
+    tie.close
+    (tie.spec
+    (λ c κs. search kit)  -- gap-requires
+    (λ c. search kit)  -- add-k
+    (λ c. search kit)  -- mul-result
+    (λ c. search kit)  -- add-result
+    (λ c. search kit)  -- add-result-2
+    (λ c. search kit)  -- mul-result-2
+    (λ c. search kit)  -- add-result-3
+    (λ c. search kit)  -- shared-slice-read-result
+    (λ c. search kit))  -- returns

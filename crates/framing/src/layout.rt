@@ -1,0 +1,67 @@
+// The layout of a sub-frame: which cells are overhead, how many there are, and where its part of the overhead list stands.
+ghost use mathlib.Core.Path.{_≡_};
+ghost use Prim.Native.Nat.{_+_, _*_, _<_, _≤_};
+ghost use lib.ListN.{length};
+ghost use Rattle.framing.specs.Frames.{overheadCells, payloadCells, overheadStart, ownOverhead};
+ghost use Rattle.framing.specs.Layout.{edge, gap};
+
+// All cells of a sub-frame below this one are overhead, and of the others the pilots alone.
+pub fn edge(number: u32) -> usize
+    ensures { λ r. ⌜ (r ≡ edge number) × (r ≤ overheadCells number) ⌝ }
+{
+    if number == 0 {
+        return 110;
+    }
+    11
+}
+
+// How many of the cells below the edge are no pilots.
+pub fn gap(number: u32) -> usize
+    ensures { λ r. ⌜ (r ≡ gap number) × (r + 116 ≡ overheadCells number) × (r + 116 + payloadCells number ≡ 3712) ⌝ }
+{
+    if number == 0 {
+        return 106;
+    }
+    10
+}
+
+// The overhead cells of a sub-frame.
+fn overhead_cells(number: u32) -> usize
+    ensures { λ r. ⌜ r ≡ overheadCells number ⌝ }
+{
+    if number == 0 {
+        return 222;
+    }
+    126
+}
+
+// The payload cells of a sub-frame.
+pub fn payload_cells(number: u32) -> usize
+    ensures { λ r. ⌜ (r ≡ payloadCells number) × (r < 3712) ⌝ }
+{
+    if number == 0 {
+        return 3490;
+    }
+    3586
+}
+
+// The overhead cells of the sub-frames before this one.
+pub fn overhead_start(number: u32) -> usize
+    requires { ⌜ number ≤ 47 ⌝ }
+    ensures { λ r. ⌜ (r ≡ overheadStart number) × (r + overheadCells number ≤ 6144) ⌝ }
+{
+    if number == 0 {
+        return 0;
+    }
+    number as usize * 126 + 96
+}
+
+// The sub-frame's own part of the overhead list.
+pub fn own_overhead(number: u32, overhead: &[u8]) -> &[u8]
+    requires { ⌜ (number ≤ 47) × (length (now overhead) ≡ 12288) ⌝ }
+    ensures { λ r. ⌜ (now r ≡ ownOverhead number (now (overhead .entry))) × (length (now r) ≡ overheadCells number * 2) ⌝ }
+{
+    let a = overhead_start(number) * 2;
+    let e = a + overhead_cells(number) * 2;
+    &overhead[a..e]
+}

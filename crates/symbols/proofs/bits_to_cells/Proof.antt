@@ -1,0 +1,18 @@
+-- `symbols::bits_to_cells` meets its contract: one law for each case of its definition.
+-- Assumes nothing.
+use borrow.Author.Needs.{needs}
+use Rattle.symbols.specs.CallLaws.{map-cases}
+use Rattle.symbols.proofs.bits_to_cells.Statement.{statement}
+use Rattle.symbols.proofs.bits_to_cells.Tie as tie
+
+ruleset kit = (needs, map-cases)
+
+pub bits-to-cells-spec : {M : Type 1} → statement M
+bits-to-cells-spec =
+    tie.close
+    (tie.spec
+    (λ c. search kit)  -- returns
+    (λ c. search kit)  -- returns-2
+    (λ c κs. search kit)  -- map-requires
+    (λ c. search kit)  -- same-length
+    (λ c. search kit))  -- returns-3

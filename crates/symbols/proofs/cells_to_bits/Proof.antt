@@ -1,0 +1,20 @@
+-- `symbols::cells_to_bits` meets its contract: one law for each case of its definition.
+-- Assumes nothing.
+use borrow.Author.Needs.{needs}
+use Rattle.symbols.specs.CallLaws.{demap-cases}
+use Rattle.symbols.proofs.cells_to_bits.Statement.{statement}
+use Rattle.symbols.proofs.cells_to_bits.Tie as tie
+
+ruleset kit = (needs, demap-cases)
+
+pub cells-to-bits-spec : {M : Type 1} → statement M
+cells-to-bits-spec =
+    tie.close
+    (tie.spec
+    (λ c. search kit)  -- returns
+    (λ c. search kit)  -- returns-2
+    (λ c κs. search kit)  -- first-illegal-requires
+    (λ c. search kit)  -- returns-3
+    (λ c κs. search kit)  -- demap-requires
+    (λ c. search kit)  -- same-length
+    (λ c. search kit))  -- returns-4

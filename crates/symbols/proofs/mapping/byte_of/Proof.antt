@@ -1,0 +1,18 @@
+-- `symbols::mapping::byte_of` meets its contract: the four bits of I and the four of Q, in their places.
+-- Assumes nothing.
+use borrow.Author.Needs.{needs}
+use Rattle.symbols.specs.CellLaws.{byte-woven}
+use Rattle.symbols.proofs.mapping.byte_of.Statement.{statement}
+use Rattle.symbols.proofs.mapping.byte_of.Tie as tie
+
+ruleset kit = (needs, byte-woven)
+
+pub byte-of-spec : {M : Type 1} → statement M
+byte-of-spec =
+    tie.close
+    (tie.spec
+    (λ c κs. search kit)  -- weave-requires
+    (λ c. search kit)  -- mul-result
+    (λ c κs. search kit)  -- weave-requires-2
+    (λ c. search kit)  -- add-result
+    (λ c. search kit))  -- returns

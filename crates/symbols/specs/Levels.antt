@@ -1,0 +1,39 @@
+-- Levels. 01, "Cells": "A bit pair gives the level: 00 is −3, 01 is −1, 10 is 3, 11 is 1."
+-- A level is a signed number.
+-- Assumes nothing.
+use mathlib.Core.Bool.{cond}
+use Prim.Native.Nat.{ℕ, zero, suc, _*_, _/_}
+use lib.Dec.{eqb}
+use lib.IntN.{ℤ, pos, negsuc, negℤ, natAbs, _+ℤ_, _-ℤ_}
+
+-- The level of the bit pair (a, b).
+unfoldable pub level : ℕ → ℕ → ℤ
+level zero zero = negℤ (pos 3)
+level zero (suc b) = negℤ (pos 1)
+level (suc a) zero = pos 3
+level (suc a) (suc b) = pos 1
+
+-- The four levels.
+pub data Level : ℤ → Type 0 where
+  minus-three : Level (negℤ (pos 3))
+  minus-one : Level (negℤ (pos 1))
+  plus-three : Level (pos 3)
+  plus-one : Level (pos 1)
+
+-- "(I+3)/2" of a level I: its place, 0 to 3, among −3, −1, 1, 3.
+unfoldable pub ordinal : ℤ → ℕ
+ordinal l = natAbs (l +ℤ pos 3) / 2
+
+-- ---- read backwards
+
+-- The level I for which (I+3)/2 is k.
+unfoldable pub levelAt : ℕ → ℤ
+levelAt k = pos (2 * k) -ℤ pos 3
+
+-- The bit pair of a level: the first bit is 1 at 3 and 1, the second at −1 and 1.
+unfoldable pub firstBit : ℤ → ℕ
+firstBit (pos n) = 1
+firstBit (negsuc n) = 0
+
+unfoldable pub secondBit : ℤ → ℕ
+secondBit l = cond (eqb (natAbs l) 1) 1 0

@@ -1,0 +1,47 @@
+// Bits to cells and cells to bits (01, "Cells"): the two calls, each over a worker that takes any number of symbols.
+pub mod legal;
+mod levels;
+mod mapping;
+
+use calls::Answer;
+use calls::Refusal;
+ghost use mathlib.Core.Path.{_≡_};
+ghost use Rattle.symbols.specs.Calls.{after, bitsToCells, cellsToBits};
+
+// A buffer of bits: 172,032 of them, 21,504 symbols.
+const BITS: usize = 21504;
+
+// Its cells: two bytes a symbol.
+const CELLS: usize = 43008;
+
+// The cells of a buffer of bits.
+pub fn bits_to_cells(bits: &[u8], cells: &mut [u8]) -> Answer
+    ensures { λ r. ⌜ after r (now (cells .exit)) ≡ bitsToCells (now (bits .entry)) (now (cells .entry)) ⌝ }
+{
+    if bits.len() != BITS {
+        return Answer::Refused(Refusal::Misfit);
+    }
+    if cells.len() != CELLS {
+        return Answer::Refused(Refusal::Misfit);
+    }
+    mapping::map(bits, cells);
+    Answer::Done(0)
+}
+
+// The bits of a buffer of cells, all of which must be legal.
+pub fn cells_to_bits(cells: &[u8], bits: &mut [u8]) -> Answer
+    ensures { λ r. ⌜ after r (now (bits .exit)) ≡ cellsToBits (now (cells .entry)) (now (bits .entry)) ⌝ }
+{
+    if cells.len() != CELLS {
+        return Answer::Refused(Refusal::Misfit);
+    }
+    if bits.len() != BITS {
+        return Answer::Refused(Refusal::Misfit);
+    }
+    let at = legal::first_illegal(cells);
+    if at < cells.len() {
+        return Answer::Refused(Refusal::OffGrid(at));
+    }
+    mapping::demap(cells, bits);
+    Answer::Done(0)
+}

@@ -1,0 +1,67 @@
+// A symbol's byte to its cell and back, and the same for buffers of any number of symbols.
+use crate::levels::level;
+use crate::levels::ordinal;
+use crate::levels::pair;
+ghost use mathlib.Core.Path.{_≡_};
+ghost use Prim.Native.Nat.{_+_, _*_, _<_};
+ghost use lib.ListN.{length};
+ghost use Rattle.symbols.specs.Levels.{level, levelAt, firstBit, secondBit};
+ghost use Rattle.symbols.specs.Cells.{rails, cellByte, byteOfCell, Legal, toCells, toBits};
+
+// The byte 4×(I+3)/2 + (Q+3)/2 of the bit pairs (a, b) of I and (c, d) of Q.
+fn rails(a: u8, b: u8, c: u8, d: u8) -> u8
+    requires { ⌜ (a < 2) × (b < 2) × (c < 2) × (d < 2) ⌝ }
+    ensures { λ r. ⌜ r ≡ rails (level a b) (level c d) ⌝ }
+{
+    let i = level(a, b);
+    let q = level(c, d);
+    4 * ordinal(i) + ordinal(q)
+}
+
+// The X byte (h is 0) or the Y byte of a symbol's cell.
+fn cell_byte(b: u8, h: usize) -> u8
+    ensures { λ r. ⌜ r ≡ cellByte b h ⌝ }
+{
+    if h == 0 {
+        return rails(b / 128 % 2, b / 32 % 2, b / 8 % 2, b / 2 % 2);
+    }
+    rails(b / 64 % 2, b / 16 % 2, b / 4 % 2, b % 2)
+}
+
+// Four bits of a symbol: the pairs of an X level and of a Y level, by their ordinals, woven.
+fn weave(x: u8, y: u8) -> u8
+    requires { ⌜ (x < 4) × (y < 4) ⌝ }
+    ensures { λ r. ⌜ (r ≡ firstBit (levelAt x) * 8 + firstBit (levelAt y) * 4 + secondBit (levelAt x) * 2 + secondBit (levelAt y)) × (r < 16) ⌝ }
+{
+    let p = pair(x);
+    let q = pair(y);
+    p / 2 * 8 + q / 2 * 4 + p % 2 * 2 + q % 2
+}
+
+// The symbol's byte of a legal cell.
+fn byte_of(x: u8, y: u8) -> u8
+    requires { ⌜ (x < 16) × (y < 16) ⌝ }
+    ensures { λ r. ⌜ r ≡ byteOfCell x y ⌝ }
+{
+    weave(x / 4, y / 4) * 16 + weave(x % 4, y % 4)
+}
+
+// The cells of a buffer of symbols.
+pub fn map(bits: &[u8], cells: &mut [u8])
+    requires { ⌜ length (now cells) ≡ length (now bits) * 2 ⌝ }
+    ensures { λ _. ⌜ now (cells .exit) ≡ toCells (now (bits .entry)) ⌝ }
+{
+    for j in 0..cells.len() {
+        cells[j] = cell_byte(bits[j / 2], j % 2);
+    }
+}
+
+// The symbols of a buffer of legal cells.
+pub fn demap(cells: &[u8], bits: &mut [u8])
+    requires { ⌜ (length (now cells) ≡ length (now bits) * 2) × Legal (now cells) ⌝ }
+    ensures { λ _. ⌜ now (bits .exit) ≡ toBits (now (cells .entry)) ⌝ }
+{
+    for i in 0..bits.len() {
+        bits[i] = byte_of(cells[i * 2], cells[i * 2 + 1]);
+    }
+}
