@@ -1,0 +1,5 @@
+-- Definitions first; the laws about each stand in the file below it.
+pub mod Header
+pub mod HeaderLaws
+pub mod Writing
+pub mod WritingLaws
