@@ -5,10 +5,11 @@ use mathlib.Core.List.{List}
 use mathlib.Core.Bool.{Bool, true, false, cond}
 use Prim.Native.Nat.{ℕ, _+_, _*_, _^_, _<_, _≤_}
 use native.Mathlib.Omega.{arith}
-use borrow.Author.Tests.{lt-ltb, le-ltb, le-leb, eq-eqb, leb-true, eqb-true}
-use lib.Dec.{eqb}
+use borrow.Author.Tests.{lt-ltb, le-ltb, le-leb, eq-eqb, leb-true, eqb-true, ltb-true, ltb-false}
+use lib.Dec.{eqb, ltb}
 use Rattle.bits.specs.Tests.{both}
 use Rattle.calls.specs.declared.Answer.the-variants.{Done, Refused}
+use Rattle.calls.specs.declared.Refusal.{Refusal}
 use Rattle.calls.specs.declared.Refusal.the-variants.{Misfit, BadHeader}
 use Rattle.linefile.specs.declared.rules.Header.{Header}
 use Rattle.linefile.specs.Header.{number, rulesHold, good, refused, judged}
@@ -24,7 +25,7 @@ pub record Rules (n o f total size : ℕ) : Type 0 where
   pub sum : total ≡ f + 356352 * n
   pub whole : total ≡ size
 
-both-true : (a b : Bool) → both a b ≡ true → (a ≡ true) × (b ≡ true)
+pub both-true : (a b : Bool) → both a b ≡ true → (a ≡ true) × (b ≡ true)
 both-true true b e = (refl, e)
 both-true false b e = let z : _≡_ {A = ℕ} 0 1 = cc in absurd (omega arith)
 
@@ -82,6 +83,12 @@ pub ruleset one-by-one = (none, too-many, list-early, frames-early, other-sum, l
 
 -- ---- the judgement, case by case
 
+-- The header in these bytes is that of a file of so many bytes.
+pub record Sound (bytes : List ℕ) (size : ℕ) : Type 0 where
+  pub long : 16 ≤ size
+  pub rules : Rules (number bytes 0) (number bytes 1) (number bytes 2) (number bytes 3) size
+  pub is : judged bytes size ≡ good (number bytes 0) (number bytes 1) (number bytes 2) (number bytes 3)
+
 module _ (bytes : List ℕ) (size : ℕ) where
   pub judged-short : size < 16 → judged bytes size ≡ refused Misfit
   unfolding judged
@@ -95,6 +102,18 @@ module _ (bytes : List ℕ) (size : ℕ) where
       → judged bytes size ≡ good (number bytes 0) (number bytes 1) (number bytes 2) (number bytes 3)
   unfolding judged
   judged-good l r = simp (le-ltb _ _ l, rules-true _ _ _ _ _ r)
+
+  -- A header that is not refused keeps the rules, and its numbers are those of the bytes.
+  pub judged-done : (v : ℕ) → judged bytes size .answer ≡ Done v → Sound bytes size
+  judged-done v e = go (ltb size 16) refl (rulesHold (number bytes 0) (number bytes 1) (number bytes 2) (number bytes 3) size) refl
+    where
+      never : (h : Header) (r : Refusal) → judged bytes size ≡ h → h .answer ≡ Refused r → ⊥
+      never h r p q = let z : _≡_ {A = ℕ} 0 1 = cc (ap (λ (x : Header). x .answer) p) in omega arith
+
+      go : (b : Bool) → ltb size 16 ≡ b → (c : Bool) → rulesHold (number bytes 0) (number bytes 1) (number bytes 2) (number bytes 3) size ≡ c → Sound bytes size
+      go true p c q = absurd (never (refused Misfit) Misfit (judged-short (ltb-true _ _ p)) refl)
+      go false p true q = let l = ltb-false _ _ p in let r = rules-are _ _ _ _ _ q in record { long = l; rules = r; is = judged-good l r }
+      go false p false q = absurd (never (refused BadHeader) BadHeader (judged-broken (ltb-false _ _ p) (λ r. let z : _≡_ {A = ℕ} 0 1 = cc (rules-true _ _ _ _ _ r) in omega arith)) refl)
 
   -- The same as a worker meets them: it has the numbers, and whether the rules hold.
   pub case-short : (h : Header) → h ≡ refused Misfit → size < 16 → h ≡ judged bytes size

@@ -16,8 +16,8 @@ unfoldable pub byteOf : ℕ → ℕ → ℕ
 byteOf x k = x / 2 ^ (24 - 8 * k) % 256
 
 -- The sixteen bytes of a header with these four numbers.
-unfoldable pub headerOf : List ℕ → List ℕ
-headerOf numbers = tabulate 16 (λ i. byteOf (getD numbers (i / 4) 0) (i % 4))
+unfoldable pub headerBytes : List ℕ → List ℕ
+headerBytes numbers = tabulate 16 (λ i. byteOf (getD numbers (i / 4) 0) (i % 4))
 
 -- n, o, f and total length of the header that is written: "a writer uses o = 16, f = 12,304".
 abbrev pub numbersFor : ℕ → List ℕ
@@ -36,6 +36,6 @@ unfoldable pub writeCall : ℕ → List ℕ → Written
 writeCall n header =
     cond (eqb (length header) 16)
     (cond (both (leb 1 n) (leb n 64))
-    (written (Done 0) (headerOf (numbersFor n)))
+    (written (Done 0) (headerBytes (numbersFor n)))
     (written (Refused BadHeader) header))
     (written (Refused Misfit) header)

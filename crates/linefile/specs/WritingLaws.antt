@@ -8,7 +8,7 @@ use borrow.Author.Tests.{le-leb, lt-leb, eq-eqb, ne-eqb}
 use lib.ListN.{length}
 use Rattle.calls.specs.declared.Answer.the-variants.{Done, Refused}
 use Rattle.calls.specs.declared.Refusal.the-variants.{Misfit, BadHeader}
-use Rattle.linefile.specs.Writing.{headerOf, numbersFor, written, writeCall}
+use Rattle.linefile.specs.Writing.{headerBytes, numbersFor, written, writeCall}
 
 -- ---- the call, case by case
 
@@ -25,7 +25,7 @@ module _ (n : ℕ) (header : List ℕ) where
   unfolding writeCall
   write-too-many e l = let one : 1 ≤ n = omega arith in simp (eq-eqb _ _ e, le-leb _ _ one, lt-leb _ _ l)
 
-  pub write-done : (h : List ℕ) → length header ≡ 16 → 1 ≤ n → n ≤ 64 → h ≡ headerOf (numbersFor n) → written (Done 0) h ≡ writeCall n header
+  pub write-done : (h : List ℕ) → length header ≡ 16 → 1 ≤ n → n ≤ 64 → h ≡ headerBytes (numbersFor n) → written (Done 0) h ≡ writeCall n header
   unfolding writeCall
   write-done h e a b q = rw q (simp (eq-eqb _ _ e, le-leb _ _ a, le-leb _ _ b))
 

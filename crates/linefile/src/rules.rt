@@ -49,7 +49,7 @@ fn rules_hold(n: usize, o: usize, f: usize, total: usize, size: usize) -> bool
     total == size
 }
 
-fn refused(r: Refusal) -> Header
+pub fn refused(r: Refusal) -> Header
     ensures { λ h. ⌜ h ≡ header·refused r ⌝ }
 {
     Header {

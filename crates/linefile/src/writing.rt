@@ -4,7 +4,7 @@ use calls::Refusal;
 ghost use mathlib.Core.Path.{_≡_};
 ghost use Prim.Native.Nat.{_<_};
 ghost use lib.ListN.{length};
-ghost use Rattle.linefile.specs.Writing.{byteOf, headerOf, written, writeCall};
+ghost use Rattle.linefile.specs.Writing.{byteOf, headerBytes, written, writeCall};
 
 // Byte k of a number, 0 the most significant.
 fn byte_of(x: u32, k: usize) -> u8
@@ -17,7 +17,7 @@ fn byte_of(x: u32, k: usize) -> u8
 // Writes four numbers as a header.
 fn put_numbers(numbers: &[u32], header: &mut [u8])
     requires { ⌜ (length (now numbers) ≡ 4) × (length (now header) ≡ 16) ⌝ }
-    ensures { λ _. ⌜ now (header .exit) ≡ headerOf (now (numbers .entry)) ⌝ }
+    ensures { λ _. ⌜ now (header .exit) ≡ headerBytes (now (numbers .entry)) ⌝ }
 {
     for i in 0..16 {
         header[i] = byte_of(numbers[i / 4], i % 4);

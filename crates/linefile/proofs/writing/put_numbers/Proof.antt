@@ -1,7 +1,7 @@
 -- `linefile::put_numbers` meets its contract: the buffer is filled byte by byte.
 -- Assumes nothing.
 use Rattle.bits.specs.Filling.{Filling, fill}
-use Rattle.linefile.specs.Writing.{byteOf, headerOf}
+use Rattle.linefile.specs.Writing.{byteOf, headerBytes}
 use Prim.Native.Nat.{_-_, _/_, _%_}
 use lib.ListN.{getD}
 use borrow.Author.Needs.{needs}
@@ -17,7 +17,7 @@ abbrev μ-loop : tie.MeasureT-loop
 μ-loop numbers header₀ i₀ header i = 16 - i
 
 pub put-numbers-spec : {M : Type 1} → statement M
-unfolding headerOf
+unfolding headerBytes
 put-numbers-spec =
     tie.close
     (tie.spec
