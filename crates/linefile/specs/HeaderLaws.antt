@@ -6,13 +6,31 @@ use mathlib.Core.Bool.{Bool, true, false, cond}
 use Prim.Native.Nat.{ℕ, _+_, _*_, _^_, _<_, _≤_}
 use native.Mathlib.Omega.{arith}
 use borrow.Author.Tests.{lt-ltb, le-ltb, le-leb, eq-eqb, leb-true, eqb-true, ltb-true, ltb-false}
+use mathlib.Core.Logic.{_⊎_, inl, inr, ⊎-elim}
 use lib.Dec.{eqb, ltb}
+use lib.ListN.{getD, take}
+use lib.Seq.{getD-take}
 use Rattle.bits.specs.Tests.{both}
 use Rattle.calls.specs.declared.Answer.the-variants.{Done, Refused}
 use Rattle.calls.specs.declared.Refusal.{Refusal}
 use Rattle.calls.specs.declared.Refusal.the-variants.{Misfit, BadHeader}
 use Rattle.linefile.specs.declared.rules.Header.{Header}
 use Rattle.linefile.specs.Header.{number, rulesHold, good, refused, judged}
+
+-- ---- the numbers
+
+-- A number of four bytes is one of 32 bits.
+pub number-below : (bytes : List ℕ) (k : ℕ) → ((i : ℕ) → getD bytes i 0 < 256) → number bytes k < 2 ^ 32
+unfolding number
+number-below bytes k small = omega (arith, small (4 * k), small (4 * k + 1), small (4 * k + 2), small (4 * k + 3))
+
+-- A header's numbers lie in its first sixteen bytes.
+pub number-first : (bytes more : List ℕ) (k : ℕ) → k < 4 → take 16 bytes ≡ take 16 more → number bytes k ≡ number more k
+unfolding number
+number-first bytes more k l e = rw (same (4 * k) (omega arith), same (4 * k + 1) (omega arith), same (4 * k + 2) (omega arith), same (4 * k + 3) (omega arith))
+  where
+    same : (i : ℕ) → i < 16 → getD bytes i 0 ≡ getD more i 0
+    same i h = sym (getD-take 16 bytes i 0 h) ∙ ap (λ (x : List ℕ). getD x i 0) e ∙ getD-take 16 more i 0 h
 
 -- ---- the rules
 
@@ -83,10 +101,14 @@ pub ruleset one-by-one = (none, too-many, list-early, frames-early, other-sum, l
 
 -- ---- the judgement, case by case
 
+-- The numbers in these bytes keep the rules in a file of so many bytes.
+abbrev pub RulesOf : List ℕ → ℕ → Type 0
+RulesOf bytes size = Rules (number bytes 0) (number bytes 1) (number bytes 2) (number bytes 3) size
+
 -- The header in these bytes is that of a file of so many bytes.
 pub record Sound (bytes : List ℕ) (size : ℕ) : Type 0 where
   pub long : 16 ≤ size
-  pub rules : Rules (number bytes 0) (number bytes 1) (number bytes 2) (number bytes 3) size
+  pub rules : RulesOf bytes size
   pub is : judged bytes size ≡ good (number bytes 0) (number bytes 1) (number bytes 2) (number bytes 3)
 
 module _ (bytes : List ℕ) (size : ℕ) where
@@ -94,26 +116,42 @@ module _ (bytes : List ℕ) (size : ℕ) where
   unfolding judged
   judged-short l = simp (lt-ltb _ _ l)
 
-  pub judged-broken : 16 ≤ size → (Rules (number bytes 0) (number bytes 1) (number bytes 2) (number bytes 3) size → ⊥) → judged bytes size ≡ refused BadHeader
+  pub judged-broken : 16 ≤ size → (RulesOf bytes size → ⊥) → judged bytes size ≡ refused BadHeader
   unfolding judged
   judged-broken l h = simp (le-ltb _ _ l, rules-false _ _ _ _ _ h)
 
-  pub judged-good : 16 ≤ size → Rules (number bytes 0) (number bytes 1) (number bytes 2) (number bytes 3) size
-      → judged bytes size ≡ good (number bytes 0) (number bytes 1) (number bytes 2) (number bytes 3)
+  pub judged-good : 16 ≤ size → RulesOf bytes size → Sound bytes size
   unfolding judged
-  judged-good l r = simp (le-ltb _ _ l, rules-true _ _ _ _ _ r)
+  judged-good l r = record { long = l; rules = r; is = simp (le-ltb _ _ l, rules-true _ _ _ _ _ r) }
+
+  -- There is no fourth case.
+  pub verdict : ((r : Refusal) × (judged bytes size ≡ refused r)) ⊎ Sound bytes size
+  verdict = go (ltb size 16) refl (rulesHold (number bytes 0) (number bytes 1) (number bytes 2) (number bytes 3) size) refl
+    where
+      go : (b : Bool) → ltb size 16 ≡ b → (c : Bool) → rulesHold (number bytes 0) (number bytes 1) (number bytes 2) (number bytes 3) size ≡ c
+          → ((r : Refusal) × (judged bytes size ≡ refused r)) ⊎ Sound bytes size
+      go true p c q = inl (Misfit, judged-short (ltb-true _ _ p))
+      go false p true q = inr (judged-good (ltb-false _ _ p) (rules-are _ _ _ _ _ q))
+      go false p false q =
+          inl (BadHeader, judged-broken (ltb-false _ _ p) (λ r. let z : _≡_ {A = ℕ} 0 1 = cc (rules-true _ _ _ _ _ r) in omega arith))
 
   -- A header that is not refused keeps the rules, and its numbers are those of the bytes.
   pub judged-done : (v : ℕ) → judged bytes size .answer ≡ Done v → Sound bytes size
-  judged-done v e = go (ltb size 16) refl (rulesHold (number bytes 0) (number bytes 1) (number bytes 2) (number bytes 3) size) refl
-    where
-      never : (h : Header) (r : Refusal) → judged bytes size ≡ h → h .answer ≡ Refused r → ⊥
-      never h r p q = let z : _≡_ {A = ℕ} 0 1 = cc (ap (λ (x : Header). x .answer) p) in omega arith
+  judged-done v e =
+      ⊎-elim (λ w. let z : _≡_ {A = ℕ} 0 1 = cc (ap (λ (x : Header). x .answer) (w .1)) in absurd (omega arith)) (λ w. w) verdict
 
-      go : (b : Bool) → ltb size 16 ≡ b → (c : Bool) → rulesHold (number bytes 0) (number bytes 1) (number bytes 2) (number bytes 3) size ≡ c → Sound bytes size
-      go true p c q = absurd (never (refused Misfit) Misfit (judged-short (ltb-true _ _ p)) refl)
-      go false p true q = let l = ltb-false _ _ p in let r = rules-are _ _ _ _ _ q in record { long = l; rules = r; is = judged-good l r }
-      go false p false q = absurd (never (refused BadHeader) BadHeader (judged-broken (ltb-false _ _ p) (λ r. let z : _≡_ {A = ℕ} 0 1 = cc (rules-true _ _ _ _ _ r) in omega arith)) refl)
+  -- A refused header has zeros.
+  pub judged-refused : (r : Refusal) → judged bytes size .answer ≡ Refused r → judged bytes size ≡ refused r
+  judged-refused r e =
+      ⊎-elim (λ w. w .1 ∙ ap refused (inner (w .0) (sym (ap (λ (x : Header). x .answer) (w .1)) ∙ e)))
+      (λ w. let z : _≡_ {A = ℕ} 0 1 = cc (ap (λ (x : Header). x .answer) (w .is)) in absurd (omega arith)) verdict
+    where
+      inner : (a : Refusal) → Refused a ≡ Refused r → a ≡ r
+      inner a p = cc
+
+  -- The numbers are below 2^32, so a count of the file's bytes may stop there: a longer file is refused whatever follows.
+  pub judged-long : ((i : ℕ) → getD bytes i 0 < 256) → 2 ^ 32 ≤ size → judged bytes size ≡ refused BadHeader
+  judged-long small l = judged-broken (omega arith) (λ r. omega (arith, number-below bytes 3 small, r .whole))
 
   -- The same as a worker meets them: it has the numbers, and whether the rules hold.
   pub case-short : (h : Header) → h ≡ refused Misfit → size < 16 → h ≡ judged bytes size

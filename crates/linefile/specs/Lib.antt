@@ -7,3 +7,4 @@ pub mod Reading
 pub mod ReadingLaws
 pub mod Writing
 pub mod WritingLaws
+pub mod Example

@@ -34,6 +34,9 @@ pub record OpenFile : Type 0 where
 abbrev pub openFile : List ℕ → ℕ → ℕ → ℕ → OpenFile
 openFile file n o f = record { file = file; superframes = n; overhead = o; frames = f }
 
--- "A refused opening holds the empty part and zeros."
+-- The file that is open by this header. "A refused opening holds the empty part and zeros."
+abbrev pub openWith : List ℕ → Header → OpenFile
+openWith file h = openFile (partWhen (h .answer) file) (h .superframes) (h .overhead) (h .frames)
+
 unfoldable pub openCall : List ℕ → OpenFile
-openCall file = openFile (openPart file) (headerOf file .superframes) (headerOf file .overhead) (headerOf file .frames)
+openCall file = openWith file (headerOf file)

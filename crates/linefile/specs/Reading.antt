@@ -10,7 +10,7 @@ use Rattle.calls.specs.declared.Answer.{Answer}
 use Rattle.calls.specs.declared.Answer.the-variants.{Done, Refused}
 use Rattle.calls.specs.declared.Refusal.the-variants.{BadHeader, NoSuchFrame}
 use Rattle.linefile.specs.Header.{number}
-use Rattle.linefile.specs.Opening.{openAnswer, partWhen}
+use Rattle.linefile.specs.Opening.{openAnswer, partWhen, OpenFile}
 
 -- The numbers n, o, f are those in the file's bytes.
 unfoldable pub sameNumbers : List ℕ → ℕ → ℕ → ℕ → Bool
@@ -41,3 +41,10 @@ startOf f q s = f + 356352 * q + 7424 * s
 -- hands back the empty part".
 unfoldable pub readPart : List ℕ → ℕ → ℕ → ℕ → ℕ → ℕ → List ℕ
 readPart file n o f q s = partWhen (readAnswer file n o f q s) (take 7424 (drop (startOf f q s) file))
+
+-- The same of an open file.
+abbrev pub readAnswerIn : OpenFile → ℕ → ℕ → Answer
+readAnswerIn d q s = readAnswer (d .file) (d .superframes) (d .overhead) (d .frames) q s
+
+abbrev pub readPartIn : OpenFile → ℕ → ℕ → List ℕ
+readPartIn d q s = readPart (d .file) (d .superframes) (d .overhead) (d .frames) q s

@@ -3,22 +3,27 @@
 use mathlib.Core.Path.{_≡_, refl, sym, ap, _∙_}
 use mathlib.Core.List.{List, []}
 use mathlib.Core.Bool.{Bool, true, false}
+use mathlib.Core.Logic.{_⊎_, inl, inr, ⊎-elim}
 use Prim.Native.Nat.{ℕ, _+_, _-_, _*_, _<_, _≤_}
-use native.Mathlib.Nat.{add-sub-cancel-left}
+use native.Mathlib.Nat.{add-sub-cancel-left, eq-zero-or-pos}
 use native.Mathlib.Omega.{arith}
 use borrow.Author.Tests.{lt-ltb, le-ltb, le-leb, lt-leb, eq-eqb, ne-eqb, ltb-true, leb-true, eqb-true}
 use lib.Dec.{leb, ltb}
-use lib.ListN.{length, take, drop}
+use lib.ListN.{length, getD, take, drop, length-drop}
+use lib.Seq.{length-take-le, getD-take, getD-drop}
 use Rattle.bits.specs.Tests.{both}
 use Rattle.calls.specs.declared.Answer.{Answer}
 use Rattle.calls.specs.declared.Answer.the-variants.{Done, Refused}
 use Rattle.calls.specs.declared.Refusal.{Refusal}
-use Rattle.calls.specs.declared.Refusal.the-variants.{BadHeader, NoSuchFrame}
+use Rattle.calls.specs.declared.Refusal.the-variants.{Misfit, BadHeader, NoSuchFrame}
+use Rattle.calls.specs.Answers.{refusalOf, Accepted, TurnedBack}
+use Rattle.calls.specs.AnswerLaws.{accepted-done}
 use Rattle.linefile.specs.declared.rules.Header.{Header}
 use Rattle.linefile.specs.Header.{number}
 use Rattle.linefile.specs.HeaderLaws.{Sound, both-true, judged-done}
-use Rattle.linefile.specs.Opening.{headerOf, openAnswer, partWhen}
-use Rattle.linefile.specs.Reading.{sameNumbers, andThen, readAnswer, startOf, readPart}
+use Rattle.linefile.specs.Opening.{headerOf, openAnswer, partWhen, openFile, openCall}
+use Rattle.linefile.specs.OpeningLaws.{open-done, open-refused, open-misfit}
+use Rattle.linefile.specs.Reading.{sameNumbers, andThen, readAnswer, readAnswerIn, startOf, readPart}
 
 -- ---- the companion, case by case
 
@@ -147,3 +152,64 @@ module _ (file : List ℕ) (n o f q s : ℕ) (h : Header) (is : h ≡ headerOf f
             sym (read-done file n o f q s v (answers (Done v) opens) (en ∙ numbers v opens .0) (eo ∙ numbers v opens .1) (ef ∙ numbers v opens .2) l k)
 
 pub ruleset read-cases = (case-closed, case-other-n, case-other-o, case-other-f, case-no-subframe, case-no-superframe, case-done)
+
+-- ---- what callers may lean on
+
+module _ (file : List ℕ) (n o f q s : ℕ) where
+  -- A refused reader hands back the empty part.
+  pub refused-empty : TurnedBack (readAnswer file n o f q s) → readPart file n o f q s ≡ []
+  unfolding readPart
+  refused-empty t = go (readAnswer file n o f q s) t
+    where
+      go : (a : Answer) → TurnedBack a → partWhen a (take 7424 (drop (startOf f q s) file)) ≡ []
+      go (Done v) h = absurd (h refl)
+      go (Refused r) h = refl
+
+  -- One that is not refused hands back the bytes of the file from the start of the stretch on, 7,424 of them.
+  pub accepted-reads : Accepted (readAnswer file n o f q s) → Reads file n o f q s
+  accepted-reads a = let d = accepted-done (readAnswer file n o f q s) a in reads file n o f q s (d .0) (d .1)
+
+  module _ (a : Accepted (readAnswer file n o f q s)) where
+    is-stretch : readPart file n o f q s ≡ take 7424 (drop (startOf f q s) file)
+    unfolding readPart
+    is-stretch = rw (accepted-done (readAnswer file n o f q s) a .1)
+
+    pub stretch-length : length (readPart file n o f q s) ≡ 7424
+    stretch-length = ap length is-stretch ∙ length-take-le 7424 (drop (startOf f q s) file) (simp length-drop (omega (arith, within file n o f q s (accepted-reads a))))
+
+    pub stretch-byte : (i : ℕ) → i < 7424 → getD (readPart file n o f q s) i 0 ≡ getD file (startOf f q s + i) 0
+    stretch-byte i l = ap (λ (p : List ℕ). getD p i 0) is-stretch ∙ getD-take 7424 (drop (startOf f q s) file) i 0 l ∙ getD-drop (startOf f q s) file i 0
+
+-- No byte of the file is in the stretches of two different sub-frames.
+pub apart : (f q s q′ s′ x : ℕ) → s ≤ 47 → s′ ≤ 47 → startOf f q s ≤ x → x < startOf f q s + 7424 → startOf f q′ s′ ≤ x → x < startOf f q′ s′ + 7424 → (q ≡ q′) × (s ≡ s′)
+apart f q s q′ s′ x hs hs′ a b a′ b′ = (omega arith, omega arith)
+
+-- Reading an opened file: no refusal but No. 4.
+module _ (file : List ℕ) (opens : Accepted (openAnswer file)) (q s : ℕ) where
+  done-as : (v : ℕ) × (openAnswer file ≡ Done v)
+  done-as = accepted-done (openAnswer file) opens
+
+  is-file : openCall file ≡ openFile file (number file 0) (number file 1) (number file 2)
+  is-file = open-done file (judged-done file (length file) (done-as .0) (done-as .1))
+
+  pub opened-done : s ≤ 47 → q < openCall file .superframes → readAnswerIn (openCall file) q s ≡ Done 0
+  opened-done l h = rw is-file (read-done file _ _ _ q s (done-as .0) (done-as .1) refl refl refl l (rw is-file at h))
+
+  pub opened-no-subframe : 47 < s → readAnswerIn (openCall file) q s ≡ Refused NoSuchFrame
+  opened-no-subframe l = rw is-file (read-no-subframe file _ _ _ q s (done-as .0) (done-as .1) refl refl refl l)
+
+  pub opened-no-superframe : s ≤ 47 → openCall file .superframes ≤ q → readAnswerIn (openCall file) q s ≡ Refused NoSuchFrame
+  opened-no-superframe l h = rw is-file (read-no-superframe file _ _ _ q s (done-as .0) (done-as .1) refl refl refl l (rw is-file at h))
+
+  pub never-1-or-2 : (refusalOf (readAnswerIn (openCall file) q s) ≡ 0) ⊎ (refusalOf (readAnswerIn (openCall file) q s) ≡ 4)
+  never-1-or-2 =
+      ⊎-elim (λ l. inr (ap refusalOf (opened-no-subframe l)))
+      (λ l. ⊎-elim (λ h. inl (ap refusalOf (opened-done l h))) (λ h. inr (ap refusalOf (opened-no-superframe l h))) (below q (openCall file .superframes)))
+      (below 47 s)
+    where
+      below : (a b : ℕ) → (a < b) ⊎ (b ≤ a)
+      below a b = ⊎-elim (λ e. inr (omega arith)) (λ l. inl (omega arith)) (eq-zero-or-pos (b - a))
+
+-- A refused opening holds the empty part, so that reading it is refused too.
+pub closed-misfit : (file : List ℕ) (r : Refusal) (q s : ℕ) → openAnswer file ≡ Refused r → readAnswerIn (openCall file) q s ≡ Refused Misfit
+closed-misfit file r q s e = rw (open-refused file r e) (read-closed [] 0 0 0 q s Misfit (open-misfit [] (omega arith)))
