@@ -53,3 +53,8 @@ module _ (file : List ℕ) where
   -- Header, overhead list and frames follow each other, and the frames end with the file.
   pub in-order : Sound file (length file) → (16 ≤ number file 1) × (number file 1 + 12288 ≤ number file 2) × (number file 2 + 356352 * number file 0 ≡ length file)
   in-order s = let r = s .rules in (r .after-header, r .after-list, sym (r .sum) ∙ r .whole)
+
+-- The open file put together from the header and the part that it holds.
+pub put-together : (file part : List ℕ) (h : Header) → h ≡ headerOf file → part ≡ openPart file → openFile part (h .superframes) (h .overhead) (h .frames) ≡ openCall file
+unfolding openCall
+put-together file part h eh ep = rw (ep, eh)

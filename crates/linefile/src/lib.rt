@@ -3,6 +3,7 @@ mod opening;
 mod reading;
 mod rules;
 mod writing;
+mod line_file;
 
 pub use opening::open_answer;
 pub use opening::open_header;
@@ -13,3 +14,7 @@ pub use reading::start;
 pub use rules::Header;
 pub use rules::judge;
 pub use writing::write_header;
+pub use line_file::LineFile;
+pub use line_file::open;
+pub use line_file::read;
+pub use line_file::read_answer;
