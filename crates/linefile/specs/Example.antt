@@ -4,7 +4,6 @@ use mathlib.Core.Path.{_≡_, refl}
 use mathlib.Core.List.{List, [], _∷_}
 use Prim.Native.Nat.{ℕ}
 use Rattle.bits.specs.Lists.{tabulate}
-use Rattle.bits.specs.Tests.{both}
 use Rattle.linefile.specs.Header.{number, rulesHold, good, judged}
 use Rattle.linefile.specs.Writing.{byteOf, headerBytes, numbersFor}
 

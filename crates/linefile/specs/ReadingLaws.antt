@@ -4,7 +4,7 @@ use mathlib.Core.Path.{_≡_, refl, sym, ap, _∙_}
 use mathlib.Core.List.{List, []}
 use mathlib.Core.Bool.{Bool, true, false}
 use mathlib.Core.Logic.{_⊎_, inl, inr, ⊎-elim}
-use Prim.Native.Nat.{ℕ, _+_, _-_, _*_, _<_, _≤_}
+use Prim.Native.Nat.{ℕ, _+_, _-_, _<_, _≤_}
 use native.Mathlib.Nat.{add-sub-cancel-left, eq-zero-or-pos}
 use native.Mathlib.Omega.{arith}
 use borrow.Author.Tests.{lt-ltb, le-ltb, le-leb, lt-leb, eq-eqb, ne-eqb, ltb-true, leb-true, eqb-true}
@@ -23,7 +23,7 @@ use Rattle.linefile.specs.Header.{number}
 use Rattle.linefile.specs.HeaderLaws.{Sound, both-true, judged-done}
 use Rattle.linefile.specs.Opening.{headerOf, openAnswer, partWhen, openFile, openCall}
 use Rattle.linefile.specs.OpeningLaws.{open-done, open-refused, open-misfit}
-use Rattle.linefile.specs.Reading.{sameNumbers, andThen, readAnswer, readAnswerIn, startOf, readPart}
+use Rattle.linefile.specs.Reading.{sameNumbers, readAnswer, readAnswerIn, startOf, readPart}
 
 -- ---- the companion, case by case
 

@@ -1,10 +1,10 @@
 // An open line file as one thing: the lent file with its header numbers. Each function takes it apart, or puts it together,
 // and leaves the work to one with plain parameters.
-use calls::Answer;
 use crate::opening::open_header;
 use crate::opening::open_part;
 use crate::reading::read_answer_at;
 use crate::reading::read_at;
+use calls::Answer;
 ghost use mathlib.Core.Path.{_≡_};
 ghost use Rattle.linefile.specs.Opening.{openFile, openCall};
 ghost use Rattle.linefile.specs.Reading.{readAnswerIn, readPartIn};
@@ -33,12 +33,26 @@ pub fn open<'a>(file: &'a [u8]) -> LineFile<'a>
 pub fn read<'a>(line: LineFile<'a>, superframe: u32, subframe: u32) -> &'a [u8]
     ensures { λ r. ⌜ now r ≡ readPartIn (openFile (now (line .entry .file)) (line .entry .superframes) (line .entry .overhead) (line .entry .frames)) superframe subframe ⌝ }
 {
-    read_at(line.file, line.superframes, line.overhead, line.frames, superframe, subframe)
+    read_at(
+        line.file,
+        line.superframes,
+        line.overhead,
+        line.frames,
+        superframe,
+        subframe,
+    )
 }
 
 // The reader's companion.
 pub fn read_answer<'a>(line: LineFile<'a>, superframe: u32, subframe: u32) -> Answer
     ensures { λ r. ⌜ r ≡ readAnswerIn (openFile (now (line .entry .file)) (line .entry .superframes) (line .entry .overhead) (line .entry .frames)) superframe subframe ⌝ }
 {
-    read_answer_at(line.file, line.superframes, line.overhead, line.frames, superframe, subframe)
+    read_answer_at(
+        line.file,
+        line.superframes,
+        line.overhead,
+        line.frames,
+        superframe,
+        subframe,
+    )
 }
