@@ -1,0 +1,23 @@
+-- `linefile::read_answer_at` meets its contract: the cases of the companion.
+-- Assumes nothing.
+use Rattle.linefile.specs.ReadingLaws.{read-cases}
+use borrow.Author.Needs.{needs}
+use Rattle.linefile.proofs.reading.read_answer_at.Statement.{statement}
+use Rattle.linefile.proofs.reading.read_answer_at.Tie as tie
+
+ruleset kit = (needs, read-cases)
+
+pub read-answer-at-spec : {M : Type 1} → statement M
+read-answer-at-spec =
+    tie.close
+    (tie.spec
+    (λ c κs. search kit)  -- open-header-requires
+    (λ c. search kit)  -- enum-known-opening
+    (λ c. search kit)  -- returns
+    (λ c. search kit)  -- enum-told
+    (λ c. search kit)  -- returns-2
+    (λ c. search kit)  -- returns-3
+    (λ c. search kit)  -- returns-4
+    (λ c. search kit)  -- returns-5
+    (λ c. search kit)  -- returns-6
+    (λ c. search kit))  -- returns-7

@@ -1,0 +1,22 @@
+-- `linefile::write_header` meets its contract: the cases of the call.
+-- Assumes nothing.
+use Rattle.linefile.specs.WritingLaws.{write-cases}
+use borrow.Author.Needs.{needs}
+use Rattle.linefile.proofs.writing.write_header.Statement.{statement}
+use Rattle.linefile.proofs.writing.write_header.Tie as tie
+
+ruleset kit = (needs, write-cases)
+
+pub write-header-spec : {M : Type 1} → statement M
+write-header-spec =
+    tie.close
+    (tie.spec
+    (λ c. search kit)  -- returns
+    (λ c. search kit)  -- returns-2
+    (λ c. search kit)  -- returns-3
+    (λ c. search kit)  -- mul-t9
+    (λ c. search kit)  -- add-t10
+    (λ c. search kit)  -- slice-aggregate-put-numbers
+    (λ c κs. search kit)  -- put-numbers-requires
+    (λ c. search kit)  -- same-length
+    (λ c. search kit))  -- returns-4

@@ -1,0 +1,58 @@
+// An open line file as one thing: the lent file with its header numbers. Each function takes it apart, or puts it together,
+// and leaves the work to one with plain parameters.
+use crate::opening::open_header;
+use crate::opening::open_part;
+use crate::reading::read_answer_at;
+use crate::reading::read_at;
+use calls::Answer;
+ghost use mathlib.Core.Path.{_≡_};
+ghost use Rattle.linefile.specs.Opening.{openFile, openCall};
+ghost use Rattle.linefile.specs.Reading.{readAnswerIn, readPartIn};
+
+pub struct LineFile<'a> {
+    pub file: &'a [u8],
+    pub superframes: u32,
+    pub overhead: u32,
+    pub frames: u32,
+}
+
+// Opens a lent file. `open_answer` is its companion.
+pub fn open<'a>(file: &'a [u8]) -> LineFile<'a>
+    ensures { λ r. ⌜ openFile (now (r .file)) (r .superframes) (r .overhead) (r .frames) ≡ openCall (now (file .entry)) ⌝ }
+{
+    let h = open_header(file);
+    LineFile {
+        file: open_part(file),
+        superframes: h.superframes,
+        overhead: h.overhead,
+        frames: h.frames,
+    }
+}
+
+// The reader.
+pub fn read<'a>(line: LineFile<'a>, superframe: u32, subframe: u32) -> &'a [u8]
+    ensures { λ r. ⌜ now r ≡ readPartIn (openFile (now (line .entry .file)) (line .entry .superframes) (line .entry .overhead) (line .entry .frames)) superframe subframe ⌝ }
+{
+    read_at(
+        line.file,
+        line.superframes,
+        line.overhead,
+        line.frames,
+        superframe,
+        subframe,
+    )
+}
+
+// The reader's companion.
+pub fn read_answer<'a>(line: LineFile<'a>, superframe: u32, subframe: u32) -> Answer
+    ensures { λ r. ⌜ r ≡ readAnswerIn (openFile (now (line .entry .file)) (line .entry .superframes) (line .entry .overhead) (line .entry .frames)) superframe subframe ⌝ }
+{
+    read_answer_at(
+        line.file,
+        line.superframes,
+        line.overhead,
+        line.frames,
+        superframe,
+        subframe,
+    )
+}

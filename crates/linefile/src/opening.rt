@@ -1,0 +1,36 @@
+// Opening a lent file: its header, the refusal, and the part that an open file holds.
+use crate::rules::Header;
+use crate::rules::judge;
+use crate::rules::refused;
+use calls::Answer;
+use calls::Refusal;
+ghost use mathlib.Core.Path.{_≡_};
+ghost use Rattle.linefile.specs.Opening.{headerOf, openAnswer, openPart};
+
+// What opening finds: the header's numbers, or the refusal with zeros.
+pub fn open_header(file: &[u8]) -> Header
+    ensures { λ r. ⌜ r ≡ headerOf (now (file .entry)) ⌝ }
+{
+    if file.len() < 16 {
+        return refused(Refusal::Misfit);
+    }
+    judge(file, file.len())
+}
+
+// The opening's companion: done, or the refusal.
+pub fn open_answer(file: &[u8]) -> Answer
+    ensures { λ r. ⌜ r ≡ openAnswer (now (file .entry)) ⌝ }
+{
+    let h = open_header(file);
+    h.answer
+}
+
+// The part that the open file holds: the whole file, or the empty part where opening is refused.
+pub fn open_part(file: &[u8]) -> &[u8]
+    ensures { λ r. ⌜ now r ≡ openPart (now (file .entry)) ⌝ }
+{
+    match open_answer(file) {
+        Answer::Done(_) => file,
+        Answer::Refused(_) => &file[..0],
+    }
+}

@@ -1,0 +1,67 @@
+// Reading a sub-frame of a file whose header numbers are given.
+use crate::opening::open_header;
+use calls::Answer;
+use calls::Refusal;
+ghost use mathlib.Core.Path.{_≡_};
+ghost use Rattle.linefile.specs.Reading.{startOf, readAnswer, readPart};
+
+// Where a sub-frame's stretch of the file starts.
+pub fn start(frames: u32, superframe: u32, subframe: u32) -> usize
+    ensures { λ r. ⌜ r ≡ startOf frames superframe subframe ⌝ }
+{
+    frames as usize + 356352 * superframe as usize + 7424 * subframe as usize
+}
+
+// The reader's companion: done, or the refusal.
+pub fn read_answer_at(
+    file: &[u8],
+    superframes: u32,
+    overhead: u32,
+    frames: u32,
+    superframe: u32,
+    subframe: u32,
+) -> Answer
+    ensures { λ r. ⌜ r ≡ readAnswer (now (file .entry)) superframes overhead frames superframe subframe ⌝ }
+{
+    let h = open_header(file);
+    let opening = h.answer;
+    if let Answer::Refused(r) = opening {
+        return Answer::Refused(r);
+    }
+    if superframes != h.superframes {
+        return Answer::Refused(Refusal::BadHeader);
+    }
+    if overhead != h.overhead {
+        return Answer::Refused(Refusal::BadHeader);
+    }
+    if frames != h.frames {
+        return Answer::Refused(Refusal::BadHeader);
+    }
+    if 47 < subframe {
+        return Answer::Refused(Refusal::NoSuchFrame);
+    }
+    if superframes <= superframe {
+        return Answer::Refused(Refusal::NoSuchFrame);
+    }
+    Answer::Done(0)
+}
+
+// The reader: the sub-frame's own stretch of the lent file, or the empty part where it is refused.
+pub fn read_at(
+    file: &[u8],
+    superframes: u32,
+    overhead: u32,
+    frames: u32,
+    superframe: u32,
+    subframe: u32,
+) -> &[u8]
+    ensures { λ r. ⌜ now r ≡ readPart (now (file .entry)) superframes overhead frames superframe subframe ⌝ }
+{
+    match read_answer_at(file, superframes, overhead, frames, superframe, subframe) {
+        Answer::Done(_) => {
+            let a = start(frames, superframe, subframe);
+            &file[a..a + 7424]
+        }
+        Answer::Refused(_) => &file[..0],
+    }
+}
