@@ -1,4 +1,4 @@
-// The code of 01, "Code words": the types that its definitions use; the functions are in `words`.
+// The code of 01, "Code words": the types that its definitions use; the functions are in `checkword`.
 
 // What the repair of a word flips: nothing, one place, two places (rising); or no code word is within two flips.
 pub enum Repair {

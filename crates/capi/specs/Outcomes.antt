@@ -7,7 +7,7 @@ use Prim.Native.Nat.{ℕ}
 use lib.Dec.{eqb}
 use Rattle.calls.specs.declared.Answer.{Answer}
 use Rattle.calls.specs.Answers.{refusalOf, indexOf, valueOr}
-use Rattle.words.specs.Calls.{Repaired, afterRepair, repairCall}
+use Rattle.checkword.specs.Calls.{Repaired, afterRepair, repairCall}
 use Rattle.capi.specs.declared.Outcome.{Outcome}
 
 -- Refusal number, value and index of an answer; `refused` is the value of a refused call.

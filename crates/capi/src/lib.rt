@@ -1,6 +1,6 @@
 // The library for C and Rust: one exported function for each entry point, buffers as pointer and length. See include/ofec.h.
 ghost use mathlib.Core.Path.{_≡_};
-ghost use Rattle.words.specs.Calls.{repairCall};
+ghost use Rattle.checkword.specs.Calls.{repairCall};
 ghost use Rattle.capi.specs.Outcomes.{outcomeOf, wordOutcome, afterWord, flag};
 use calls::Answer;
 
@@ -28,5 +28,5 @@ fn outcome_of(a: Answer, refused: u32) -> Outcome
 pub extern "C" fn ofec_repair_word(word: &mut [u8], front: u32) -> Outcome
     ensures { λ r. ⌜ afterWord r (now (word .exit)) ≡ wordOutcome (repairCall (now (word .entry)) (flag front)) ⌝ }
 {
-    outcome_of(words::repair_word(word, front != 0), 0)
+    outcome_of(checkword::repair_word(word, front != 0), 0)
 }

@@ -17,7 +17,7 @@ fn encode_word(history: &[u8], payload: &[u8], pair: u32, w: usize, back: &mut [
     ensures { λ _. ⌜ now (back .exit) ≡ backHalf (encodedWord (now (history .entry)) pair (now (payload .entry))) w ⌝ }
 {
     let mut word = open_word(history, payload, pair, w);
-    bch::completion::complete(&mut word);
+    checkword::completion::complete(&mut word);
     put_back_half(&word, back);
 }
 

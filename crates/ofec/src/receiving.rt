@@ -19,9 +19,9 @@ fn receive_word(history: &[u8], coded: &[u8], pair: u32, w: usize, back: &mut [u
     ensures { λ r. ⌜ (r ≡ mark (repairOf (now (history .entry)) pair (now (coded .entry)) w)) × (now (back .exit) ≡ backHalf (mendedWord (now (history .entry)) pair (now (coded .entry))) w) ⌝ }
 {
     let mut word = held_word(history, coded, pair, w);
-    let r = bch::mend(&mut word, 10 <= pair);
+    let r = checkword::mend(&mut word, 10 <= pair);
     put_back_half(&word, back);
-    bch::mark_of(r)
+    checkword::mark_of(r)
 }
 
 // The repaired back halves and the marks of all 32 words.
