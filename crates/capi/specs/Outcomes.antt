@@ -1,38 +1,52 @@
 -- What the exported functions answer: the answers of the library in numbers, by its own definitions.
 -- Assumes nothing.
 use mathlib.Core.Path.{_≡_, refl, sym, ap, _∙_}
-use mathlib.Core.Bool.{Bool, not}
-use mathlib.Core.List.{List}
+use mathlib.Core.Bool.{Bool, not, cond}
 use Prim.Native.Nat.{ℕ}
+use borrow.Author.Tests.{eq-eqb, ne-eqb}
 use lib.Dec.{eqb}
 use Rattle.calls.specs.declared.Answer.{Answer}
 use Rattle.calls.specs.Answers.{refusalOf, indexOf, valueOr}
-use Rattle.checkword.specs.Calls.{Repaired, afterRepair, repairCall}
+use Rattle.linefile.specs.declared.rules.Header.{Header}
+use Rattle.linefile.specs.Reading.{startOf}
 use Rattle.capi.specs.declared.Outcome.{Outcome}
+use Rattle.capi.specs.declared.Line.{Line}
+
+abbrev pub outcome : ℕ → ℕ → ℕ → Outcome
+outcome r v i = record { refusal = r; value = v; index = i }
 
 -- Refusal number, value and index of an answer; `refused` is the value of a refused call.
 abbrev pub outcomeOf : Answer → ℕ → Outcome
-outcomeOf a refused = record { refusal = refusalOf a; value = valueOr a refused; index = indexOf a }
+outcomeOf a refused = outcome (refusalOf a) (valueOr a refused) (indexOf a)
 
-pub outcome-is : (a : Answer) (refused r v i : ℕ) → r ≡ refusalOf a → v ≡ valueOr a refused → i ≡ indexOf a
-    → _≡_ {A = Outcome} (record { refusal = r; value = v; index = i }) (outcomeOf a refused)
+pub outcome-is : (a : Answer) (refused r v i : ℕ) → r ≡ refusalOf a → v ≡ valueOr a refused → i ≡ indexOf a → outcome r v i ≡ outcomeOf a refused
 outcome-is a refused r v i e f g = rw (e, f, g)
 
 -- A flag passed as a number: any but 0 is set.
 abbrev pub flag : ℕ → Bool
 flag n = not (eqb n 0)
 
--- Repairing a word: the outcome and the word afterwards.
-pub record AfterWord : Type 0 where
-  pub outcome : Outcome
-  pub word : List ℕ
+-- An opened line file: the header's numbers.
+abbrev pub lineOf : Header → Line
+lineOf h = record { refusal = refusalOf (h .answer); superframes = h .superframes; overhead = h .overhead; frames = h .frames }
 
-abbrev pub afterWord : Outcome → List ℕ → AfterWord
-afterWord o w = record { outcome = o; word = w }
+pub line-is : (g h : Header) (n : ℕ) → h ≡ g → n ≡ refusalOf (h .answer)
+    → _≡_ {A = Line} (record { refusal = n; superframes = h .superframes; overhead = h .overhead; frames = h .frames }) (lineOf g)
+line-is g h n e d = rw (d, e) refl
 
-abbrev pub wordOutcome : Repaired → AfterWord
-wordOutcome r = afterWord (outcomeOf (r .answer) 0) (r .word)
+-- Where a sub-frame stands: its 7,424 bytes from f + 356,352×q + 7,424×s on; zeros in a refusal.
+unfoldable pub stretchOf : Answer → ℕ → ℕ → ℕ → Outcome
+stretchOf a f q s = cond (eqb (refusalOf a) 0) (outcome 0 7424 (startOf f q s)) (outcome (refusalOf a) 0 0)
 
--- In the form that `search` can use: a is the library's answer, o the outcome made of it.
-pub word-outcome : (r : Repaired) (a : Answer) (o : Outcome) (w : List ℕ) → afterRepair a w ≡ r → o ≡ outcomeOf a 0 → afterWord o w ≡ wordOutcome r
-word-outcome r a o w e d = rw (← e, d)
+-- In the form that `search` can use: a is the library's answer, n its number.
+pub stretch-refused : (a b : Answer) (f q s n : ℕ) → b ≡ a → n ≡ refusalOf b → (n ≡ 0 → ⊥) → outcome n 0 0 ≡ stretchOf a f q s
+unfolding stretchOf
+stretch-refused a b f q s n g e d =
+    let h : n ≡ refusalOf a = e ∙ ap refusalOf g in rw h (simp (ne-eqb (refusalOf a) 0 (λ z. d (h ∙ z))))
+
+pub stretch-done : (a b : Answer) (f q s n i : ℕ) → b ≡ a → n ≡ refusalOf b → n ≡ 0 → i ≡ startOf f q s → outcome 0 7424 i ≡ stretchOf a f q s
+unfolding stretchOf
+stretch-done a b f q s n i g e z d =
+    let h : n ≡ refusalOf a = e ∙ ap refusalOf g in rw d (simp (eq-eqb (refusalOf a) 0 (sym h ∙ z)))
+
+pub ruleset stretches = (stretch-refused, stretch-done)

@@ -1,8 +1,15 @@
 // The library for C and Rust: one exported function for each entry point, buffers as pointer and length. See include/ofec.h.
+use calls::Answer;
 ghost use mathlib.Core.Path.{_≡_};
 ghost use Rattle.checkword.specs.Calls.{repairCall};
-ghost use Rattle.capi.specs.Outcomes.{outcomeOf, wordOutcome, afterWord, flag};
-use calls::Answer;
+ghost use Rattle.ofec.specs.Calls.{encodeCall, receiveCall};
+ghost use Rattle.interleaver.specs.Calls.{interleave, deinterleave};
+ghost use Rattle.symbols.specs.Calls.{bitsToCells, cellsToBits};
+ghost use Rattle.framing.specs.Calls.{frameCall, unframeCall};
+ghost use Rattle.linefile.specs.Opening.{headerOf};
+ghost use Rattle.linefile.specs.Reading.{readAnswer};
+ghost use Rattle.linefile.specs.Writing.{writeCall};
+ghost use Rattle.capi.specs.Outcomes.{outcomeOf, flag, lineOf, stretchOf};
 
 // What an exported call answers: the refusal's number or 0, the call's own number, and the index of refusal 5.
 #[repr(C)]
@@ -10,6 +17,15 @@ pub struct Outcome {
     pub refusal: u32,
     pub value: u32,
     pub index: u64,
+}
+
+// What opening a line file answers: the refusal's number or 0, and the header's numbers.
+#[repr(C)]
+pub struct Line {
+    pub refusal: u32,
+    pub superframes: u32,
+    pub overhead: u32,
+    pub frames: u32,
 }
 
 // An answer in numbers; `refused` is the value that a refused call gives.
@@ -26,7 +42,146 @@ fn outcome_of(a: Answer, refused: u32) -> Outcome
 // Repairs a word of 32 bytes in place; front 0: flips may fall in the back half only. value: flips 0 to 2, or 3 for lost.
 #[no_mangle]
 pub extern "C" fn ofec_repair_word(word: &mut [u8], front: u32) -> Outcome
-    ensures { λ r. ⌜ afterWord r (now (word .exit)) ≡ wordOutcome (repairCall (now (word .entry)) (flag front)) ⌝ }
+    ensures { λ r. ⌜ (r ≡ outcomeOf (repairCall (now (word .entry)) (flag front) .answer) 0) × (now (word .exit) ≡ repairCall (now (word .entry)) (flag front) .word) ⌝ }
 {
     outcome_of(checkword::repair_word(word, front != 0), 0)
+}
+
+// Encodes a pair. value: the next pair number, or the one lent in a refusal.
+#[no_mangle]
+pub extern "C" fn ofec_encode_pair(
+    payload: &[u8],
+    coded: &mut [u8],
+    history: &mut [u8],
+    pair: u32,
+) -> Outcome
+    ensures { λ r. ⌜ (r ≡ outcomeOf (encodeCall (now (payload .entry)) (now (coded .entry)) (now (history .entry)) pair .answer) pair) × (now (coded .exit) ≡ encodeCall (now (payload .entry)) (now (coded .entry)) (now (history .entry)) pair .coded) × (now (history .exit) ≡ encodeCall (now (payload .entry)) (now (coded .entry)) (now (history .entry)) pair .history) ⌝ }
+{
+    outcome_of(ofec::encode_pair(payload, coded, history, pair), pair)
+}
+
+// Receives a pair. value: the next pair number, or the one lent in a refusal.
+#[no_mangle]
+pub extern "C" fn ofec_receive_pair(
+    coded: &[u8],
+    payload: &mut [u8],
+    marks: &mut [u8],
+    history: &mut [u8],
+    pair: u32,
+) -> Outcome
+    ensures { λ r. ⌜ (r ≡ outcomeOf (receiveCall (now (coded .entry)) (now (payload .entry)) (now (marks .entry)) (now (history .entry)) pair .answer) pair) × (now (payload .exit) ≡ receiveCall (now (coded .entry)) (now (payload .entry)) (now (marks .entry)) (now (history .entry)) pair .payload) × (now (marks .exit) ≡ receiveCall (now (coded .entry)) (now (payload .entry)) (now (marks .entry)) (now (history .entry)) pair .marks) × (now (history .exit) ≡ receiveCall (now (coded .entry)) (now (payload .entry)) (now (marks .entry)) (now (history .entry)) pair .history) ⌝ }
+{
+    outcome_of(
+        ofec::receive_pair(coded, payload, marks, history, pair),
+        pair,
+    )
+}
+
+// Interleaves a buffer: 21 pairs of each encoder.
+#[no_mangle]
+pub extern "C" fn ofec_interleave(pairs0: &[u8], pairs1: &[u8], bits: &mut [u8]) -> Outcome
+    ensures { λ r. ⌜ (r ≡ outcomeOf (interleave (now (pairs0 .entry)) (now (pairs1 .entry)) (now (bits .entry)) .answer) 0) × (now (bits .exit) ≡ interleave (now (pairs0 .entry)) (now (pairs1 .entry)) (now (bits .entry)) .bits) ⌝ }
+{
+    outcome_of(interleaver::interleave(pairs0, pairs1, bits), 0)
+}
+
+// Takes a buffer apart.
+#[no_mangle]
+pub extern "C" fn ofec_deinterleave(bits: &[u8], pairs0: &mut [u8], pairs1: &mut [u8]) -> Outcome
+    ensures { λ r. ⌜ (r ≡ outcomeOf (deinterleave (now (bits .entry)) (now (pairs0 .entry)) (now (pairs1 .entry)) .answer) 0) × (now (pairs0 .exit) ≡ deinterleave (now (bits .entry)) (now (pairs0 .entry)) (now (pairs1 .entry)) .pairs0) × (now (pairs1 .exit) ≡ deinterleave (now (bits .entry)) (now (pairs0 .entry)) (now (pairs1 .entry)) .pairs1) ⌝ }
+{
+    outcome_of(interleaver::deinterleave(bits, pairs0, pairs1), 0)
+}
+
+// Maps a buffer's bits to cells.
+#[no_mangle]
+pub extern "C" fn ofec_bits_to_cells(bits: &[u8], cells: &mut [u8]) -> Outcome
+    ensures { λ r. ⌜ (r ≡ outcomeOf (bitsToCells (now (bits .entry)) (now (cells .entry)) .answer) 0) × (now (cells .exit) ≡ bitsToCells (now (bits .entry)) (now (cells .entry)) .written) ⌝ }
+{
+    outcome_of(symbols::bits_to_cells(bits, cells), 0)
+}
+
+// Maps a buffer's cells back to bits.
+#[no_mangle]
+pub extern "C" fn ofec_cells_to_bits(cells: &[u8], bits: &mut [u8]) -> Outcome
+    ensures { λ r. ⌜ (r ≡ outcomeOf (cellsToBits (now (cells .entry)) (now (bits .entry)) .answer) 0) × (now (bits .exit) ≡ cellsToBits (now (cells .entry)) (now (bits .entry)) .written) ⌝ }
+{
+    outcome_of(symbols::cells_to_bits(cells, bits), 0)
+}
+
+// Frames a sub-frame.
+#[no_mangle]
+pub extern "C" fn ofec_frame(
+    number: u32,
+    payload: &[u8],
+    overhead: &[u8],
+    frame: &mut [u8],
+) -> Outcome
+    ensures { λ r. ⌜ (r ≡ outcomeOf (frameCall number (now (payload .entry)) (now (overhead .entry)) (now (frame .entry)) .answer) 0) × (now (frame .exit) ≡ frameCall number (now (payload .entry)) (now (overhead .entry)) (now (frame .entry)) .written) ⌝ }
+{
+    outcome_of(framing::frame(number, payload, overhead, frame), 0)
+}
+
+// Unframes a sub-frame. value: the number of overhead cells that differ from the lent list.
+#[no_mangle]
+pub extern "C" fn ofec_unframe(
+    number: u32,
+    frame: &[u8],
+    overhead: &[u8],
+    payload: &mut [u8],
+) -> Outcome
+    ensures { λ r. ⌜ (r ≡ outcomeOf (unframeCall number (now (frame .entry)) (now (overhead .entry)) (now (payload .entry)) .answer) 0) × (now (payload .exit) ≡ unframeCall number (now (frame .entry)) (now (overhead .entry)) (now (payload .entry)) .written) ⌝ }
+{
+    outcome_of(framing::unframe(number, frame, overhead, payload), 0)
+}
+
+// Opens a line file: its header's numbers, or zeros in a refusal.
+#[no_mangle]
+pub extern "C" fn ofec_open_line(file: &[u8]) -> Line
+    ensures { λ r. ⌜ r ≡ lineOf (headerOf (now (file .entry))) ⌝ }
+{
+    let h = linefile::open_header(file);
+    let a = h.answer;
+    Line {
+        refusal: calls::refusal_of(a),
+        superframes: h.superframes,
+        overhead: h.overhead,
+        frames: h.frames,
+    }
+}
+
+// Where a sub-frame of an open line file stands. index: where its stretch starts; value: 7,424 bytes; both 0 in a refusal.
+#[no_mangle]
+pub extern "C" fn ofec_read_line(
+    file: &[u8],
+    superframes: u32,
+    overhead: u32,
+    frames: u32,
+    superframe: u32,
+    subframe: u32,
+) -> Outcome
+    ensures { λ r. ⌜ r ≡ stretchOf (readAnswer (now (file .entry)) superframes overhead frames superframe subframe) frames superframe subframe ⌝ }
+{
+    let a = linefile::read_answer_at(file, superframes, overhead, frames, superframe, subframe);
+    let n = calls::refusal_of(a);
+    if n != 0 {
+        return Outcome {
+            refusal: n,
+            value: 0,
+            index: 0,
+        };
+    }
+    Outcome {
+        refusal: 0,
+        value: 7424,
+        index: linefile::start(frames, superframe, subframe) as u64,
+    }
+}
+
+// Writes a line file's header of 16 bytes.
+#[no_mangle]
+pub extern "C" fn ofec_write_header(superframes: u32, header: &mut [u8]) -> Outcome
+    ensures { λ r. ⌜ (r ≡ outcomeOf (writeCall superframes (now (header .entry)) .answer) 0) × (now (header .exit) ≡ writeCall superframes (now (header .entry)) .header) ⌝ }
+{
+    outcome_of(linefile::write_header(superframes, header), 0)
 }
