@@ -70,8 +70,8 @@ pub fn misfits<const N: usize>(right: [usize; N], random: &mut Random) -> Vec<[u
     for i in 0..N {
         let own = right[i];
         let mut wrong = vec![0, 1, own - 1, own + 1, own / 2, 2 * own];
-        // These are right when cut to 8, 16 or 24 bits.
-        wrong.extend([256, 65_536, 16_777_216].map(|cut| own + cut));
+        // These are right when cut to 8 or 16 bits.
+        wrong.extend([256, 65_536].map(|cut| own + cut));
         wrong.extend(right);
         wrong.extend((0..4).map(|_| random.between(0, 2 * own)));
         for length in wrong.into_iter().filter(|&length| length != own) {
@@ -84,8 +84,23 @@ pub fn misfits<const N: usize>(right: [usize; N], random: &mut Random) -> Vec<[u
     lists
 }
 
-/// A buffer of 2^32 and `more` zero bytes, whose length is `more` when cut to 32 bits. The system
-/// gives it no memory before it is written.
-pub fn beyond_32_bits(more: usize) -> Vec<u8> {
-    vec![0; (1 << 32) + more]
+/// Lends every buffer in turn with 2^32 bytes too many, so that its length is right when cut to 32
+/// bits: the call must be refused with this answer. The buffers are zeros, for which the system gives
+/// no memory before they are written.
+pub fn refused_beyond_32_bits<const N: usize, A: Debug + PartialEq>(
+    refused: A,
+    right: [usize; N],
+    library: impl Fn([&mut [u8]; N]) -> A,
+) {
+    for wrong in 0..N {
+        let mut lengths = right;
+        lengths[wrong] += 1 << 32;
+        let mut buffers = lengths.map(|length| vec![0; length]);
+        let answer = library(buffers.each_mut().map(|buffer| &mut buffer[..]));
+        assert_eq!(answer, refused, "lengths {lengths:?}");
+        for buffer in black_box(buffers) {
+            let start = &buffer[..buffer.len().min(1 << 16)];
+            assert!(start.iter().all(|&byte| byte == 0), "lengths {lengths:?}");
+        }
+    }
 }

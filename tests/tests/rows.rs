@@ -4,7 +4,7 @@
 use std::ops::RangeInclusive;
 
 use ofec_tests::bits;
-use ofec_tests::compare::{beyond_32_bits, compare, compare_refused, misfit, misfits};
+use ofec_tests::compare::{compare, compare_refused, misfit, misfits, refused_beyond_32_bits};
 use ofec_tests::ffi;
 use ofec_tests::outcome::{Outcome, COUNT_SPENT, MISFIT};
 use ofec_tests::random::Random;
@@ -449,18 +449,15 @@ fn wrong_lengths_are_refused_before_the_number_and_touch_nothing() {
 
 #[test]
 fn lengths_beyond_32_bits_are_refused() {
-    for wrong in 0..ENCODE_LENGTHS.len() {
-        let mut buffers = ENCODE_LENGTHS.map(|length| vec![0; length]);
-        buffers[wrong] = beyond_32_bits(ENCODE_LENGTHS[wrong]);
-        let [payload, coded, history] = &mut buffers;
-        let outcome = ffi::rows::encode_pair(payload, coded, history, 10);
-        assert_eq!(outcome, Outcome::refused_pair(MISFIT, 10));
-    }
-    for wrong in 0..RECEIVE_LENGTHS.len() {
-        let mut buffers = RECEIVE_LENGTHS.map(|length| vec![0; length]);
-        buffers[wrong] = beyond_32_bits(RECEIVE_LENGTHS[wrong]);
-        let [coded, payload, marks, history] = &mut buffers;
-        let outcome = ffi::rows::receive_pair(coded, payload, marks, history, 10);
-        assert_eq!(outcome, Outcome::refused_pair(MISFIT, 10));
-    }
+    let refused = Outcome::refused_pair(MISFIT, 10);
+    refused_beyond_32_bits(refused, ENCODE_LENGTHS, |[payload, coded, history]| {
+        ffi::rows::encode_pair(payload, coded, history, 10)
+    });
+    refused_beyond_32_bits(
+        refused,
+        RECEIVE_LENGTHS,
+        |[coded, payload, marks, history]| {
+            ffi::rows::receive_pair(coded, payload, marks, history, 10)
+        },
+    );
 }
