@@ -35,7 +35,7 @@ pub fn word_bit(row: i64, r: usize, k: usize) -> Place {
         Place {
             row: (row ^ 1) - 20 + 2 * (k / 16) as i64,
             block: k / 16,
-            bit_row: k % 16 ^ r,
+            bit_row: (k % 16) ^ r,
             column: r,
         }
     } else {
@@ -43,7 +43,7 @@ pub fn word_bit(row: i64, r: usize, k: usize) -> Place {
             row,
             block: (k - 128) / 16,
             bit_row: r,
-            column: k % 16 ^ r,
+            column: (k % 16) ^ r,
         }
     }
 }

@@ -158,11 +158,11 @@ fn illegal_bytes_in_the_list_come_first_and_only_those_of_the_sub_frame() {
         let received = random.cells(FRAME_BYTES);
         // What stands in the list for the other sub-frames is not read.
         let mut overhead = random.bytes(OVERHEAD_BYTES);
-        for index in 0..OVERHEAD_BYTES {
+        for (index, byte) in overhead.iter_mut().enumerate() {
             if own.contains(&index) {
-                overhead[index] %= GRID;
+                *byte %= GRID;
             } else if index + 4 >= own.start && index < own.end + 4 {
-                overhead[index] |= GRID;
+                *byte |= GRID;
             }
         }
         frame(number, &payload, &overhead, &mut random);

@@ -12,7 +12,6 @@ use ofec_tests::line_file::{self, Header, HEADER_BYTES};
 use ofec_tests::random::Random;
 
 const EXAMPLE: &str = "superframes 1 overhead 16 frames 12304 total 368656\n";
-const GIB: u64 = 1 << 30;
 
 fn program() -> PathBuf {
     let program = Path::new(env!("CARGO_MANIFEST_DIR")).join("../target/bin/linehead");
@@ -228,31 +227,35 @@ fn time_for_the_longest_file_of_a_writer() {
     assert!(best < Duration::from_millis(500), "{best:?}");
 }
 
-/// The longest file that a header can tell of, with 64 MiB of memory in all.
+/// Files around 2^32 bytes, with 64 MiB of memory in all.
 #[test]
-fn almost_4_gib_in_constant_memory() {
-    let frames = u32::MAX - 356_352;
-    let header = Header::with_sum(1, 16, frames);
-    let child = Command::new("sh")
-        .args(["-c", "ulimit -v 65536 && exec \"$0\""])
-        .arg(program())
-        .stdin(sparse(&header.to_bytes(), 4 * GIB - 1))
-        .stdout(Stdio::piped())
-        .spawn()
-        .expect("the shell starts");
-    let line = format!("superframes 1 overhead 16 frames {frames} total 4294967295\n");
-    assert_eq!(output(child), line);
-}
-
-/// A count that starts again at 2^32 would find the total of the example.
-#[test]
-fn more_than_4_gib_by_the_length_of_the_example() {
-    assert_printed(Header::written(1), 4 * GIB + 368_656, "refused 2\n");
-}
-
-/// A count that stays at 2^32 - 1 would find this total.
-#[test]
-fn more_than_4_gib_by_a_few_bytes() {
-    let header = Header::with_sum(1, 16, u32::MAX - 356_352);
-    assert_printed(header, 4 * GIB + 5, "refused 2\n");
+fn files_of_almost_and_of_more_than_4_gib() {
+    let longest = Header::with_sum(1, 16, u32::MAX - 356_352);
+    let turn = 1 << 32;
+    // One sparse file serves all runs: the system reads it much faster again than for the first time.
+    let mut file = sparse(&[], 0);
+    for (header, length, line) in [
+        (
+            longest,
+            turn - 1,
+            "superframes 1 overhead 16 frames 4294610943 total 4294967295\n",
+        ),
+        // A count that stays at 2^32 - 1 would find this total.
+        (longest, turn + 5, "refused 2\n"),
+        // A count that begins again at 2^32 would find this one.
+        (Header::written(1), turn + 368_656, "refused 2\n"),
+    ] {
+        file.set_len(length).expect("a sparse file");
+        file.rewind().expect("back to the start");
+        file.write_all(&header.to_bytes()).expect("its header");
+        file.rewind().expect("back to the start");
+        let child = Command::new("sh")
+            .args(["-c", "ulimit -v 65536 && exec \"$0\""])
+            .arg(program())
+            .stdin(file.try_clone().expect("the same open file"))
+            .stdout(Stdio::piped())
+            .spawn()
+            .expect("the shell starts");
+        assert_eq!(output(child), line);
+    }
 }

@@ -355,11 +355,10 @@ fn coded_from(places: &[Place], pair: u32) -> Vec<u8> {
 /// The pair with the code word of a single free bit k in the word of row 2P+`row`, bit row `r`.
 fn only_word(row: usize, r: usize, k: usize) -> Vec<u8> {
     let free: [bool; FREE_BITS] = std::array::from_fn(|place| place == k);
-    let code_word = word::complete(&free);
     let mut coded = vec![0; PAIR_BYTES];
-    for k in BACK..WORD_BITS {
-        let index = 2048 * row + 128 * r + 16 * ((k - 128) / 16) + (k % 16 ^ r);
-        bits::set(&mut coded, index, code_word[k]);
+    for (k, &bit) in word::complete(&free)[BACK..].iter().enumerate() {
+        let index = 2048 * row + 128 * r + 16 * (k / 16) + ((k % 16) ^ r);
+        bits::set(&mut coded, index, bit);
     }
     coded
 }
