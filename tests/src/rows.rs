@@ -5,7 +5,7 @@ use std::sync::LazyLock;
 
 use crate::bits;
 use crate::outcome::{Outcome, COUNT_SPENT, MISFIT};
-use crate::word::{self, Trial, Word, BACK, FREE_BITS, LOST, WORD_BITS};
+use crate::word::{self, Trial, Word, BACK, FREE_BITS, LOST};
 
 pub const PAYLOAD_BYTES: usize = 444;
 pub const PAIR_BYTES: usize = 512;
@@ -106,14 +106,14 @@ impl Window {
         bits::set(&mut self.bytes, index, bit);
     }
 
-    /// Bit k of the word of (R, r), zero in front of the first full row.
+    /// Bit k of the word of (R, r); before the first full row the front half is zeros.
     fn word_bit(&self, row: i64, r: usize, k: usize) -> bool {
         (k >= BACK || row >= FIRST_FULL_ROW) && self.get(word_bit(row, r, k))
     }
 
     fn set_back_half(&mut self, row: i64, r: usize, word: &Word) {
-        for k in BACK..WORD_BITS {
-            self.set(word_bit(row, r, k), word[k]);
+        for (k, &bit) in word.iter().enumerate().skip(BACK) {
+            self.set(word_bit(row, r, k), bit);
         }
     }
 }

@@ -17,7 +17,7 @@ fn program() -> PathBuf {
     let program = Path::new(env!("CARGO_MANIFEST_DIR")).join("../target/bin/linehead");
     assert!(
         program.is_file(),
-        "{} is missing: run `rt build linehead` first",
+        "{} is missing: run `rt check linehead` first",
         program.display()
     );
     program
