@@ -14,3 +14,17 @@ pub fn pack(bits: &[bool]) -> Vec<u8> {
         .map(|byte| byte.iter().fold(0, |sum, &bit| 2 * sum + u8::from(bit)))
         .collect()
 }
+
+pub fn get(bytes: &[u8], index: usize) -> bool {
+    bytes[index / 8] >> (7 - index % 8) & 1 == 1
+}
+
+pub fn flip(bytes: &mut [u8], index: usize) {
+    bytes[index / 8] ^= 1 << (7 - index % 8);
+}
+
+pub fn set(bytes: &mut [u8], index: usize, bit: bool) {
+    if get(bytes, index) != bit {
+        flip(bytes, index);
+    }
+}

@@ -18,6 +18,15 @@ impl Random {
         self.next_u64() >> 63 == 1
     }
 
+    pub fn bytes(&mut self, count: usize) -> Vec<u8> {
+        (0..count).map(|_| (self.next_u64() >> 56) as u8).collect()
+    }
+
+    /// Bytes of legal cells.
+    pub fn cells(&mut self, count: usize) -> Vec<u8> {
+        (0..count).map(|_| (self.next_u64() >> 60) as u8).collect()
+    }
+
     /// A number in `low..high`.
     pub fn between(&mut self, low: usize, high: usize) -> usize {
         low + (self.next_u64() % (high - low) as u64) as usize

@@ -1,6 +1,10 @@
 //! The reference by itself.
 
+use ofec_tests::cells;
+use ofec_tests::frames::{self, SUBFRAMES, SUBFRAME_CELLS};
+use ofec_tests::interleaver::{source, BUFFER_BITS};
 use ofec_tests::random::Random;
+use ofec_tests::rows::{self, BIT_ROWS};
 use ofec_tests::word::{self, Trial, Word, FREE_BITS, GENERATOR, WORD_BITS};
 
 #[test]
@@ -66,4 +70,78 @@ fn fast_trial_agrees_with_flipping_and_dividing_afresh() {
         }
     }
     assert!(numbers.iter().all(|&n| n > 0), "{numbers:?}");
+}
+
+#[test]
+fn payload_bits_of_a_pair_are_3552_in_a_row() {
+    assert_eq!(rows::payload_bit(0, 1, 96), 3087);
+    assert_eq!(rows::payload_bit(1, 15, 110), 3551);
+    assert_eq!(rows::payload_bit(2, 0, 0), 3552);
+    for pair in [0, 1, 10, 4_294_967_294] {
+        let mut numbers = Vec::new();
+        for row in rows::rows_of(pair) {
+            for r in 0..BIT_ROWS {
+                numbers.extend((0..=110).map(|k| rows::payload_bit(row, r, k)));
+            }
+        }
+        numbers.sort();
+        let first = 3552 * i64::from(pair);
+        assert!(numbers.into_iter().eq(first..first + 3552));
+    }
+}
+
+#[test]
+fn words_of_a_pair_share_no_bit() {
+    let mut places = Vec::new();
+    for row in rows::rows_of(10) {
+        for r in 0..BIT_ROWS {
+            for k in 0..WORD_BITS {
+                let place = rows::word_bit(row, r, k);
+                places.push((place.row, place.block, place.bit_row, place.column));
+            }
+        }
+    }
+    places.sort();
+    assert_eq!(places.len(), 2 * 16 * 256);
+    assert!(places.windows(2).all(|two| two[0] != two[1]));
+    assert!(places.iter().all(|place| (0..22).contains(&place.0)));
+}
+
+#[test]
+fn output_bits_come_from_every_place_once() {
+    let mut seen = vec![false; BUFFER_BITS];
+    for n in 0..BUFFER_BITS {
+        let from = source(n);
+        seen[BUFFER_BITS / 2 * from.encoder + from.index()] = true;
+    }
+    assert!(seen.into_iter().all(|seen| seen));
+}
+
+#[test]
+fn cells_are_legal_and_tell_their_byte() {
+    for byte in 0..=255 {
+        let cell = cells::cell(byte);
+        assert_eq!(cells::first_illegal(&cell), None);
+        assert_eq!(cells::byte(cell), byte);
+    }
+}
+
+#[test]
+fn cells_of_a_super_frame_are_as_many_as_stated() {
+    let (mut overhead, mut payload) = (0, 0);
+    for number in 0..SUBFRAMES {
+        let cells = 0..SUBFRAME_CELLS;
+        let own = cells
+            .filter(|&cell| frames::is_overhead(number, cell))
+            .count();
+        assert_eq!(own, frames::overhead_cells(number));
+        assert_eq!(2 * (SUBFRAME_CELLS - own), frames::payload_bytes(number));
+        assert_eq!(
+            frames::own_overhead(number),
+            2 * overhead..2 * (overhead + own)
+        );
+        overhead += own;
+        payload += SUBFRAME_CELLS - own;
+    }
+    assert_eq!((overhead, payload), (6_144, 172_032));
 }

@@ -1,6 +1,7 @@
 //! `ofec_repair_word` against the reference: answer and bytes of every call.
 
-use ofec_tests::ffi::{self, Outcome, MISFIT};
+use ofec_tests::ffi;
+use ofec_tests::outcome::{Outcome, MISFIT};
 use ofec_tests::random::Random;
 use ofec_tests::word::{self, Trial, Word, BACK, LOST, WORD_BITS, WORD_BYTES};
 
@@ -50,7 +51,7 @@ impl Comparison {
         let mut expected = buffer;
         expected[WORD_BYTES..2 * WORD_BYTES].copy_from_slice(&repaired);
 
-        let outcome = ffi::repair_word(&mut buffer[WORD_BYTES..2 * WORD_BYTES], front);
+        let outcome = ffi::word::repair_word(&mut buffer[WORD_BYTES..2 * WORD_BYTES], front);
         assert_eq!(
             (outcome, buffer),
             (Outcome::accepted(number), expected),
@@ -208,7 +209,7 @@ fn wrong_lengths_are_refused_and_touch_nothing() {
             let expected = buffer.clone();
             for front in [1, 0] {
                 let lent = &mut buffer[WORD_BYTES..WORD_BYTES + length];
-                let outcome = ffi::repair_word(lent, front);
+                let outcome = ffi::word::repair_word(lent, front);
                 assert_eq!(outcome, Outcome::refused(MISFIT), "length {length}");
                 assert!(
                     buffer == expected,
