@@ -14,18 +14,77 @@ extern "C" {
 
 /* What a call answers.
  *   refusal  0: done; 1 misfit, 2 bad header, 3 count spent, 4 no such frame, 5 off grid
- *   value    the call's own number, given at each call; 0 in a refusal
- *   index    at refusal 5 the index of the first illegal byte in its buffer, otherwise 0 */
+ *   value    the call's own number, said at each call; 0 where a call has none, and in a refusal unless said otherwise
+ *   index    at refusal 5 the index of the first illegal byte in its buffer; otherwise 0, but for ofec_read_line */
 typedef struct {
     uint32_t refusal;
     uint32_t value;
     uint64_t index;
 } ofec_outcome;
 
+/* What opening a line file answers: the refusal (0, 1 or 2), and the header's numbers n, o and f; zeros in a refusal. */
+typedef struct {
+    uint32_t refusal;
+    uint32_t superframes;
+    uint32_t overhead;
+    uint32_t frames;
+} ofec_line;
+
+/* Check words and pairs ------------------------------------------------------------------------------------------------------- */
+
 /* Repairs a check word of 32 bytes in place.
  * front: 0 lets flips fall in the back half (bits 128 to 255) only, any other number in both halves.
  * value: the number of flips, 0 to 2; or 3: no code word is within two flips, and the word is unaltered. */
-ofec_outcome ofec_repair_word(uint8_t *word, size_t length, uint32_t front);
+ofec_outcome ofec_repair_word(uint8_t *word, size_t word_length, uint32_t front);
+
+/* Encodes a pair: payload 444 bytes, coded 512 (written), history 5,120 (changed; all zero when fresh), the pair number (0 when fresh).
+ * value: the next pair number; in a refusal the number lent. Refusals: 1, 3. */
+ofec_outcome ofec_encode_pair(const uint8_t *payload, size_t payload_length, uint8_t *coded, size_t coded_length, uint8_t *history,
+                              size_t history_length, uint32_t pair);
+
+/* Receives a pair: coded 512 bytes, payload 444 (written), marks 32 (written: 0 to 2 flips of each word, or 3 for lost), history 5,120
+ * (changed), the pair number. value: the next pair number; in a refusal the number lent. Refusals: 1, 3. */
+ofec_outcome ofec_receive_pair(const uint8_t *coded, size_t coded_length, uint8_t *payload, size_t payload_length, uint8_t *marks,
+                               size_t marks_length, uint8_t *history, size_t history_length, uint32_t pair);
+
+/* The line -------------------------------------------------------------------------------------------------------------------- */
+
+/* Interleaves a buffer: 21 pairs (10,752 bytes) of each encoder into 21,504 bytes of bits (written). Refusal: 1. */
+ofec_outcome ofec_interleave(const uint8_t *pairs0, size_t pairs0_length, const uint8_t *pairs1, size_t pairs1_length, uint8_t *bits,
+                             size_t bits_length);
+
+/* Takes a buffer apart: 21,504 bytes of bits into 10,752 bytes of pairs of each encoder (written). Refusal: 1. */
+ofec_outcome ofec_deinterleave(const uint8_t *bits, size_t bits_length, uint8_t *pairs0, size_t pairs0_length, uint8_t *pairs1,
+                               size_t pairs1_length);
+
+/* Maps a buffer's 21,504 bytes of bits to 43,008 bytes of cells (written). Refusal: 1. */
+ofec_outcome ofec_bits_to_cells(const uint8_t *bits, size_t bits_length, uint8_t *cells, size_t cells_length);
+
+/* Maps a buffer's 43,008 bytes of cells to 21,504 bytes of bits (written). Refusals: 1, 5. */
+ofec_outcome ofec_cells_to_bits(const uint8_t *cells, size_t cells_length, uint8_t *bits, size_t bits_length);
+
+/* Frames sub-frame `number` (0 to 47): payload 6,980 bytes for number 0 and 7,172 otherwise, the whole overhead list 12,288, frame 7,424
+ * (written). Refusals: 1, 4, 5. */
+ofec_outcome ofec_frame(uint32_t number, const uint8_t *payload, size_t payload_length, const uint8_t *overhead, size_t overhead_length,
+                        uint8_t *frame, size_t frame_length);
+
+/* Unframes sub-frame `number`: the same buffers, the payload written. value: the number of overhead cells that differ from the list.
+ * Refusals: 1, 4, 5. */
+ofec_outcome ofec_unframe(uint32_t number, const uint8_t *frame, size_t frame_length, const uint8_t *overhead, size_t overhead_length,
+                          uint8_t *payload, size_t payload_length);
+
+/* The line file --------------------------------------------------------------------------------------------------------------- */
+
+/* Opens a line file lent whole. */
+ofec_line ofec_open_line(const uint8_t *file, size_t file_length);
+
+/* Where sub-frame `subframe` of super-frame `superframe` stands in an open line file, whose header numbers are given.
+ * index: where its stretch of the file starts; value: its length, 7,424. Both are 0 in a refusal. Refusals: 1, 2, 4. */
+ofec_outcome ofec_read_line(const uint8_t *file, size_t file_length, uint32_t superframes, uint32_t overhead, uint32_t frames,
+                            uint32_t superframe, uint32_t subframe);
+
+/* Writes the header (16 bytes) of a line file of 1 to 64 super-frames with no gaps. Refusals: 1, 2. */
+ofec_outcome ofec_write_header(uint32_t superframes, uint8_t *header, size_t header_length);
 
 #ifdef __cplusplus
 }
