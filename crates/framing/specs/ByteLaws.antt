@@ -1,23 +1,22 @@
 -- Laws for the workers: each byte and each comparison as the code computes it is what Frames.antt says.
 -- Assumes nothing.
-use mathlib.Core.Path.{_≡_, refl, sym, ap, ap₂, _∙_}
-use mathlib.Core.Bool.{Bool, true, false, cond}
+use mathlib.Core.Path.{_≡_, sym, ap, _∙_}
 use mathlib.Core.List.{List}
 use mathlib.Core.Logic.{_≢_}
-use Prim.Native.Nat.{ℕ, zero, suc, _+_, _-_, _*_, _/_, _%_, _<_, _≤_}
+use Prim.Native.Nat.{ℕ, _+_, _-_, _*_, _/_, _%_, _<_, _≤_}
 use native.Mathlib.Omega.{arith}
 use borrow.Author.Tests.{eq-eqb, ne-eqb}
-use lib.Dec.{eqb}
 use lib.ListN.{length, getD, take, drop}
 use mir.Syntax.{w32}
 use mir.Val.{Fits}
 use Rattle.bits.specs.Lists.{tabulate}
-use Rattle.bits.specs.Count.{count, differs}
 use Rattle.bits.specs.CountLaws.{differs-same, differs-other}
 use Rattle.bits.specs.Summing.{Counting}
-use Rattle.framing.specs.Frames.{isOverhead, overheadBefore, payloadBefore, overheadCells, payloadCells, overheadStart, ownOverhead, frameByte, payloadAt, payloadCell, unframed, cellDiffers, overheadDiffers}
+use Rattle.symbols.specs.TestLaws.{either, cond-yes, cond-no}
+use Rattle.framing.specs.NumberLaws.{count-le}
+use Rattle.framing.specs.Frames.{isOverhead, overheadBefore, overheadCells, payloadCells, overheadStart, ownOverhead, frameByte, payloadAt, unframed, cellDiffers, overheadDiffers}
 use Rattle.framing.specs.Layout.{edge, gap, spot}
-use Rattle.framing.specs.LayoutLaws.{cond-yes, cond-no, which, low-is, pilot-is, rest-is, overhead-low, overhead-pilot, payload-rest, own-within}
+use Rattle.framing.specs.LayoutLaws.{which, low-is, pilot-is, rest-is, overhead-low, overhead-pilot, payload-rest}
 use Rattle.framing.specs.PlaceLaws.{payload-index-lt, payloadCell-spot}
 use Rattle.framing.specs.FrameLaws.{own-length, cellDiffers-le}
 
@@ -113,17 +112,8 @@ pub ruleset overhead-differs = (differs-low, differs-rest, differs-pilot)
 
 overheadDiffers-le : (s : ℕ) (frame own : List ℕ) (m : ℕ) → overheadDiffers s frame own m ≤ 1
 unfolding overheadDiffers
-overheadDiffers-le s frame own m = go (isOverhead s m)
-  where
-    go : (t : Bool) → cond t (cellDiffers frame m own (overheadBefore s m)) 0 ≤ 1
-    go true = cellDiffers-le frame m own (overheadBefore s m)
-    go false = omega arith
-
--- A count of 0s and 1s is at most the number of places.
-count-le : (n : ℕ) (f : ℕ → ℕ) → ((k : ℕ) → f k ≤ 1) → count n f ≤ n
-unfolding count
-count-le zero f h = omega arith
-count-le (suc n) f h = omega (arith, count-le n f h, h n)
+overheadDiffers-le s frame own m =
+    either (λ v. v ≤ 1) (isOverhead s m) (cellDiffers frame m own (overheadBefore s m)) 0 (cellDiffers-le frame m own (overheadBefore s m)) (omega arith)
 
 pub tally-fits : (s : ℕ) (frame own : List ℕ) (n m v : ℕ) → Counting (overheadDiffers s frame own) 3712 m n → v ≡ overheadDiffers s frame own m → Fits w32 (n + v)
 tally-fits s frame own n m v c e =

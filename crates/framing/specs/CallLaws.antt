@@ -1,23 +1,24 @@
 -- Laws of the calls: what each answers and leaves in every case, one law a case for both calls; refused calls leave the buffer as it was.
 -- Assumes nothing.
 use mathlib.Core.Path.{_≡_, refl, ap, ap₂, sym, _∙_}
-use mathlib.Core.Bool.{Bool, true, false, cond, not, _||_}
+use mathlib.Core.Bool.{true, false, not}
 use mathlib.Core.List.{List}
 use mathlib.Core.Logic.{_≢_}
 use Prim.Native.Nat.{ℕ, _+_, _*_, _<_, _≤_}
 use native.Mathlib.Omega.{arith}
 use borrow.Author.Tests.{eq-eqb, ne-eqb, lt-ltb, le-ltb}
 use lib.Dec.{eqb, ltb}
-use lib.ListN.{length}
+use lib.ListN.{length, getD}
 use Rattle.calls.specs.declared.Answer.the-variants.{Done, Refused}
 use Rattle.calls.specs.declared.Refusal.the-variants.{Misfit, NoSuchFrame, OffGrid}
 use Rattle.calls.specs.Answers.{TurnedBack}
 use Rattle.symbols.specs.Cells.{firstIllegal, Legal}
 use Rattle.symbols.specs.CellLaws.{none-illegal}
 use Rattle.symbols.specs.Calls.{After, after}
-use Rattle.symbols.specs.CallLaws.{either, Kept, done-kept, refused-kept}
-use Rattle.framing.specs.Frames.{payloadCells, overheadCells, overheadStart, ownOverhead, framed, unframed, differing}
-use Rattle.framing.specs.FrameLaws.{own-legal, framed-length, framed-legal, own-length, unframed-framed, unframed-length, differing-framed, unframed-legal, framed-unframed}
+use Rattle.symbols.specs.TestLaws.{either}
+use Rattle.symbols.specs.CallLaws.{Kept, done-kept, refused-kept}
+use Rattle.framing.specs.Frames.{isOverhead, payloadCells, overheadStart, ownOverhead, framed, unframed, differing}
+use Rattle.framing.specs.FrameLaws.{own-legal, framed-length, framed-legal, own-length, unframed-framed, unframed-length, differing-framed, unframed-legal, framed-unframed, overhead-never-payload}
 use Rattle.framing.specs.Calls.{payloadFits, offGrid, overheadIndex, subFrameCall, frameCall, unframeCall}
 
 -- ---- a buffer with an illegal byte, and one without
@@ -162,3 +163,15 @@ module _ (number : ℕ) (overhead frame payload : List ℕ) (ln : number ≤ 47)
       ap (λ a. frameCall number (a .written) overhead out) (unframe-accepts number overhead frame payload ln lo lf lp own legal)
       ∙ frame-accepts number overhead out (unframed number frame) ln lo lq (unframed-length number frame) own (unframed-legal number frame lf legal)
       ∙ ap (after (Done 0)) (framed-unframed number frame (ownOverhead number overhead) lf zero)
+
+-- ---- overhead errors never touch payload
+
+-- Legal frames that agree on the payload cells, unframed with legal lists of any content, leave one payload.
+pub unframe-payload : (number : ℕ) (f g list other out out′ : List ℕ) → number ≤ 47 → length f ≡ 7424 → length g ≡ 7424 → length list ≡ 12288 → length other ≡ 12288
+    → length out ≡ payloadCells number * 2 → length out′ ≡ payloadCells number * 2 → Legal f → Legal g → Legal list → Legal other
+    → ((m h : ℕ) → m < 3712 → h < 2 → isOverhead number m ≡ false → getD f (m * 2 + h) 0 ≡ getD g (m * 2 + h) 0)
+    → unframeCall number f list out .written ≡ unframeCall number g other out′ .written
+unframe-payload number f g list other out out′ ln lf lg ll lr lp lq hf hg hl hr same =
+    ap (λ a. a .written) (unframe-accepts number list f out ln ll lf lp (own-legal number list ln ll hl) hf)
+    ∙ overhead-never-payload number f g same
+    ∙ sym (ap (λ a. a .written) (unframe-accepts number other g out′ ln lr lg lq (own-legal number other ln lr hr) hg))

@@ -3,21 +3,19 @@
 use mathlib.Core.Path.{_≡_, refl, sym, ap, ap₂, _∙_}
 use mathlib.Core.Bool.{Bool, true, false, cond}
 use mathlib.Core.List.{List}
-use mathlib.Core.Logic.{_≢_}
-use Prim.Native.Nat.{ℕ, zero, suc, _+_, _-_, _*_, _/_, _%_, _<_, _≤_, min}
+use Prim.Native.Nat.{ℕ, zero, suc, _+_, _*_, _/_, _%_, _<_, _≤_}
 use native.Mathlib.Omega.{arith}
 use native.Mathlib.Decide.{ℕ-discrete}
 use borrow.Author.Tests.{eq-eqb, ne-eqb}
 use lib.Dec.{eqb}
-use lib.ListN.{length, getD, take, drop, length-take, length-drop}
+use lib.ListN.{length, getD, drop, length-take, length-drop}
 use lib.Seq.{ext-getD, getD-take, getD-drop}
-use Rattle.bits.specs.Lists.{tabulate}
 use Rattle.bits.specs.ListLaws.{length-tabulate, getD-tabulate}
-use Rattle.bits.specs.Count.{count, differs}
 use Rattle.bits.specs.CountLaws.{count-none, count-zero, count-mono, differs-same, differs-eq, differs-le}
+use Rattle.symbols.specs.TestLaws.{either, cond-yes, cond-no}
 use Rattle.symbols.specs.Cells.{illegal, Legal}
 use Rattle.framing.specs.Frames.{isOverhead, overheadBefore, payloadBefore, overheadCells, payloadCells, overheadStart, ownOverhead, frameByte, frameAt, framed, payloadCell, payloadAt, unframed, cellDiffers, overheadDiffers, differing}
-use Rattle.framing.specs.LayoutLaws.{cond-yes, cond-no, own-within}
+use Rattle.framing.specs.LayoutLaws.{own-within}
 use Rattle.framing.specs.PlaceLaws.{overhead-index-lt, payload-index-lt, Carried, carried, payloadCell-of}
 
 -- ---- buffers by their cells
@@ -92,15 +90,17 @@ overhead-never-payload s f g same =
     (λ y h ly lh. let c : Carried s y (payloadCell s y) = carried s y ly in
     unframed-byte s f y h ly lh ∙ same (payloadCell s y) h (c .inside) lh (c .payload) ∙ sym (unframed-byte s g y h ly lh))
 
+-- And whatever the overhead list is, framing puts the same payload cells.
+pub payload-never-overhead : (s : ℕ) (payload own other : List ℕ) (m h : ℕ) → m < 3712 → h < 2 → isOverhead s m ≡ false
+    → getD (framed s payload own) (m * 2 + h) 0 ≡ getD (framed s payload other) (m * 2 + h) 0
+payload-never-overhead s payload own other m h lm lh e = framed-payload s payload own m h lm lh e ∙ sym (framed-payload s payload other m h lm lh e)
+
 -- ---- the count of differing overhead cells
 
 pub cellDiffers-le : (a : List ℕ) (i : ℕ) (b : List ℕ) (k : ℕ) → cellDiffers a i b k ≤ 1
 unfolding cellDiffers
-cellDiffers-le a i b k = go (eqb (getD a (i * 2) 0) (getD b (k * 2) 0))
-  where
-    go : (t : Bool) → cond t (differs (getD a (i * 2 + 1) 0) (getD b (k * 2 + 1) 0)) 1 ≤ 1
-    go true = differs-le (getD a (i * 2 + 1) 0) (getD b (k * 2 + 1) 0)
-    go false = omega arith
+cellDiffers-le a i b k =
+    either (λ v. v ≤ 1) (eqb (getD a (i * 2) 0) (getD b (k * 2) 0)) _ _ (differs-le (getD a (i * 2 + 1) 0) (getD b (k * 2 + 1) 0)) (omega arith)
 
 -- Cells that are equal in both bytes do not differ, and the reverse.
 pub cellDiffers-same : (a : List ℕ) (i : ℕ) (b : List ℕ) (k : ℕ) → ((h : ℕ) → h < 2 → getD a (i * 2 + h) 0 ≡ getD b (k * 2 + h) 0) → cellDiffers a i b k ≡ 0

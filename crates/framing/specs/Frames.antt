@@ -4,11 +4,12 @@
 -- Assumes nothing.
 use mathlib.Core.Bool.{Bool, cond, not, _&&_, _||_}
 use mathlib.Core.List.{List}
-use Prim.Native.Nat.{ℕ, zero, suc, _+_, _-_, _*_, _/_, _%_}
+use Prim.Native.Nat.{ℕ, suc, _+_, _-_, _*_, _/_, _%_}
 use lib.Dec.{eqb, ltb}
 use lib.ListN.{getD, take, drop}
 use Rattle.bits.specs.Lists.{tabulate}
 use Rattle.bits.specs.Count.{count, differs}
+use Rattle.framing.specs.Numbers.{firstBelow}
 
 -- ---- overhead and payload cells
 
@@ -54,11 +55,6 @@ unfoldable pub framed : ℕ → List ℕ → List ℕ → List ℕ
 framed s payload own = tabulate 7424 (frameAt s payload own)
 
 -- ---- unframing
-
--- The first number below n that passes a test; n where none does.
-unfoldable pub firstBelow : ℕ → (ℕ → Bool) → ℕ
-firstBelow zero p = zero
-firstBelow (suc n) p = cond (p zero) zero (suc (firstBelow n (λ k. p (suc k))))
 
 -- Cell m of sub-frame s carries payload cell y of it.
 unfoldable pub carries : ℕ → ℕ → ℕ → Bool

@@ -1,23 +1,16 @@
 -- Laws of the layout: each index that Frames.antt counts, in closed form; 222, 126, 3,490 and 3,586 cells; 6,144 and 172,032 in all.
 -- Assumes nothing.
-use mathlib.Core.Path.{_≡_, refl, sym, ap, ap₂, _∙_}
-use mathlib.Core.Bool.{Bool, true, false, cond, not, _&&_, _||_, or-true}
-use mathlib.Core.Logic.{_≢_, ⊎-elim}
-use Prim.Native.Nat.{ℕ, zero, suc, _+_, _-_, _*_, _/_, _%_, _<_, _≤_}
+use mathlib.Core.Path.{_≡_, refl, sym, _∙_}
+use mathlib.Core.Bool.{Bool, true, false, cond, or-true}
+use mathlib.Core.Logic.{_≢_}
+use Prim.Native.Nat.{ℕ, zero, suc, _+_, _*_, _/_, _%_, _<_, _≤_}
 use native.Mathlib.Omega.{arith}
 use native.Mathlib.Decide.{ℕ-discrete, decLt}
 use borrow.Author.Tests.{eq-eqb, ne-eqb, lt-ltb, le-ltb}
-use lib.Dec.{eqb, ltb, eqb·suc-zero}
 use Rattle.bits.specs.Count.{count}
+use Rattle.symbols.specs.TestLaws.{cond-yes, cond-no}
 use Rattle.framing.specs.Frames.{isOverhead, overheadBefore, payloadBefore, overheadCells, payloadCells, overheadStart, payloadStart}
 use Rattle.framing.specs.Layout.{edge, gap, spot}
-
--- A test that passes, and one that fails.
-pub cond-yes : (t : Bool) (x y : ℕ) → t ≡ true → cond t x y ≡ x
-cond-yes t x y e = simp e
-
-pub cond-no : (t : Bool) (x y : ℕ) → t ≡ false → cond t x y ≡ y
-cond-no t x y e = simp e
 
 -- ---- the edge and the gap
 
@@ -227,6 +220,10 @@ overhead-all = overheadStart-closed 47
 
 pub payload-all : payloadStart 48 ≡ 172032
 payload-all = payloadStart-closed 47
+
+-- "eight buffers": a buffer is 21,504 cells.
+pub eight-buffers : payloadStart 48 ≡ 8 * 21504
+eight-buffers = payload-all
 
 -- ---- the cell of a payload cell
 

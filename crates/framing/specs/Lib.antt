@@ -1,4 +1,6 @@
 -- Definitions first; the laws about each stand in the file below it.
+pub mod Numbers
+pub mod NumberLaws
 pub mod Frames
 pub mod Layout
 pub mod LayoutLaws

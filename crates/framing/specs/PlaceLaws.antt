@@ -1,28 +1,18 @@
 -- Laws of places: the cell that carries each payload cell, of a sub-frame and of a super-frame, both ways.
 -- Assumes nothing.
-use mathlib.Core.Path.{_≡_, refl, sym, ap, ap₂, _∙_, subst}
-use mathlib.Core.Bool.{Bool, true, false, cond, not, _&&_, true≢false}
-use mathlib.Core.Logic.{_≢_, ⊎-elim}
-use Prim.Native.Nat.{ℕ, zero, suc, _+_, _-_, _*_, _/_, _%_, _<_, _≤_}
-use native.Mathlib.Nat.{not-suc-le-zero, le-of-suc-le-suc}
+use mathlib.Core.Path.{_≡_, refl, sym, ap, _∙_}
+use mathlib.Core.Bool.{Bool, true, false, not, _&&_, true≢false}
+use mathlib.Core.Logic.{_≢_}
+use Prim.Native.Nat.{ℕ, zero, suc, _+_, _-_, _/_, _%_, _<_, _≤_}
 use native.Mathlib.Omega.{arith}
 use native.Mathlib.Decide.{ℕ-discrete, decLt}
 use borrow.Author.Tests.{eq-eqb, ne-eqb, lt-ltb, le-ltb}
 use lib.Dec.{eqb, ltb}
 use Rattle.bits.specs.Count.{count}
-use Rattle.framing.specs.Frames.{isOverhead, overheadBefore, payloadBefore, overheadCells, payloadCells, payloadStart, firstBelow, carries, payloadCell, subFrameOf, cellOf}
-use Rattle.framing.specs.Layout.{edge, gap, spot}
-use Rattle.framing.specs.LayoutLaws.{Place, low, pilot, rest, place, low-is, pilot-is, rest-is, which, overhead-low, overhead-pilot, edge-cells, payload-rest, payload-zeroth, payload-other, cells-all, overheadCells-gap, edge-le, Stands, spot-stands, spot-of, payloadStart-closed, payload-all}
-
--- ---- the first number that passes
-
-pub firstBelow-is : (n : ℕ) (p : ℕ → Bool) (i : ℕ) → i < n → p i ≡ true → ((k : ℕ) → k < i → p k ≡ false) → firstBelow n p ≡ i
-unfolding firstBelow
-firstBelow-is zero p i l e all = absurd (not-suc-le-zero l)
-firstBelow-is (suc n) p zero l e all = simp e
-firstBelow-is (suc n) p (suc i) l e all =
-    let z : p 0 ≡ false = all 0 (omega arith) in
-    simp z (ap suc (firstBelow-is n (λ k. p (suc k)) i (le-of-suc-le-suc l) e (λ k lk. all (suc k) (omega arith))))
+use Rattle.framing.specs.NumberLaws.{firstBelow-is}
+use Rattle.framing.specs.Frames.{isOverhead, overheadBefore, payloadBefore, overheadCells, payloadCells, payloadStart, carries, payloadCell, subFrameOf, cellOf}
+use Rattle.framing.specs.Layout.{edge, spot}
+use Rattle.framing.specs.LayoutLaws.{Place, low, pilot, rest, place, rest-is, which, overhead-low, overhead-pilot, edge-cells, payload-rest, payload-zeroth, cells-all, overheadCells-gap, Stands, spot-stands, spot-of, payloadStart-closed}
 
 -- ---- overhead cells of a sub-frame
 

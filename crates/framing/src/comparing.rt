@@ -2,7 +2,7 @@
 use crate::layout::edge;
 use crate::layout::gap;
 ghost use mathlib.Core.Path.{_≡_};
-ghost use Prim.Native.Nat.{_+_, _*_, _<_, _≤_};
+ghost use Prim.Native.Nat.{_+_, _*_, _<_};
 ghost use lib.ListN.{length};
 ghost use Rattle.framing.specs.Frames.{overheadCells, cellDiffers, overheadDiffers, differing};
 

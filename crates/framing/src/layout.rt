@@ -5,14 +5,19 @@ ghost use lib.ListN.{length};
 ghost use Rattle.framing.specs.Frames.{overheadCells, payloadCells, overheadStart, ownOverhead};
 ghost use Rattle.framing.specs.Layout.{edge, gap};
 
+// The training cells are those below this one; in sub-frame 0 the overhead runs on.
+const TRAINING: usize = 11;
+
+const FIRST_OVERHEAD: usize = 110;
+
 // All cells of a sub-frame below this one are overhead, and of the others the pilots alone.
 pub fn edge(number: u32) -> usize
     ensures { λ r. ⌜ (r ≡ edge number) × (r ≤ overheadCells number) ⌝ }
 {
     if number == 0 {
-        return 110;
+        return FIRST_OVERHEAD;
     }
-    11
+    TRAINING
 }
 
 // How many of the cells below the edge are no pilots.

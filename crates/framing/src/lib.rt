@@ -28,6 +28,7 @@ pub fn frame(number: u32, payload: &[u8], overhead: &[u8], frame: &mut [u8]) -> 
     if frame.len() != FRAME {
         return Answer::Refused(Refusal::Misfit);
     }
+    // The payload of a number above 47 is not measured.
     if LAST < number {
         return Answer::Refused(Refusal::NoSuchFrame);
     }
@@ -57,6 +58,7 @@ pub fn unframe(number: u32, frame: &[u8], overhead: &[u8], payload: &mut [u8]) -
     if frame.len() != FRAME {
         return Answer::Refused(Refusal::Misfit);
     }
+    // The payload of a number above 47 is not measured.
     if LAST < number {
         return Answer::Refused(Refusal::NoSuchFrame);
     }

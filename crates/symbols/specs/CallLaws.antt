@@ -1,7 +1,7 @@
 -- Laws of the calls: what each answers and leaves in every case, one law a case; a refused call leaves the buffer as it was.
 -- Assumes nothing.
 use mathlib.Core.Path.{_≡_, refl, ap, sym, _∙_}
-use mathlib.Core.Bool.{Bool, true, false, cond, not}
+use mathlib.Core.Bool.{not}
 use mathlib.Core.Logic.{_≢_}
 use mathlib.Core.List.{List}
 use Prim.Native.Nat.{ℕ, _<_, _≤_}
@@ -13,6 +13,7 @@ use Rattle.calls.specs.declared.Answer.the-variants.{Done, Refused}
 use Rattle.calls.specs.declared.Refusal.{Refusal}
 use Rattle.calls.specs.declared.Refusal.the-variants.{Misfit, OffGrid}
 use Rattle.calls.specs.Answers.{TurnedBack}
+use Rattle.symbols.specs.TestLaws.{either}
 use Rattle.symbols.specs.Cells.{toCells, toBits, firstIllegal, Legal}
 use Rattle.symbols.specs.CellLaws.{all-legal, none-illegal, toCells-length, toBits-length, toCells-legal, bits-back, cells-back}
 use Rattle.symbols.specs.Calls.{After, after, bitsToCells, cellsToBits}
@@ -61,11 +62,6 @@ demap-legal cells at e h = all-legal cells (rw e at h)
 pub ruleset demap-cases = (demap-cells-misfit, demap-bits-misfit, demap-off-grid, demap-done, demap-legal)
 
 -- ---- refused calls leave the buffer as it was
-
--- What holds of both outcomes of a test holds of what it gives.
-pub either : {A : Type 0} (P : A → Type 0) (t : Bool) (x y : A) → P x → P y → P (cond t x y)
-either P true x y px py = px
-either P false x y px py = py
 
 -- Where the call was refused, the buffer holds what was lent.
 abbrev pub Kept : List ℕ → After → Type 0

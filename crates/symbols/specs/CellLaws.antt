@@ -1,7 +1,7 @@
 -- Laws of cells: how the code makes and takes apart a cell, that the two maps undo each other, and each bit by its place.
 -- Assumes nothing.
-use mathlib.Core.Path.{_≡_, refl, sym, ap, ap₂, _∙_}
-use mathlib.Core.Bool.{Bool, true, false, cond}
+use mathlib.Core.Path.{_≡_, refl, ap, ap₂, _∙_}
+use mathlib.Core.Bool.{cond}
 use mathlib.Core.List.{List}
 use Prim.Native.Nat.{ℕ, zero, suc, _+_, _*_, _/_, _%_, _<_, _≤_}
 use native.Mathlib.Nat.{div-one}
@@ -15,8 +15,9 @@ use Rattle.bits.specs.Lists.{tabulate}
 use Rattle.bits.specs.ListLaws.{length-tabulate, getD-tabulate, tabulate-below}
 use Rattle.bits.specs.Bits.{bitOf, bit, fromBits}
 use Rattle.bits.specs.BitLaws.{bitOf-fromBits, fromBits-lt}
-use Rattle.bits.specs.Seeking.{Seeking, seek-all, none-passes}
+use Rattle.bits.specs.Seeking.{seek-all, none-passes}
 use Rattle.bits.specs.Tests.{agree}
+use Rattle.symbols.specs.TestLaws.{either}
 use Rattle.symbols.specs.Levels.{level, ordinal, levelAt, firstBit, secondBit}
 use Rattle.symbols.specs.LevelLaws.{level-is, ordinal-below, firstBit-lt, secondBit-lt}
 use Rattle.symbols.specs.Cells.{rails, xOf, yOf, cellByte, cellsAt, toCells, illegal, firstIllegal, Legal, iOf, qOf, symbol, railBits, byteOfCell, byteAt, toBits}
@@ -99,11 +100,9 @@ rails-lt a b c d = omega (arith, ordinal-below (level-is a b), ordinal-below (le
 
 pub cellByte-lt : (b h : ℕ) → cellByte b h < 16
 unfolding cellByte xOf yOf
-cellByte-lt b h = go (eqb h 0)
-  where
-    go : (t : Bool) → cond t (xOf b) (yOf b) < 16
-    go true = rails-lt (bitOf 8 b 0) (bitOf 8 b 2) (bitOf 8 b 4) (bitOf 8 b 6)
-    go false = rails-lt (bitOf 8 b 1) (bitOf 8 b 3) (bitOf 8 b 5) (bitOf 8 b 7)
+cellByte-lt b h =
+    either (λ v. v < 16) (eqb h 0) (xOf b) (yOf b) (rails-lt (bitOf 8 b 0) (bitOf 8 b 2) (bitOf 8 b 4) (bitOf 8 b 6))
+    (rails-lt (bitOf 8 b 1) (bitOf 8 b 3) (bitOf 8 b 5) (bitOf 8 b 7))
 
 pub byteOfCell-lt : (x y : ℕ) → byteOfCell x y < 256
 unfolding byteOfCell

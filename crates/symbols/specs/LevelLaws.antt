@@ -1,7 +1,6 @@
 -- Laws of levels: the tables that the code reads, the arithmetic on a level, and that levels and bit pairs give each other back.
 -- Assumes nothing.
 use mathlib.Core.Path.{_≡_, refl}
-use mathlib.Core.Bool.{Bool, true, false, cond}
 use mathlib.Core.List.{List, [], _∷_}
 use Prim.Native.Nat.{ℕ, zero, suc, _+_, _*_, _/_, _%_, _<_}
 use native.Mathlib.Omega.{arith}
@@ -12,6 +11,7 @@ use lib.Signed.{nonNeg}
 use mir.Syntax.{w8}
 use mir.Val.{SFits, toZ, ofZ}
 use Rattle.bits.specs.Tests.{agree, each, grid}
+use Rattle.symbols.specs.TestLaws.{either}
 use Rattle.symbols.specs.Levels.{level, Level, minus-three, minus-one, plus-three, plus-one, ordinal, levelAt, firstBit, secondBit}
 
 -- What holds of the four levels holds of each.
@@ -100,8 +100,4 @@ firstBit-lt (negsuc n) = lit< tt
 
 pub secondBit-lt : (l : ℤ) → secondBit l < 2
 unfolding secondBit
-secondBit-lt l = go (eqb (natAbs l) 1)
-  where
-    go : (t : Bool) → cond t 1 0 < 2
-    go true = lit< tt
-    go false = lit< tt
+secondBit-lt l = either (λ v. v < 2) (eqb (natAbs l) 1) 1 0 (lit< tt) (lit< tt)

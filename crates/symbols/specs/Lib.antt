@@ -1,4 +1,5 @@
 -- Definitions first; the laws about each stand in the file below it.
+pub mod TestLaws
 pub mod Levels
 pub mod LevelLaws
 pub mod Cells

@@ -14,18 +14,18 @@ unframe-spec =
     (λ c. search kit)  -- returns
     (λ c. search kit)  -- returns-2
     (λ c. search kit)  -- returns-3
-    (λ c κs. search kit)  -- payload-cells-requires
-    (λ c. search kit)  -- mul-if4
+    (λ c κs. search needs)  -- payload-cells-requires
+    (λ c. search needs)  -- mul-if4
     (λ c. search kit)  -- returns-4
-    (λ c κs. search kit)  -- own-overhead-requires
-    (λ c κs. search kit)  -- first-illegal-requires
-    (λ c κs. search kit)  -- overhead-start-requires
-    (λ c. search kit)  -- mul-t17
-    (λ c. search kit)  -- add-t18
+    (λ c κs. search needs)  -- own-overhead-requires
+    (λ c κs. search needs)  -- first-illegal-requires
+    (λ c κs. search needs)  -- overhead-start-requires
+    (λ c. search needs)  -- mul-t17
+    (λ c. search needs)  -- add-t18
     (λ c. search kit)  -- returns-5
-    (λ c κs. search kit)  -- first-illegal-requires-2
+    (λ c κs. search needs)  -- first-illegal-requires-2
     (λ c. search kit)  -- returns-6
-    (λ c κs. search kit)  -- extract-requires
-    (λ c κs. search kit)  -- differing-requires
-    (λ c. search kit)  -- same-length
+    (λ c κs. search needs)  -- extract-requires
+    (λ c κs. search needs)  -- differing-requires
+    (λ c. search needs)  -- same-length
     (λ c. search (needs, unframe-done)))  -- returns-7

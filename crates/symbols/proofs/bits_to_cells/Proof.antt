@@ -13,6 +13,6 @@ bits-to-cells-spec =
     (tie.spec
     (λ c. search kit)  -- returns
     (λ c. search kit)  -- returns-2
-    (λ c κs. search kit)  -- map-requires
-    (λ c. search kit)  -- same-length
+    (λ c κs. search needs)  -- map-requires
+    (λ c. search needs)  -- same-length
     (λ c. search kit))  -- returns-3

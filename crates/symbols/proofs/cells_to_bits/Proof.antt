@@ -13,8 +13,8 @@ cells-to-bits-spec =
     (tie.spec
     (λ c. search kit)  -- returns
     (λ c. search kit)  -- returns-2
-    (λ c κs. search kit)  -- first-illegal-requires
+    (λ c κs. search needs)  -- first-illegal-requires
     (λ c. search kit)  -- returns-3
     (λ c κs. search kit)  -- demap-requires
-    (λ c. search kit)  -- same-length
+    (λ c. search needs)  -- same-length
     (λ c. search kit))  -- returns-4

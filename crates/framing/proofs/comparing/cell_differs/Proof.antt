@@ -11,16 +11,16 @@ pub cell-differs-spec : {M : Type 1} → statement M
 cell-differs-spec =
     tie.close
     (tie.spec
-    (λ c. search kit)  -- mul-if1
-    (λ c. search kit)  -- shared-slice-read-if1
-    (λ c. search kit)  -- mul-if1-2
-    (λ c. search kit)  -- shared-slice-read-if1-2
+    (λ c. search needs)  -- mul-if1
+    (λ c. search needs)  -- shared-slice-read-if1
+    (λ c. search needs)  -- mul-if1-2
+    (λ c. search needs)  -- shared-slice-read-if1-2
     (λ c. search kit)  -- returns
-    (λ c. search kit)  -- mul-if2
-    (λ c. search kit)  -- add-if2
-    (λ c. search kit)  -- shared-slice-read-if2
-    (λ c. search kit)  -- mul-if2-2
-    (λ c. search kit)  -- add-if2-2
-    (λ c. search kit)  -- shared-slice-read-if2-2
+    (λ c. search needs)  -- mul-if2
+    (λ c. search needs)  -- add-if2
+    (λ c. search needs)  -- shared-slice-read-if2
+    (λ c. search needs)  -- mul-if2-2
+    (λ c. search needs)  -- add-if2-2
+    (λ c. search needs)  -- shared-slice-read-if2-2
     (λ c. search kit)  -- returns-2
     (λ c. search kit))  -- returns-3

@@ -11,11 +11,11 @@ pub overhead-differs-spec : {M : Type 1} → statement M
 overhead-differs-spec =
     tie.close
     (tie.spec
-    (λ c κs. search kit)  -- edge-requires
-    (λ c κs. search kit)  -- cell-differs-requires
+    (λ c κs. search needs)  -- edge-requires
+    (λ c κs. search needs)  -- cell-differs-requires
     (λ c. search kit)  -- returns
     (λ c. search kit)  -- returns-2
-    (λ c κs. search kit)  -- gap-requires
-    (λ c. search kit)  -- add-cell-differs
-    (λ c κs. search kit)  -- cell-differs-requires-2
+    (λ c κs. search needs)  -- gap-requires
+    (λ c. search needs)  -- add-cell-differs
+    (λ c κs. search needs)  -- cell-differs-requires-2
     (λ c. search kit))  -- returns-3

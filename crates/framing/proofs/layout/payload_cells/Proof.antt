@@ -2,7 +2,6 @@
 -- Assumes nothing.
 use native.Mathlib.Omega.{arith}
 use Rattle.framing.specs.LayoutLaws.{sizes-zeroth, sizes-other}
-use borrow.Author.Needs.{needs}
 use Rattle.framing.proofs.layout.payload_cells.Statement.{statement}
 use Rattle.framing.proofs.layout.payload_cells.Tie as tie
 

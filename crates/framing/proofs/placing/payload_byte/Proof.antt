@@ -11,12 +11,12 @@ pub payload-byte-spec : {M : Type 1} → statement M
 payload-byte-spec =
     tie.close
     (tie.spec
-    (λ c κs. search kit)  -- gap-requires
-    (λ c. search kit)  -- add-k
-    (λ c. search kit)  -- mul-result
-    (λ c. search kit)  -- add-result
-    (λ c. search kit)  -- add-result-2
-    (λ c. search kit)  -- mul-result-2
-    (λ c. search kit)  -- add-result-3
-    (λ c. search kit)  -- shared-slice-read-result
+    (λ c κs. search needs)  -- gap-requires
+    (λ c. search needs)  -- add-k
+    (λ c. search needs)  -- mul-result
+    (λ c. search needs)  -- add-result
+    (λ c. search needs)  -- add-result-2
+    (λ c. search needs)  -- mul-result-2
+    (λ c. search needs)  -- add-result-3
+    (λ c. search needs)  -- shared-slice-read-result
     (λ c. search kit))  -- returns

@@ -11,8 +11,8 @@ pub byte-of-spec : {M : Type 1} → statement M
 byte-of-spec =
     tie.close
     (tie.spec
-    (λ c κs. search kit)  -- weave-requires
-    (λ c. search kit)  -- mul-result
-    (λ c κs. search kit)  -- weave-requires-2
-    (λ c. search kit)  -- add-result
+    (λ c κs. search needs)  -- weave-requires
+    (λ c. search needs)  -- mul-result
+    (λ c κs. search needs)  -- weave-requires-2
+    (λ c. search needs)  -- add-result
     (λ c. search kit))  -- returns

@@ -11,7 +11,7 @@ pub cell-byte-spec : {M : Type 1} → statement M
 cell-byte-spec =
     tie.close
     (tie.spec
-    (λ c κs. search kit)  -- rails-requires
+    (λ c κs. search needs)  -- rails-requires
     (λ c. search kit)  -- returns
-    (λ c κs. search kit)  -- rails-requires-2
+    (λ c κs. search needs)  -- rails-requires-2
     (λ c. search kit))  -- returns-2

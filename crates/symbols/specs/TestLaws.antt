@@ -1,0 +1,17 @@
+-- Laws of tests: general, about `cond` alone.
+-- Assumes nothing.
+use mathlib.Core.Path.{_≡_}
+use mathlib.Core.Bool.{Bool, true, false, cond}
+use Prim.Native.Nat.{ℕ}
+
+-- What holds of both outcomes of a test holds of what it gives.
+pub either : {A : Type 0} (P : A → Type 0) (t : Bool) (x y : A) → P x → P y → P (cond t x y)
+either P true x y px py = px
+either P false x y px py = py
+
+-- A test that passes, and one that fails.
+pub cond-yes : (t : Bool) (x y : ℕ) → t ≡ true → cond t x y ≡ x
+cond-yes t x y e = simp e
+
+pub cond-no : (t : Bool) (x y : ℕ) → t ≡ false → cond t x y ≡ y
+cond-no t x y e = simp e
