@@ -166,7 +166,21 @@ unfolding xorSum
 xorSum-first zero f = ⊕-comm 0 (f 0)
 xorSum-first (suc n) f = ap (λ x. x ⊕ f (suc n)) (xorSum-first n f) ∙ ⊕-assoc (f 0) (xorSum n (λ k. f (suc k))) (f (suc n))
 
--- A sum may be gathered in any order: in reverse.
+-- A sum may be gathered in any order: part after part, by rows or by columns, in reverse.
+pub xorSum-split : (n m : ℕ) (f : ℕ → ℕ) → xorSum (n + m) f ≡ xorSum n f ⊕ xorSum m (λ k. f (n + k))
+unfolding xorSum
+xorSum-split n zero f = let e : n + 0 ≡ n = omega arith in ap (λ j. xorSum j f) e ∙ sym (⊕-zero (xorSum n f))
+xorSum-split n (suc m) f =
+    let e : n + suc m ≡ suc (n + m) = omega arith in
+    ap (λ j. xorSum j f) e ∙ ap (λ x. x ⊕ f (n + m)) (xorSum-split n m f)
+    ∙ ⊕-assoc (xorSum n f) (xorSum m (λ k. f (n + k))) (f (n + m))
+
+pub xorSum-exchange : (m n : ℕ) (f : ℕ → ℕ → ℕ) → xorSum m (λ i. xorSum n (f i)) ≡ xorSum n (λ j. xorSum m (λ i. f i j))
+unfolding xorSum
+xorSum-exchange zero n f = sym (xorSum-none n (λ j. 0) (λ j l. refl))
+xorSum-exchange (suc m) n f =
+    ap (λ x. x ⊕ xorSum n (f m)) (xorSum-exchange m n f) ∙ sym (xorSum-⊕ n (λ j. xorSum m (λ i. f i j)) (f m))
+
 pub xorSum-reverse : (n : ℕ) (f g : ℕ → ℕ) → ((i j : ℕ) → suc (i + j) ≡ n → f i ≡ g j) → xorSum n f ≡ xorSum n g
 unfolding xorSum
 xorSum-reverse zero f g h = refl
