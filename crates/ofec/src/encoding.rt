@@ -7,9 +7,9 @@ ghost use mathlib.Core.Path.{_≡_};
 ghost use Prim.Native.Nat.{_<_};
 ghost use lib.ListN.{length};
 ghost use Rattle.bits.specs.Bits.{pack};
-ghost use Rattle.ofec.specs.Sources.{backHalf, backHalves};
-ghost use Rattle.ofec.specs.History.{shift};
-ghost use Rattle.ofec.specs.Encoding.{encodedWord, encoded};
+ghost use Rattle.ofec.specs.BackHalves.{backHalf, backHalves};
+ghost use Rattle.rows.specs.History.{shift};
+ghost use Rattle.rows.specs.Encoding.{encodedWord, encoded};
 
 // The back half of word w.
 fn encode_word(history: &[u8], payload: &[u8], pair: u32, w: usize, back: &mut [u8])

@@ -2,7 +2,7 @@
 ghost use mathlib.Core.Path.{_≡_};
 ghost use Prim.Native.Nat.{_-_, _≤_};
 ghost use lib.ListN.{length, take, drop};
-ghost use Rattle.ofec.specs.History.{shift};
+ghost use Rattle.rows.specs.History.{shift};
 
 // Moves every pair but the oldest one place down; the last 512 bytes are left to be written.
 fn move_down(history: &mut [u8])

@@ -1,4 +1,4 @@
-// Rows and pairs of 01: encoding and receiving a pair.
+// Rows and pairs of 01: encoding a pair and receiving it.
 mod encoding;
 mod history;
 mod pairs;
@@ -10,7 +10,7 @@ use calls::Refusal;
 use encoding::encode_into;
 use receiving::receive_into;
 ghost use mathlib.Core.Path.{_≡_};
-ghost use Rattle.ofec.specs.Calls.{afterEncode, encodeCall, afterReceive, receiveCall};
+ghost use Rattle.rows.specs.Calls.{afterEncode, encodeCall, afterReceive, receiveCall};
 
 // Encodes a pair: its coded bytes, the shifted history and the next pair number.
 pub fn encode_pair(payload: &[u8], coded: &mut [u8], history: &mut [u8], pair: u32) -> Answer

@@ -3,7 +3,7 @@ ghost use mathlib.Core.Path.{_≡_};
 ghost use Prim.Native.Nat.{_<_};
 ghost use lib.ListN.{length};
 ghost use Rattle.bits.specs.Bits.{bit, byteOf};
-ghost use Rattle.ofec.specs.Sources.{codedSource, payloadSource, codedFrom, payloadFrom};
+ghost use Rattle.ofec.specs.BackHalves.{codedSource, payloadSource, codedFrom, payloadFrom};
 use crate::words::xor16;
 
 // Bit i of the coded pair, where it stands among the back halves.

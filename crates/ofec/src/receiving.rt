@@ -9,9 +9,9 @@ ghost use Prim.Native.Nat.{_<_};
 ghost use lib.ListN.{length};
 ghost use Rattle.bits.specs.Bits.{pack};
 ghost use Rattle.bch.specs.Repair.{mark};
-ghost use Rattle.ofec.specs.Sources.{backHalf, backHalves, codedFrom};
-ghost use Rattle.ofec.specs.History.{shift};
-ghost use Rattle.ofec.specs.Receiving.{repairOf, mendedWord, newestPair, payloadOut, marks as marksOf};
+ghost use Rattle.ofec.specs.BackHalves.{backHalf, backHalves};
+ghost use Rattle.rows.specs.History.{shift};
+ghost use Rattle.rows.specs.Receiving.{repairOf, mendedWord, newestPair, payloadOut, marks as marksOf};
 
 // The repaired back half of word w, and its mark.
 fn receive_word(history: &[u8], coded: &[u8], pair: u32, w: usize, back: &mut [u8]) -> u8
@@ -36,16 +36,6 @@ fn receive_words(history: &[u8], coded: &[u8], pair: u32, backs: &mut [u8], mark
     }
 }
 
-// The newest pair, which enters the history.
-fn take_in(backs: &[u8], history: &mut [u8])
-    requires { ⌜ (length (now backs) ≡ 512) × (length (now history) ≡ 5120) ⌝ }
-    ensures { λ _. ⌜ now (history .exit) ≡ shift (now (history .entry)) (codedFrom (now (backs .entry))) ⌝ }
-{
-    let mut newest = [0u8; 512];
-    put_coded(backs, &mut newest);
-    shift_in(history, &newest);
-}
-
 // Payload and marks of a pair received, and its history.
 pub fn receive_into(
     coded: &[u8],
@@ -60,5 +50,7 @@ pub fn receive_into(
     let mut backs = [0u8; 512];
     receive_words(history, coded, pair, &mut backs, marks);
     put_payload(&backs, payload);
-    take_in(&backs, history);
+    let mut newest = [0u8; 512];
+    put_coded(&backs, &mut newest);
+    shift_in(history, &newest);
 }

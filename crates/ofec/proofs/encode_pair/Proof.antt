@@ -1,6 +1,6 @@
 -- `ofec::encode_pair` meets its contract: one law for each case.
 -- Assumes nothing.
-use Rattle.ofec.specs.CallLaws.{encode-cases}
+use Rattle.rows.specs.CallLaws.{encode-cases}
 use borrow.Author.Needs.{needs}
 use Rattle.ofec.proofs.encode_pair.Statement.{statement}
 use Rattle.ofec.proofs.encode_pair.Tie as tie

@@ -1,6 +1,6 @@
 -- `ofec::receive_pair` meets its contract: one law for each case.
 -- Assumes nothing.
-use Rattle.ofec.specs.CallLaws.{receive-cases}
+use Rattle.rows.specs.CallLaws.{receive-cases}
 use borrow.Author.Needs.{needs}
 use Rattle.ofec.proofs.receive_pair.Statement.{statement}
 use Rattle.ofec.proofs.receive_pair.Tie as tie

@@ -3,8 +3,8 @@
 use Prim.Native.Nat.{_-_}
 use Rattle.bits.specs.Bits.{byteOf, pack}
 use Rattle.bits.specs.Filling.{Blocks, by-blocks}
-use Rattle.ofec.specs.Encoding.{encodedWord}
-use Rattle.ofec.specs.Sources.{backHalves, back-block}
+use Rattle.rows.specs.Encoding.{encodedWord}
+use Rattle.ofec.specs.BackHalves.{backHalves, back-block}
 use borrow.Author.Needs.{needs}
 use Rattle.ofec.proofs.encoding.encode_words.Statement.{statement}
 use Rattle.ofec.proofs.encoding.encode_words.Tie as tie
@@ -24,15 +24,15 @@ encode-words-spec =
     (tie.spec
     Inv-loop
     μ-loop
-    (λ c. search kit)  -- loop-holds
-    (λ c. search kit)  -- mul-a
-    (λ c. search kit)  -- add-e
-    (λ c. search kit)  -- sub-encode-word
-    (λ c. search kit)  -- part-encode-word-start
-    (λ c. search kit)  -- part-encode-word-end
-    (λ c κs. search kit)  -- encode-word-requires
-    (λ c. search kit)  -- add-w
-    (λ c. search kit)  -- loop-less
-    (λ c. search kit)  -- loop-again
-    (λ c. search kit)  -- same-length
-    (λ c. search kit))  -- returns
+    (λ c. search kit) -- loop-holds
+    (λ c. search kit) -- mul-a
+    (λ c. search kit) -- add-e
+    (λ c. search kit) -- sub-encode-word
+    (λ c. search kit) -- part-encode-word-start
+    (λ c. search kit) -- part-encode-word-end
+    (λ c κs. search kit) -- encode-word-requires
+    (λ c. search kit) -- add-w
+    (λ c. search kit) -- loop-less
+    (λ c. search kit) -- loop-again
+    (λ c. search kit) -- same-length
+    (λ c. search kit)) -- returns

@@ -3,7 +3,7 @@
 use Prim.Native.Nat.{_-_}
 use lib.ListN.{length, getD}
 use Rattle.bits.specs.Filling.{Filling, fill}
-use Rattle.ofec.specs.Moving.{copy-done}
+use Rattle.ofec.specs.Shifting.{copy-done}
 use borrow.Author.Needs.{needs}
 use Rattle.ofec.proofs.history.copy.Statement.{statement}
 use Rattle.ofec.proofs.history.copy.Tie as tie

@@ -1,8 +1,8 @@
--- `ofec::history::move_down` meets its contract: the invariant of specs/Moving.antt.
+-- `ofec::history::move_down` meets its contract: the invariant of specs/Shifting.antt.
 -- Assumes nothing.
 use Prim.Native.Nat.{_-_}
 use lib.ListN.{length}
-use Rattle.ofec.specs.Moving.{Moving, moving}
+use Rattle.ofec.specs.Shifting.{Moving, moving}
 use borrow.Author.Needs.{needs}
 use Rattle.ofec.proofs.history.move_down.Statement.{statement}
 use Rattle.ofec.proofs.history.move_down.Tie as tie

@@ -1,6 +1,6 @@
 -- `ofec::history::shift_in` meets its contract.
 -- Assumes nothing.
-use Rattle.ofec.specs.Moving.{shift-is}
+use Rattle.ofec.specs.Shifting.{shift-is}
 use borrow.Author.Needs.{needs}
 use Rattle.ofec.proofs.history.shift_in.Statement.{statement}
 use Rattle.ofec.proofs.history.shift_in.Tie as tie

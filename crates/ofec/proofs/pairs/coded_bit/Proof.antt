@@ -1,6 +1,6 @@
 -- `ofec::pairs::coded_bit` meets its contract: the bit at the place that the closed form gives.
 -- Assumes nothing.
-use Rattle.ofec.specs.Sources.{bit-sources}
+use Rattle.ofec.specs.BackHalves.{bit-sources}
 use borrow.Author.Needs.{needs}
 use Rattle.ofec.proofs.pairs.coded_bit.Statement.{statement}
 use Rattle.ofec.proofs.pairs.coded_bit.Tie as tie
@@ -11,8 +11,8 @@ pub coded-bit-spec : {M : Type 1} → statement M
 coded-bit-spec =
     tie.close
     (tie.spec
-    (λ c κs. search kit)  -- xor16-requires
-    (λ c. search kit)  -- mul-bit
-    (λ c. search kit)  -- add-bit
-    (λ c κs. search kit)  -- bit-requires
-    (λ c. search kit))  -- returns
+    (λ c κs. search kit) -- xor16-requires
+    (λ c. search kit) -- mul-bit
+    (λ c. search kit) -- add-bit
+    (λ c κs. search kit) -- bit-requires
+    (λ c. search kit)) -- returns

@@ -2,8 +2,8 @@
 -- Assumes nothing.
 use Prim.Native.Nat.{_+_, _-_, _*_}
 use Rattle.bits.specs.Bits.{bit, byteOf}
+use Rattle.ofec.specs.BackHalves.{codedSource}
 use Rattle.bits.specs.Gathering.{Gathering, gather}
-use Rattle.ofec.specs.Sources.{codedSource}
 use borrow.Author.Needs.{needs}
 use Rattle.ofec.proofs.pairs.coded_byte.Statement.{statement}
 use Rattle.ofec.proofs.pairs.coded_byte.Tie as tie
@@ -23,13 +23,13 @@ coded-byte-spec =
     (tie.spec
     Inv-loop
     μ-loop
-    (λ c. search kit)  -- loop-holds
-    (λ c. search kit)  -- mul-byte
-    (λ c. search kit)  -- mul-coded-bit
-    (λ c. search kit)  -- add-coded-bit
-    (λ c κs. search kit)  -- coded-bit-requires
-    (λ c. search kit)  -- add-byte
-    (λ c. search kit)  -- add-b
-    (λ c. search kit)  -- loop-less
-    (λ c. search kit)  -- loop-again
-    (λ c. search kit))  -- returns
+    (λ c. search kit) -- loop-holds
+    (λ c. search kit) -- mul-byte
+    (λ c. search kit) -- mul-coded-bit
+    (λ c. search kit) -- add-coded-bit
+    (λ c κs. search kit) -- coded-bit-requires
+    (λ c. search kit) -- add-byte
+    (λ c. search kit) -- add-b
+    (λ c. search kit) -- loop-less
+    (λ c. search kit) -- loop-again
+    (λ c. search kit)) -- returns

@@ -2,8 +2,8 @@
 -- Assumes nothing.
 use Prim.Native.Nat.{_+_, _-_, _*_}
 use Rattle.bits.specs.Bits.{bit, byteOf}
+use Rattle.ofec.specs.BackHalves.{payloadSource}
 use Rattle.bits.specs.Gathering.{Gathering, gather}
-use Rattle.ofec.specs.Sources.{payloadSource}
 use borrow.Author.Needs.{needs}
 use Rattle.ofec.proofs.pairs.payload_byte.Statement.{statement}
 use Rattle.ofec.proofs.pairs.payload_byte.Tie as tie
@@ -23,13 +23,13 @@ payload-byte-spec =
     (tie.spec
     Inv-loop
     μ-loop
-    (λ c. search kit)  -- loop-holds
-    (λ c. search kit)  -- mul-byte
-    (λ c. search kit)  -- mul-payload-bit
-    (λ c. search kit)  -- add-payload-bit
-    (λ c κs. search kit)  -- payload-bit-requires
-    (λ c. search kit)  -- add-byte
-    (λ c. search kit)  -- add-b
-    (λ c. search kit)  -- loop-less
-    (λ c. search kit)  -- loop-again
-    (λ c. search kit))  -- returns
+    (λ c. search kit) -- loop-holds
+    (λ c. search kit) -- mul-byte
+    (λ c. search kit) -- mul-payload-bit
+    (λ c. search kit) -- add-payload-bit
+    (λ c κs. search kit) -- payload-bit-requires
+    (λ c. search kit) -- add-byte
+    (λ c. search kit) -- add-b
+    (λ c. search kit) -- loop-less
+    (λ c. search kit) -- loop-again
+    (λ c. search kit)) -- returns

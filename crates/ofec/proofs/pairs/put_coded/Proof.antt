@@ -3,7 +3,7 @@
 use Prim.Native.Nat.{_-_}
 use Rattle.bits.specs.Bits.{bit, byteOf, pack}
 use Rattle.bits.specs.Filling.{Filling, fill}
-use Rattle.ofec.specs.Sources.{codedSource, codedFrom}
+use Rattle.ofec.specs.BackHalves.{codedSource, codedFrom}
 use borrow.Author.Needs.{needs}
 use Rattle.ofec.proofs.pairs.put_coded.Statement.{statement}
 use Rattle.ofec.proofs.pairs.put_coded.Tie as tie
@@ -23,11 +23,11 @@ put-coded-spec =
     (tie.spec
     Inv-loop
     μ-loop
-    (λ c. search kit)  -- loop-holds
-    (λ c κs. search kit)  -- coded-byte-requires
-    (λ c. search kit)  -- slice-write-coded
-    (λ c. search kit)  -- add-j
-    (λ c. search kit)  -- loop-less
-    (λ c. search kit)  -- loop-again
-    (λ c. search kit)  -- same-length
-    (λ c. search kit))  -- returns
+    (λ c. search kit) -- loop-holds
+    (λ c κs. search kit) -- coded-byte-requires
+    (λ c. search kit) -- slice-write-coded
+    (λ c. search kit) -- add-j
+    (λ c. search kit) -- loop-less
+    (λ c. search kit) -- loop-again
+    (λ c. search kit) -- same-length
+    (λ c. search kit)) -- returns

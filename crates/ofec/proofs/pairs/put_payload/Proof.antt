@@ -3,7 +3,7 @@
 use Prim.Native.Nat.{_-_}
 use Rattle.bits.specs.Bits.{bit, byteOf, pack}
 use Rattle.bits.specs.Filling.{Filling, fill}
-use Rattle.ofec.specs.Sources.{payloadSource, payloadFrom}
+use Rattle.ofec.specs.BackHalves.{payloadSource, payloadFrom}
 use borrow.Author.Needs.{needs}
 use Rattle.ofec.proofs.pairs.put_payload.Statement.{statement}
 use Rattle.ofec.proofs.pairs.put_payload.Tie as tie
@@ -23,11 +23,11 @@ put-payload-spec =
     (tie.spec
     Inv-loop
     μ-loop
-    (λ c. search kit)  -- loop-holds
-    (λ c κs. search kit)  -- payload-byte-requires
-    (λ c. search kit)  -- slice-write-payload
-    (λ c. search kit)  -- add-j
-    (λ c. search kit)  -- loop-less
-    (λ c. search kit)  -- loop-again
-    (λ c. search kit)  -- same-length
-    (λ c. search kit))  -- returns
+    (λ c. search kit) -- loop-holds
+    (λ c κs. search kit) -- payload-byte-requires
+    (λ c. search kit) -- slice-write-payload
+    (λ c. search kit) -- add-j
+    (λ c. search kit) -- loop-less
+    (λ c. search kit) -- loop-again
+    (λ c. search kit) -- same-length
+    (λ c. search kit)) -- returns

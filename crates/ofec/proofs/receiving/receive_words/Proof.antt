@@ -4,8 +4,8 @@ use Prim.Native.Nat.{_-_}
 use Rattle.bits.specs.Bits.{byteOf, pack}
 use Rattle.bits.specs.Filling.{Filling, fill, Blocks, by-blocks}
 use Rattle.bch.specs.Repair.{mark}
-use Rattle.ofec.specs.Receiving.{repairOf, mendedWord, marks as marksOf}
-use Rattle.ofec.specs.Sources.{backHalves, back-block}
+use Rattle.rows.specs.Receiving.{repairOf, mendedWord, marks as marksOf}
+use Rattle.ofec.specs.BackHalves.{backHalves, back-block}
 use borrow.Author.Needs.{needs}
 use Rattle.ofec.proofs.receiving.receive_words.Statement.{statement}
 use Rattle.ofec.proofs.receiving.receive_words.Tie as tie
@@ -25,17 +25,17 @@ receive-words-spec =
     (tie.spec
     Inv-loop
     μ-loop
-    (λ c. search kit)  -- loop-holds
-    (λ c. search kit)  -- mul-a
-    (λ c. search kit)  -- add-e
-    (λ c. search kit)  -- sub-receive-word
-    (λ c. search kit)  -- part-receive-word-start
-    (λ c. search kit)  -- part-receive-word-end
-    (λ c κs. search kit)  -- receive-word-requires
-    (λ c. search kit)  -- slice-write-marks
-    (λ c. search kit)  -- add-w
-    (λ c. search kit)  -- loop-less
-    (λ c. search kit)  -- loop-again
-    (λ c. search kit)  -- same-length
-    (λ c. search kit)  -- same-length-2
-    (λ c. search kit))  -- returns
+    (λ c. search kit) -- loop-holds
+    (λ c. search kit) -- mul-a
+    (λ c. search kit) -- add-e
+    (λ c. search kit) -- sub-receive-word
+    (λ c. search kit) -- part-receive-word-start
+    (λ c. search kit) -- part-receive-word-end
+    (λ c κs. search kit) -- receive-word-requires
+    (λ c. search kit) -- slice-write-marks
+    (λ c. search kit) -- add-w
+    (λ c. search kit) -- loop-less
+    (λ c. search kit) -- loop-again
+    (λ c. search kit) -- same-length
+    (λ c. search kit) -- same-length-2
+    (λ c. search kit)) -- returns

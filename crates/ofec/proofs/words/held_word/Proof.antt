@@ -3,7 +3,7 @@
 use Prim.Native.Nat.{_-_}
 use Rattle.bits.specs.Bits.{byteOf, pack}
 use Rattle.bits.specs.Filling.{Filling, fill}
-use Rattle.ofec.specs.Receiving.{heldWord}
+use Rattle.rows.specs.Receiving.{heldWord}
 use borrow.Author.Needs.{needs}
 use Rattle.ofec.proofs.words.held_word.Statement.{statement}
 use Rattle.ofec.proofs.words.held_word.Tie as tie
@@ -23,10 +23,10 @@ held-word-spec =
     (tie.spec
     Inv-loop
     μ-loop
-    (λ c. search kit)  -- loop-holds
-    (λ c κs. search kit)  -- held-byte-requires
-    (λ c. search kit)  -- array-write-word
-    (λ c. search kit)  -- add-j
-    (λ c. search kit)  -- loop-less
-    (λ c. search kit)  -- loop-again
-    (λ c. search kit))  -- returns
+    (λ c. search kit) -- loop-holds
+    (λ c κs. search kit) -- held-byte-requires
+    (λ c. search kit) -- array-write-word
+    (λ c. search kit) -- add-j
+    (λ c. search kit) -- loop-less
+    (λ c. search kit) -- loop-again
+    (λ c. search kit)) -- returns

@@ -4,7 +4,7 @@ use Prim.Native.Nat.{_-_}
 use Rattle.bits.specs.Bits.{byteOf, pack}
 use Rattle.bits.specs.Filling.{Filling, fill}
 use Rattle.bch.specs.Completion.{firstBits}
-use Rattle.ofec.specs.Encoding.{openWord}
+use Rattle.rows.specs.Encoding.{openWord}
 use borrow.Author.Needs.{needs}
 use Rattle.ofec.proofs.words.open_word.Statement.{statement}
 use Rattle.ofec.proofs.words.open_word.Tie as tie
@@ -24,10 +24,10 @@ open-word-spec =
     (tie.spec
     Inv-loop
     μ-loop
-    (λ c. search kit)  -- loop-holds
-    (λ c κs. search kit)  -- started-byte-requires
-    (λ c. search kit)  -- array-write-word
-    (λ c. search kit)  -- add-j
-    (λ c. search kit)  -- loop-less
-    (λ c. search kit)  -- loop-again
-    (λ c. search kit))  -- returns
+    (λ c. search kit) -- loop-holds
+    (λ c κs. search kit) -- open-byte-requires
+    (λ c. search kit) -- array-write-word
+    (λ c. search kit) -- add-j
+    (λ c. search kit) -- loop-less
+    (λ c. search kit) -- loop-again
+    (λ c. search kit)) -- returns

@@ -1,7 +1,7 @@
 -- `ofec::words::xor16` meets its contract.
 -- Assumes nothing.
 use Rattle.bits.specs.Xor.{_⊕_}
-use Rattle.ofec.specs.RowLaws.{xor-16}
+use Rattle.rows.specs.RowLaws.{xor-16}
 use borrow.Author.Needs.{needs}
 use Rattle.ofec.proofs.words.xor16.Statement.{statement}
 use Rattle.ofec.proofs.words.xor16.Tie as tie
@@ -13,4 +13,4 @@ unfolding _⊕_
 xor16-spec =
     tie.close
     (tie.spec
-    (λ c. search kit))  -- returns
+    (λ c. search kit)) -- returns

@@ -14,16 +14,16 @@ use Rattle.bits.specs.Count.{distance}
 use Rattle.bch.specs.CodeWord.{Word, CodeWord}
 use Rattle.bch.specs.Repair.{repair, repaired, mark}
 use Rattle.bch.specs.RepairLaws.{FrontKept, repaired-bits}
-use Rattle.ofec.specs.Rows.{RowBits, frontCounts, wordOf, payloadIndex}
-use Rattle.ofec.specs.RowLaws.{word-lt, word-start, word-at, backPlace, backPlace-lt}
-use Rattle.ofec.specs.Pairs.{pairBit, rowOf, bitRowOf, ownIndex}
-use Rattle.ofec.specs.PairLaws.{codedPair-bit, length-codedPair, payloadOf-bit}
-use Rattle.ofec.specs.History.{heldBits}
-use Rattle.ofec.specs.HistoryLaws.{heldBits-lt, Right, RightPair, near}
-use Rattle.ofec.specs.WordLaws.{Outcome, outcome}
-use Rattle.ofec.specs.EncodingLaws.{Numbered, numbered}
-use Rattle.ofec.specs.Receiving.{heldWord, repairOf, mendedWord, newestPair, payloadOut, marks}
-use Rattle.ofec.specs.Promise.{Holds, wrongBits}
+use Rattle.rows.specs.Rows.{RowBits, frontCounts, wordOf, payloadIndex}
+use Rattle.rows.specs.RowLaws.{word-lt, word-start, word-at, backPlace, backPlace-lt}
+use Rattle.rows.specs.Pairs.{pairBit, rowOf, bitRowOf, ownIndex}
+use Rattle.rows.specs.PairLaws.{codedPair-bit, length-codedPair, payloadOf-bit}
+use Rattle.rows.specs.History.{heldBits}
+use Rattle.rows.specs.HistoryLaws.{heldBits-lt, Right, RightPair, near}
+use Rattle.rows.specs.WordLaws.{Outcome, outcome}
+use Rattle.rows.specs.EncodingLaws.{Numbered, numbered}
+use Rattle.rows.specs.Receiving.{heldWord, repairOf, mendedWord, newestPair, payloadOut, marks}
+use Rattle.rows.specs.Promise.{Holds, wrongBits}
 
 module _ (h : List ℕ) (P : ℕ) (p : List ℕ) where
   pub held-bits : (w k : ℕ) → heldWord h P p w k < 2

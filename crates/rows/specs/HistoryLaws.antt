@@ -8,12 +8,12 @@ use native.Mathlib.Decide.{ℕ-discrete}
 use lib.ListN.{length, drop, replicate, length-append, length-drop, length-replicate}
 use Rattle.bits.specs.Bits.{bit}
 use Rattle.bits.specs.BitLaws.{bit-lt}
-use Rattle.ofec.specs.Rows.{RowBits, wordOf}
-use Rattle.ofec.specs.RowLaws.{Place, zeros, before, own, place}
-use Rattle.ofec.specs.Pairs.{pairIndex, pairBit}
-use Rattle.ofec.specs.History.{fresh, heldBits, shift}
-use Rattle.ofec.specs.Promise.{Holds}
-use Rattle.ofec.specs.BufferLaws.{bit-left, bit-right, bit-drop}
+use Rattle.rows.specs.Rows.{RowBits, wordOf}
+use Rattle.rows.specs.RowLaws.{Place, zeros, before, own, place}
+use Rattle.rows.specs.Pairs.{pairIndex, pairBit}
+use Rattle.rows.specs.History.{fresh, heldBits, shift}
+use Rattle.rows.specs.Promise.{Holds}
+use Rattle.rows.specs.BufferLaws.{bit-left, bit-right, bit-drop}
 
 pub heldBits-lt : (n : ℕ) (pairs : List ℕ) (P R C r c : ℕ) → heldBits n pairs P R C r c < 2
 unfolding heldBits

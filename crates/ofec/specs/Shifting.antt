@@ -11,7 +11,7 @@ use lib.ListN.{length, getD, set, take, drop, length-set, length-take, length-dr
 use lib.Seq.{getD-set-same, getD-set-other, getD-take, getD-drop, ext-getD, length-take-le, drop-append-le}
 use Rattle.bits.specs.Filling.{Filling, fill-done}
 use Rattle.bits.specs.ListLaws.{is-tabulate}
-use Rattle.ofec.specs.History.{shift}
+use Rattle.rows.specs.History.{shift}
 
 -- Of a buffer that was h, the first i numbers have come down from m places above; those from i on stand as they did.
 pub record Moving (m : ℕ) (h : List ℕ) (i : ℕ) (d : List ℕ) : Type 0 where

@@ -10,10 +10,10 @@ use lib.ListN.{getD}
 use Rattle.bits.specs.Bits.{bit}
 use Rattle.bits.specs.Count.{distance}
 use Rattle.calls.specs.Sequences.{At, accepted}
-use Rattle.ofec.specs.Rows.{RowBits, wordOf, payloadIndex}
-use Rattle.ofec.specs.Pairs.{pairBit}
-use Rattle.ofec.specs.History.{heldBits}
-use Rattle.ofec.specs.Calls.{Received, Receiving, receive, Receivings}
+use Rattle.rows.specs.Rows.{RowBits, wordOf, payloadIndex}
+use Rattle.rows.specs.Pairs.{pairBit}
+use Rattle.rows.specs.History.{heldBits}
+use Rattle.rows.specs.Calls.{Received, Receiving, receive, Receivings}
 
 -- A coded pair holds the bits of pair P's two rows.
 pub record Holds (v : RowBits) (P : ℕ) (pair : List ℕ) : Type 0 where

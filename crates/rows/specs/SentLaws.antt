@@ -10,15 +10,15 @@ use Rattle.bits.specs.Bits.{bit}
 use Rattle.bits.specs.Xor.{_⊕_}
 use Rattle.bch.specs.CodeWord.{Word, CodeWord}
 use Rattle.bch.specs.RepairLaws.{code-ext}
-use Rattle.ofec.specs.Rows.{RowBits, backBit, wordOf, payloadIndex}
-use Rattle.ofec.specs.RowLaws.{word-back, backPlace, backPlace-of, xor-16}
-use Rattle.ofec.specs.Pairs.{pairBit, rowOf, bitRowOf, ownIndex}
-use Rattle.ofec.specs.History.{heldBits}
-use Rattle.ofec.specs.HistoryLaws.{Right, RightPair, right-fresh, right-shift, right-after, historyAfter, near-front}
-use Rattle.ofec.specs.Sent.{payloadBit, PayloadInPlace, CodeWords, Sent}
-use Rattle.ofec.specs.Encoding.{openWord, encodedWord, encoded}
-use Rattle.ofec.specs.EncodingLaws.{Numbered, numbered, of-pair, open-front, open-back, encoded-code, encoded-open, length-encoded, encoded-bit, encoded-holds, encoded-right, payloadBit-own}
-use Rattle.ofec.specs.Promise.{Holds}
+use Rattle.rows.specs.Rows.{RowBits, backBit, wordOf, payloadIndex}
+use Rattle.rows.specs.RowLaws.{word-back, backPlace, backPlace-of, xor-16}
+use Rattle.rows.specs.Pairs.{pairBit, rowOf, bitRowOf, ownIndex}
+use Rattle.rows.specs.History.{heldBits}
+use Rattle.rows.specs.HistoryLaws.{Right, RightPair, right-fresh, right-shift, right-after, historyAfter, near-front}
+use Rattle.rows.specs.Sent.{payloadBit, PayloadInPlace, CodeWords, Sent}
+use Rattle.rows.specs.Encoding.{openWord, encodedWord, encoded}
+use Rattle.rows.specs.EncodingLaws.{Numbered, numbered, of-pair, open-front, open-back, encoded-code, encoded-open, length-encoded, encoded-bit, encoded-holds, encoded-right, payloadBit-own}
+use Rattle.rows.specs.Promise.{Holds}
 
 -- The history of an encoder before pair P.
 unfoldable pub encoderHistory : List (List ℕ) → ℕ → List ℕ

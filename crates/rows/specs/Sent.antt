@@ -8,7 +8,7 @@ use Prim.Native.Nat.{ℕ, _+_, _*_, _/_, _%_, _<_}
 use lib.ListN.{length, getD}
 use Rattle.bits.specs.Bits.{bit}
 use Rattle.bch.specs.CodeWord.{CodeWord}
-use Rattle.ofec.specs.Rows.{RowBits, wordOf, payloadIndex}
+use Rattle.rows.specs.Rows.{RowBits, wordOf, payloadIndex}
 
 -- Payload bit i over payloads of 444 bytes, 3,552 bits, each.
 unfoldable pub payloadBit : List (List ℕ) → ℕ → ℕ

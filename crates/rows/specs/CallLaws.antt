@@ -15,10 +15,10 @@ use Rattle.calls.specs.declared.Refusal.the-variants.{Misfit, CountSpent}
 use Rattle.calls.specs.Answers.{refusalOf, valueOr, Accepted, TurnedBack}
 use Rattle.calls.specs.AnswerLaws.{refused-turned}
 use Rattle.calls.specs.Sequences.{Keeping}
-use Rattle.ofec.specs.History.{shift}
-use Rattle.ofec.specs.Encoding.{encoded}
-use Rattle.ofec.specs.Receiving.{newestPair, payloadOut, marks}
-use Rattle.ofec.specs.Calls.{Encoded, afterEncode, encodeCall, Received, afterReceive, receiveCall, State, state, Encoding, Receiving, encode, receive, Encodings, Receivings}
+use Rattle.rows.specs.History.{shift}
+use Rattle.rows.specs.Encoding.{encoded}
+use Rattle.rows.specs.Receiving.{newestPair, payloadOut, marks}
+use Rattle.rows.specs.Calls.{Encoded, afterEncode, encodeCall, Received, afterReceive, receiveCall, State, state, Encoding, Receiving, encode, receive, Encodings, Receivings}
 
 -- ---- encoding: the cases
 

@@ -12,9 +12,9 @@ use Rattle.calls.specs.declared.Answer.the-variants.{Done, Refused}
 use Rattle.calls.specs.declared.Refusal.the-variants.{Misfit, CountSpent}
 use Rattle.calls.specs.Answers.{valueOr}
 use Rattle.calls.specs.Sequences.{Kind, accepted}
-use Rattle.ofec.specs.History.{fresh, shift}
-use Rattle.ofec.specs.Encoding.{encoded}
-use Rattle.ofec.specs.Receiving.{newestPair, payloadOut, marks}
+use Rattle.rows.specs.History.{fresh, shift}
+use Rattle.rows.specs.Encoding.{encoded}
+use Rattle.rows.specs.Receiving.{newestPair, payloadOut, marks}
 
 -- ---- encoding a pair
 

@@ -15,15 +15,15 @@ use Rattle.bits.specs.Xor.{_⊕_}
 use Rattle.bch.specs.CodeWord.{Word, CodeWord}
 use Rattle.bch.specs.Completion.{completed}
 use Rattle.bch.specs.CompletionLaws.{completed-code, completed-first, completed-only}
-use Rattle.ofec.specs.Rows.{RowBits, backBit, wordOf, payloadIndex}
-use Rattle.ofec.specs.RowLaws.{word-lt, word-back, word-at, backPlace, backPlace-lt, backPlace-of, xor-16, payloadIndex-own, payloadIndex-lt}
-use Rattle.ofec.specs.Pairs.{pairBit, rowOf, bitRowOf, ownIndex, codedPair}
-use Rattle.ofec.specs.PairLaws.{codedPair-bit, length-codedPair}
-use Rattle.ofec.specs.History.{heldBits}
-use Rattle.ofec.specs.HistoryLaws.{heldBits-lt, Right, RightPair, near-front}
-use Rattle.ofec.specs.Sent.{payloadBit, Sent}
-use Rattle.ofec.specs.Encoding.{openWord, encodedWord, encoded}
-use Rattle.ofec.specs.Promise.{Holds}
+use Rattle.rows.specs.Rows.{RowBits, backBit, wordOf, payloadIndex}
+use Rattle.rows.specs.RowLaws.{word-lt, word-back, word-at, backPlace, backPlace-lt, backPlace-of, xor-16, payloadIndex-own, payloadIndex-lt}
+use Rattle.rows.specs.Pairs.{pairBit, rowOf, bitRowOf, ownIndex, codedPair}
+use Rattle.rows.specs.PairLaws.{codedPair-bit, length-codedPair}
+use Rattle.rows.specs.History.{heldBits}
+use Rattle.rows.specs.HistoryLaws.{heldBits-lt, Right, RightPair, near-front}
+use Rattle.rows.specs.Sent.{payloadBit, Sent}
+use Rattle.rows.specs.Encoding.{openWord, encodedWord, encoded}
+use Rattle.rows.specs.Promise.{Holds}
 
 -- Word 16 (R mod 2) + r of pair R div 2 is that of (R, r).
 pub record Numbered (P R r w : ℕ) : Type 0 where

@@ -5,8 +5,8 @@ use mathlib.Core.List.{List, _++_}
 use Prim.Native.Nat.{ℕ, _+_, _-_, _*_, _/_, _%_}
 use lib.ListN.{drop, replicate}
 use Rattle.bits.specs.Bits.{bit}
-use Rattle.ofec.specs.Rows.{RowBits}
-use Rattle.ofec.specs.Pairs.{pairIndex}
+use Rattle.rows.specs.Rows.{RowBits}
+use Rattle.rows.specs.Pairs.{pairIndex}
 
 -- A history of n pairs when fresh.
 unfoldable pub fresh : ℕ → List ℕ

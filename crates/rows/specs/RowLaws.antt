@@ -11,7 +11,7 @@ use lib.Dec.{ltb}
 use Rattle.bits.specs.Xor.{_⊕_}
 use Rattle.bits.specs.XorLaws.{sums, ⊕-lt, ⊕-half, ⊕-last, ⊕-zero}
 use Rattle.bch.specs.CodeWord.{Word}
-use Rattle.ofec.specs.Rows.{RowBits, frontBit, backBit, frontCounts, wordOf, payloadIndex}
+use Rattle.rows.specs.Rows.{RowBits, frontBit, backBit, frontCounts, wordOf, payloadIndex}
 
 -- ---- exclusive or of columns and rows
 

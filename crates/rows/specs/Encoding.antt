@@ -8,9 +8,9 @@ use lib.Dec.{ltb}
 use Rattle.bits.specs.Bits.{bit}
 use Rattle.bch.specs.CodeWord.{Word}
 use Rattle.bch.specs.Completion.{completed}
-use Rattle.ofec.specs.Rows.{wordOf}
-use Rattle.ofec.specs.Pairs.{rowOf, bitRowOf, ownIndex, codedPair}
-use Rattle.ofec.specs.History.{heldBits}
+use Rattle.rows.specs.Rows.{wordOf}
+use Rattle.rows.specs.Pairs.{rowOf, bitRowOf, ownIndex, codedPair}
+use Rattle.rows.specs.History.{heldBits}
 
 module _ (history : List ℕ) (P : ℕ) (payload : List ℕ) where
   -- Word w before its completion, of which bits 0 to 238 count: the front half as held, and the payload.

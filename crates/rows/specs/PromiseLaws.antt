@@ -16,21 +16,21 @@ use Rattle.bits.specs.Xor.{_⊕_}
 use Rattle.bch.specs.CodeWord.{Word, CodeWord}
 use Rattle.bch.specs.Repair.{repair, repaired, mark}
 use Rattle.bch.specs.declared.Repair.{Repair}
-use Rattle.ofec.specs.Rows.{RowBits, frontCounts, backBit, wordOf, payloadIndex}
-use Rattle.ofec.specs.RowLaws.{word-back, backPlace, backPlace-of, xor-16}
-use Rattle.ofec.specs.Pairs.{pairBit}
-use Rattle.ofec.specs.History.{fresh, heldBits, shift}
-use Rattle.ofec.specs.HistoryLaws.{held-shifted, held-newest, Right, right-after, historyAfter}
-use Rattle.ofec.specs.Sent.{Sent}
-use Rattle.ofec.specs.Encoding.{encoded}
-use Rattle.ofec.specs.EncodingLaws.{numbered, encoded-holds}
-use Rattle.ofec.specs.SentLaws.{encoderHistory, encoder-right, madeBits, sent-exists}
-use Rattle.ofec.specs.Receiving.{mendedWord, repairOf, newestPair, payloadOut, marks}
-use Rattle.ofec.specs.ReceivingLaws.{newest-bit, payload-bit, mark-is, repair-of, mended-word, word-outcome, newest-right}
-use Rattle.ofec.specs.WordLaws.{Outcome}
-use Rattle.ofec.specs.Calls.{Encoded, Received, State, state, start, Encoding, Receiving, encode, receive, Encodings, Receivings, payloads}
-use Rattle.ofec.specs.CallLaws.{EncodeFits, encodeDone, encode-accepted, encode-keeps, ReceiveFits, receiveDone, receive-accepted, receive-keeps}
-use Rattle.ofec.specs.Promise.{Holds, Takes, wrongBits, Limit, markOf, NotLost, AsSent, Promise}
+use Rattle.rows.specs.Rows.{RowBits, frontCounts, backBit, wordOf, payloadIndex}
+use Rattle.rows.specs.RowLaws.{word-back, backPlace, backPlace-of, xor-16}
+use Rattle.rows.specs.Pairs.{pairBit}
+use Rattle.rows.specs.History.{fresh, heldBits, shift}
+use Rattle.rows.specs.HistoryLaws.{held-shifted, held-newest, Right, right-after, historyAfter}
+use Rattle.rows.specs.Sent.{Sent}
+use Rattle.rows.specs.Encoding.{encoded}
+use Rattle.rows.specs.EncodingLaws.{numbered, encoded-holds}
+use Rattle.rows.specs.SentLaws.{encoderHistory, encoder-right, madeBits, sent-exists}
+use Rattle.rows.specs.Receiving.{mendedWord, repairOf, newestPair, payloadOut, marks}
+use Rattle.rows.specs.ReceivingLaws.{newest-bit, payload-bit, mark-is, repair-of, mended-word, word-outcome, newest-right}
+use Rattle.rows.specs.WordLaws.{Outcome}
+use Rattle.rows.specs.Calls.{Encoded, Received, State, state, start, Encoding, Receiving, encode, receive, Encodings, Receivings, payloads}
+use Rattle.rows.specs.CallLaws.{EncodeFits, encodeDone, encode-accepted, encode-keeps, ReceiveFits, receiveDone, receive-accepted, receive-keeps}
+use Rattle.rows.specs.Promise.{Holds, Takes, wrongBits, Limit, markOf, NotLost, AsSent, Promise}
 
 -- ---- what each accepted call is lent
 

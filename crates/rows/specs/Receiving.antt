@@ -7,9 +7,9 @@ use Rattle.bits.specs.Lists.{tabulate}
 use Rattle.bch.specs.CodeWord.{Word}
 use Rattle.bch.specs.declared.Repair.{Repair}
 use Rattle.bch.specs.Repair.{repair, repaired, mark}
-use Rattle.ofec.specs.Rows.{wordOf, frontCounts}
-use Rattle.ofec.specs.Pairs.{rowOf, bitRowOf, codedPair, payloadOf}
-use Rattle.ofec.specs.History.{heldBits}
+use Rattle.rows.specs.Rows.{wordOf, frontCounts}
+use Rattle.rows.specs.Pairs.{rowOf, bitRowOf, codedPair, payloadOf}
+use Rattle.rows.specs.History.{heldBits}
 
 module _ (history : List ℕ) (P : ℕ) (coded : List ℕ) where
   -- "Each word is front bits as held and back bits as received": the pairs of the history, and the pair received after them.

@@ -6,7 +6,7 @@ use Prim.Native.Nat.{ℕ, zero, suc, _+_, _*_, _/_, _%_}
 use lib.Dec.{eqb}
 use Rattle.bits.specs.Bits.{bit, pack}
 use Rattle.bch.specs.CodeWord.{Word}
-use Rattle.ofec.specs.Rows.{RowBits, backBit, payloadIndex}
+use Rattle.rows.specs.Rows.{RowBits, backBit, payloadIndex}
 
 -- "coded 512 bytes: 256 a row, row 2P first, bit index 128r+16C+c": the index of bit (C, r, c) of row s, 0 or 1, of a pair.
 unfoldable pub pairIndex : RowBits

@@ -16,9 +16,9 @@ use Rattle.bits.specs.Bits.{bit, pack}
 use Rattle.bits.specs.BitLaws.{bit-pack, length-pack, pack-ext}
 use Rattle.bits.specs.Xor.{_⊕_}
 use Rattle.bch.specs.CodeWord.{Word}
-use Rattle.ofec.specs.Rows.{RowBits, backBit, payloadIndex}
-use Rattle.ofec.specs.RowLaws.{xor-16, xor-back, backPlace, backBit-at, payloadIndex-low, payloadIndex-high, payloadIndex-lt}
-use Rattle.ofec.specs.Pairs.{pairIndex, pairBit, the, seat, laidOut, codedIndex, ownIndex, codedPair, payloadOf}
+use Rattle.rows.specs.Rows.{RowBits, backBit, payloadIndex}
+use Rattle.rows.specs.RowLaws.{xor-16, xor-back, backPlace, backBit-at, payloadIndex-low, payloadIndex-high, payloadIndex-lt}
+use Rattle.rows.specs.Pairs.{pairIndex, pairBit, the, seat, laidOut, codedIndex, ownIndex, codedPair, payloadOf}
 
 -- ---- the number that passes a test
 

@@ -7,8 +7,8 @@ use native.Mathlib.Omega.{arith}
 use native.Mathlib.Decide.{decLt}
 use lib.Bits.{bitXor}
 use Rattle.bits.specs.Xor.{_⊕_}
-use Rattle.ofec.specs.Rows.{RowBits, frontBit, backBit, frontCounts, wordOf, payloadIndex}
-use Rattle.ofec.specs.RowLaws.{word-front, word-start}
+use Rattle.rows.specs.Rows.{RowBits, frontBit, backBit, frontCounts, wordOf, payloadIndex}
+use Rattle.rows.specs.RowLaws.{word-front, word-start}
 
 -- "Word (20,0): bit 0 is V(1,0,0,0), bit 127 is V(15,7,15,0)."
 pub word-20-0-first : (v : RowBits) → wordOf v 20 0 0 ≡ v 1 0 0 0
