@@ -1,0 +1,36 @@
+-- Receiving a pair. 01, "Rows and pairs": "Receiving takes a coded pair of 512 bytes, its own history and the pair number, and gives
+-- payload, marks, the shifted history and P+1."
+-- Assumes nothing.
+use mathlib.Core.List.{List, _++_}
+use Prim.Native.Nat.{ℕ}
+use Rattle.bits.specs.Lists.{tabulate}
+use Rattle.bch.specs.CodeWord.{Word}
+use Rattle.bch.specs.declared.Repair.{Repair}
+use Rattle.bch.specs.Repair.{repair, repaired, mark}
+use Rattle.ofec.specs.Rows.{wordOf, frontCounts}
+use Rattle.ofec.specs.Pairs.{rowOf, bitRowOf, codedPair, payloadOf}
+use Rattle.ofec.specs.History.{heldBits}
+
+module _ (history : List ℕ) (P : ℕ) (coded : List ℕ) where
+  -- "Each word is front bits as held and back bits as received": the pairs of the history, and the pair received after them.
+  unfoldable pub heldWord : ℕ → Word
+  heldWord w = wordOf (heldBits 10 (history ++ coded) P) (rowOf P w) (bitRowOf w)
+
+  -- Its repair; "For R < 20 .. flips may fall only in the back half".
+  unfoldable pub repairOf : ℕ → Repair
+  repairOf w = repair (frontCounts (rowOf P w)) (heldWord w)
+
+  -- The word that the repair yields. "A lost word's back half passes as received."
+  unfoldable pub mendedWord : ℕ → Word
+  mendedWord w = repaired (repairOf w) (heldWord w)
+
+  -- "Repaired back halves enter payload out (444 bytes) and history; front flips are counted but not stored."
+  unfoldable pub newestPair : List ℕ
+  newestPair = codedPair mendedWord
+
+  unfoldable pub payloadOut : List ℕ
+  payloadOut = payloadOf mendedWord
+
+  -- "Marks: 32 bytes, word (2P, 0) first, each 0, 1 or 2 flips, or 3 for lost."
+  unfoldable pub marks : List ℕ
+  marks = tabulate 32 (λ w. mark (repairOf w))
