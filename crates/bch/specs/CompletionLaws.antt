@@ -60,7 +60,7 @@ behind-zeros (suc n) w z =
     ap₂ (λ (s b : ℕ). reduce generator 16 (s * 2 + b)) (behind-zeros n w (λ k l. z k (omega arith))) (z n (omega arith))
     ∙ reduce-low generator 16 0 (lit< tt)
 
-taken-in : (n m : ℕ) (w : Word) → ((k : ℕ) → k < n → w k ≡ 0) → m ≤ 16 → BitsTo (n + m) w → remainder (n + m) w ≡ fromBits m (λ i. w (n + i))
+pub taken-in : (n m : ℕ) (w : Word) → ((k : ℕ) → k < n → w k ≡ 0) → m ≤ 16 → BitsTo (n + m) w → remainder (n + m) w ≡ fromBits m (λ i. w (n + i))
 unfolding remainder fromBits
 taken-in n zero w z l b = let e : n + 0 ≡ n = omega arith in ap (λ k. remainder k w) e ∙ behind-zeros n w z
 taken-in n (suc m) w z l b =

@@ -1,7 +1,6 @@
 pub mod CodeWord
 pub mod Repair
 pub mod Completion
-pub mod Calls
 pub mod RemainderLaws
 pub mod Syndromes
 pub mod SyndromeLaws
@@ -11,8 +10,6 @@ pub mod RepairLaws
 pub mod RepairTheorems
 pub mod CompletionLaws
 pub mod Locating
-pub mod Partial
-pub mod Finding
-pub mod Applying
-pub mod CallLaws
-pub mod Completing
+pub mod Quotient
+pub mod QuotientLaws
+pub mod BenchValues

@@ -24,7 +24,7 @@ allowed-low front (One i) t = (omega arith, t .1)
 allowed-low front (Two i j) t = (omega arith, t .1, t .2)
 allowed-low front Lost t = absurd t
 
-allowed-mark : (r : Repair) → Allowed 0 r → mark r ≤ 2
+pub allowed-mark : (r : Repair) → Allowed 0 r → mark r ≤ 2
 unfolding mark
 allowed-mark Sound t = omega arith
 allowed-mark (One i) t = omega arith

@@ -1,0 +1,19 @@
+-- `checkword::repair_word` meets its contract: one law for each answer.
+-- Assumes nothing.
+use Rattle.checkword.specs.CallLaws.{repairing}
+use borrow.Author.Needs.{needs}
+use Rattle.checkword.proofs.repair_word.Statement.{statement}
+use Rattle.checkword.proofs.repair_word.Tie as tie
+
+ruleset kit = (needs, repairing)
+
+pub repair-word-spec : {M : Type 1} → statement M
+repair-word-spec =
+    tie.close
+    (tie.spec
+    (λ c. search kit)  -- returns
+    (λ c κs. search kit)  -- mend-requires
+    (λ c κs. search kit)  -- mark-of-requires
+    (λ c. search kit)  -- cast-t10
+    (λ c. search kit)  -- same-length
+    (λ c. search kit))  -- returns-2

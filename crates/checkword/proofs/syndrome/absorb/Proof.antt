@@ -1,0 +1,20 @@
+-- `checkword::syndrome::absorb` meets its contract: one law for each branch.
+-- Assumes nothing.
+use borrow.Author.Needs.{needs}
+use Rattle.bits.specs.Xor.{_⊕_}
+use Rattle.checkword.specs.Partial.{absorbing, absorb-one}
+use Rattle.checkword.proofs.syndrome.absorb.Statement.{statement}
+use Rattle.checkword.proofs.syndrome.absorb.Tie as tie
+
+ruleset kit = (needs, absorbing)
+
+pub absorb-spec : {M : Type 1} → statement M
+unfolding _⊕_
+absorb-spec =
+    tie.close
+    (tie.spec
+    (λ c. search kit)  -- returns
+    (λ c κs. search kit)  -- locator-requires
+    (λ c κs. search kit)  -- cube-requires
+    (λ c. search kit)  -- sub-t9
+    (λ c. search kit))  -- returns-2

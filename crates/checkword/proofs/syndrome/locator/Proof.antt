@@ -1,0 +1,17 @@
+-- `checkword::syndrome::locator` meets its contract: the table of powers, and 0 for the last place.
+-- Assumes nothing.
+use borrow.Author.Needs.{needs}
+use Rattle.bch.specs.SyndromeLaws.{locators}
+use Rattle.checkword.proofs.syndrome.locator.Statement.{statement}
+use Rattle.checkword.proofs.syndrome.locator.Tie as tie
+
+ruleset kit = (needs, locators)
+
+pub locator-spec : {M : Type 1} → statement M
+locator-spec =
+    tie.close
+    (tie.spec
+    (λ c. search kit)  -- sub-power
+    (λ c κs. search kit)  -- power-requires
+    (λ c. search kit)  -- returns
+    (λ c. search kit))  -- returns-2

@@ -1,0 +1,69 @@
+// The places that the syndromes of a word tell.
+use crate::syndrome;
+use bch::Repair;
+use bch::Syndromes;
+ghost use mathlib.Core.Path.{_≡_};
+ghost use Prim.Native.Nat.{_<_};
+ghost use Rattle.bch.specs.Syndromes.{locator};
+ghost use Rattle.bch.specs.Locating.{Located};
+ghost use Rattle.checkword.specs.Finding.{pairSum, FirstPair};
+
+// The place that an element of GF(256) stands for.
+fn place_of(x: u8) -> usize
+    ensures { λ r. ⌜ (r < 256) × (locator r ≡ x) ⌝ }
+{
+    if x == 0 {
+        return 255;
+    }
+    254 - gf256::log(x)
+}
+
+// The first place whose locator x, with its partner x ^ s1, has cubes that add up to s3; 256 where there is none.
+fn find_pair(s1: u8, s3: u8) -> usize
+    ensures { λ r. ⌜ FirstPair s1 s3 r ⌝ }
+{
+    let mut k = 0;
+    while k < 256 {
+        if pair_sum(s1, k) == s3 {
+            return k;
+        }
+        k += 1;
+    }
+    k
+}
+
+// What the cubes of a place's locator and of its partner add up to.
+fn pair_sum(s1: u8, k: usize) -> u8
+    requires { ⌜ k < 256 ⌝ }
+    ensures { λ r. ⌜ r ≡ pairSum s1 k ⌝ }
+{
+    let x = syndrome::locator(k);
+    gf256::cube(x) ^ gf256::cube(x ^ s1)
+}
+
+// The places that the syndromes tell: one of an odd word, none or two of an even one.
+pub fn locate(s: Syndromes) -> Repair
+    requires { ⌜ s .parity < 2 ⌝ }
+    ensures { λ r. ⌜ Located s r ⌝ }
+{
+    let s1 = s.s1;
+    let s3 = s.s3;
+    if s.parity == 1 {
+        if gf256::cube(s1) == s3 {
+            return Repair::One(place_of(s1));
+        }
+        return Repair::Lost;
+    }
+    if s1 == 0 {
+        if s3 == 0 {
+            return Repair::Sound;
+        }
+        return Repair::Lost;
+    }
+    let i = find_pair(s1, s3);
+    if i < 256 {
+        let j = place_of(syndrome::locator(i) ^ s1);
+        return Repair::Two(i, j);
+    }
+    Repair::Lost
+}

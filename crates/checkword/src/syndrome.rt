@@ -1,0 +1,49 @@
+// The syndromes of a word, from the table of powers.
+use bch::Syndromes;
+ghost use mathlib.Core.Path.{_≡_};
+ghost use Prim.Native.Nat.{_<_};
+ghost use lib.ListN.{length};
+ghost use Rattle.bits.specs.Bits.{bit};
+ghost use Rattle.bch.specs.Syndromes.{locator, syndromesOf};
+ghost use Rattle.checkword.specs.Partial.{absorbed};
+
+// The element of GF(256) that stands for a place, from the table of powers.
+pub fn locator(k: usize) -> u8
+    requires { ⌜ k < 256 ⌝ }
+    ensures { λ r. ⌜ r ≡ locator k ⌝ }
+{
+    if k < 255 { gf256::power(254 - k) } else { 0 }
+}
+
+// The syndromes with bit k taken in.
+fn absorb(s: Syndromes, b: u8, k: usize) -> Syndromes
+    requires { ⌜ (s .parity < 2) × (b < 2) × (k < 256) ⌝ }
+    ensures { λ r. ⌜ r ≡ absorbed s b k ⌝ }
+{
+    if b == 0 {
+        return s;
+    }
+    let x = locator(k);
+    Syndromes {
+        s1: s.s1 ^ x,
+        s3: s.s3 ^ gf256::cube(x),
+        parity: 1 - s.parity,
+    }
+}
+
+// The syndromes and the parity of a word of 32 bytes, in one pass.
+pub fn syndromes_of(w: &[u8]) -> Syndromes
+    requires { ⌜ length (now w) ≡ 32 ⌝ }
+    ensures { λ r. ⌜ r ≡ syndromesOf (bit (now (w .entry))) ⌝ }
+{
+    let mut s = Syndromes {
+        s1: 0,
+        s3: 0,
+        parity: 0,
+    };
+    for k in 0..256 {
+        let b = bits::bit(w, k);
+        s = absorb(s, b, k);
+    }
+    s
+}
