@@ -30,10 +30,14 @@ backHalf words w = pack 16 (λ k. words w (128 + k))
 unfoldable pub backHalves : (ℕ → Word) → ℕ → ℕ
 backHalves words m = words (m / 128) (128 + m % 128)
 
--- A word's last 16 bytes are its back half,
-pub last-half : (words : ℕ → Word) (w : ℕ) (s b : List ℕ) → s ≡ pack 32 (words w) → b ≡ tabulate 16 (λ j. getD s (16 + j) 0) → b ≡ backHalf words w
-unfolding pack byteOf backHalf
-last-half words w s b e p =
+-- The last 16 of a word's 32 bytes
+unfoldable pub lastHalf : List ℕ → List ℕ
+lastHalf s = tabulate 16 (λ j. getD s (16 + j) 0)
+
+-- are its back half,
+pub last-half : (words : ℕ → Word) (w : ℕ) (s b : List ℕ) → b ≡ lastHalf s → s ≡ pack 32 (words w) → b ≡ backHalf words w
+unfolding pack byteOf lastHalf backHalf
+last-half words w s b p e =
     p ∙ tabulate-ext 16 (λ j. getD s (16 + j) 0) (byteOf (λ k. words w (128 + k)))
     (λ j l. ap (λ t. getD t (16 + j) 0) e ∙ getD-tabulate 32 (byteOf (words w)) (16 + j) (omega arith)
     ∙ fromBits-ext 8 (λ k. words w ((16 + j) * 8 + k)) (λ k. words w (128 + (j * 8 + k))) (λ k lk. ap (λ x. words w x % 2) (omega arith)))

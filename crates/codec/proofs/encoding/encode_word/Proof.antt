@@ -12,10 +12,10 @@ pub encode-word-spec : {M : Type 1} → statement M
 encode-word-spec =
     tie.close
     (tie.spec
-    (λ c κs. search kit) -- open-word-requires
-    (λ c. search kit) -- slice-aggregate-complete
-    (λ c κs. search kit) -- complete-requires
-    (λ c. search kit) -- slice-aggregate-put-back-half
-    (λ c κs. search kit) -- put-back-half-requires
-    (λ c. search kit) -- same-length
-    (λ c. search kit)) -- returns
+    (λ c κs. search kit)  -- open-word-requires
+    (λ c. search kit)  -- slice-aggregate-complete
+    (λ c κs. search kit)  -- complete-requires
+    (λ c. search kit)  -- slice-aggregate-put-back-half
+    (λ c κs. search kit)  -- put-back-half-requires
+    (λ c. search kit)  -- same-length
+    (λ c. search kit))  -- returns

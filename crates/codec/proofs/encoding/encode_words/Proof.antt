@@ -24,15 +24,15 @@ encode-words-spec =
     (tie.spec
     Inv-loop
     μ-loop
-    (λ c. search kit) -- loop-holds
-    (λ c. search kit) -- mul-a
-    (λ c. search kit) -- add-e
-    (λ c. search kit) -- sub-encode-word
-    (λ c. search kit) -- part-encode-word-start
-    (λ c. search kit) -- part-encode-word-end
-    (λ c κs. search kit) -- encode-word-requires
-    (λ c. search kit) -- add-w
-    (λ c. search kit) -- loop-less
-    (λ c. search kit) -- loop-again
-    (λ c. search kit) -- same-length
-    (λ c. search kit)) -- returns
+    (λ c. search kit)  -- loop-holds
+    (λ c. search kit)  -- mul-a
+    (λ c. search kit)  -- add-e
+    (λ c. search kit)  -- sub-encode-word
+    (λ c. search kit)  -- part-encode-word-start
+    (λ c. search kit)  -- part-encode-word-end
+    (λ c κs. search kit)  -- encode-word-requires
+    (λ c. search kit)  -- add-w
+    (λ c. search kit)  -- loop-less
+    (λ c. search kit)  -- loop-again
+    (λ c. search kit)  -- same-length
+    (λ c. search kit))  -- returns

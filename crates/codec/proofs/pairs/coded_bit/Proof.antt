@@ -11,8 +11,8 @@ pub coded-bit-spec : {M : Type 1} → statement M
 coded-bit-spec =
     tie.close
     (tie.spec
-    (λ c κs. search kit) -- xor16-requires
-    (λ c. search kit) -- mul-bit
-    (λ c. search kit) -- add-bit
-    (λ c κs. search kit) -- bit-requires
-    (λ c. search kit)) -- returns
+    (λ c κs. search kit)  -- xor16-requires
+    (λ c. search kit)  -- mul-bit
+    (λ c. search kit)  -- add-bit
+    (λ c κs. search kit)  -- bit-requires
+    (λ c. search kit))  -- returns

@@ -23,13 +23,13 @@ payload-byte-spec =
     (tie.spec
     Inv-loop
     μ-loop
-    (λ c. search kit) -- loop-holds
-    (λ c. search kit) -- mul-byte
-    (λ c. search kit) -- mul-payload-bit
-    (λ c. search kit) -- add-payload-bit
-    (λ c κs. search kit) -- payload-bit-requires
-    (λ c. search kit) -- add-byte
-    (λ c. search kit) -- add-b
-    (λ c. search kit) -- loop-less
-    (λ c. search kit) -- loop-again
-    (λ c. search kit)) -- returns
+    (λ c. search kit)  -- loop-holds
+    (λ c. search kit)  -- mul-byte
+    (λ c. search kit)  -- mul-payload-bit
+    (λ c. search kit)  -- add-payload-bit
+    (λ c κs. search kit)  -- payload-bit-requires
+    (λ c. search kit)  -- add-byte
+    (λ c. search kit)  -- add-b
+    (λ c. search kit)  -- loop-less
+    (λ c. search kit)  -- loop-again
+    (λ c. search kit))  -- returns

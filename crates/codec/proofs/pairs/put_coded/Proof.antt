@@ -23,11 +23,11 @@ put-coded-spec =
     (tie.spec
     Inv-loop
     μ-loop
-    (λ c. search kit) -- loop-holds
-    (λ c κs. search kit) -- coded-byte-requires
-    (λ c. search kit) -- slice-write-coded
-    (λ c. search kit) -- add-j
-    (λ c. search kit) -- loop-less
-    (λ c. search kit) -- loop-again
-    (λ c. search kit) -- same-length
-    (λ c. search kit)) -- returns
+    (λ c. search kit)  -- loop-holds
+    (λ c κs. search kit)  -- coded-byte-requires
+    (λ c. search kit)  -- slice-write-coded
+    (λ c. search kit)  -- add-j
+    (λ c. search kit)  -- loop-less
+    (λ c. search kit)  -- loop-again
+    (λ c. search kit)  -- same-length
+    (λ c. search kit))  -- returns

@@ -23,11 +23,11 @@ put-payload-spec =
     (tie.spec
     Inv-loop
     μ-loop
-    (λ c. search kit) -- loop-holds
-    (λ c κs. search kit) -- payload-byte-requires
-    (λ c. search kit) -- slice-write-payload
-    (λ c. search kit) -- add-j
-    (λ c. search kit) -- loop-less
-    (λ c. search kit) -- loop-again
-    (λ c. search kit) -- same-length
-    (λ c. search kit)) -- returns
+    (λ c. search kit)  -- loop-holds
+    (λ c κs. search kit)  -- payload-byte-requires
+    (λ c. search kit)  -- slice-write-payload
+    (λ c. search kit)  -- add-j
+    (λ c. search kit)  -- loop-less
+    (λ c. search kit)  -- loop-again
+    (λ c. search kit)  -- same-length
+    (λ c. search kit))  -- returns

@@ -12,11 +12,11 @@ pub receive-word-spec : {M : Type 1} → statement M
 receive-word-spec =
     tie.close
     (tie.spec
-    (λ c κs. search kit) -- held-word-requires
-    (λ c. search kit) -- slice-aggregate-mend
-    (λ c κs. search kit) -- mend-requires
-    (λ c. search kit) -- slice-aggregate-put-back-half
-    (λ c κs. search kit) -- put-back-half-requires
-    (λ c κs. search kit) -- mark-of-requires
-    (λ c. search kit) -- same-length
-    (λ c. search kit)) -- returns
+    (λ c κs. search kit)  -- held-word-requires
+    (λ c. search kit)  -- slice-aggregate-mend
+    (λ c κs. search kit)  -- mend-requires
+    (λ c. search kit)  -- slice-aggregate-put-back-half
+    (λ c κs. search kit)  -- put-back-half-requires
+    (λ c κs. search kit)  -- mark-of-requires
+    (λ c. search kit)  -- same-length
+    (λ c. search kit))  -- returns

@@ -25,17 +25,17 @@ receive-words-spec =
     (tie.spec
     Inv-loop
     μ-loop
-    (λ c. search kit) -- loop-holds
-    (λ c. search kit) -- mul-a
-    (λ c. search kit) -- add-e
-    (λ c. search kit) -- sub-receive-word
-    (λ c. search kit) -- part-receive-word-start
-    (λ c. search kit) -- part-receive-word-end
-    (λ c κs. search kit) -- receive-word-requires
-    (λ c. search kit) -- slice-write-marks
-    (λ c. search kit) -- add-w
-    (λ c. search kit) -- loop-less
-    (λ c. search kit) -- loop-again
-    (λ c. search kit) -- same-length
-    (λ c. search kit) -- same-length-2
-    (λ c. search kit)) -- returns
+    (λ c. search kit)  -- loop-holds
+    (λ c. search kit)  -- mul-a
+    (λ c. search kit)  -- add-e
+    (λ c. search kit)  -- sub-receive-word
+    (λ c. search kit)  -- part-receive-word-start
+    (λ c. search kit)  -- part-receive-word-end
+    (λ c κs. search kit)  -- receive-word-requires
+    (λ c. search kit)  -- slice-write-marks
+    (λ c. search kit)  -- add-w
+    (λ c. search kit)  -- loop-less
+    (λ c. search kit)  -- loop-again
+    (λ c. search kit)  -- same-length
+    (λ c. search kit)  -- same-length-2
+    (λ c. search kit))  -- returns

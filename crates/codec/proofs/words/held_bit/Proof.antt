@@ -11,12 +11,12 @@ pub held-bit-spec : {M : Type 1} → statement M
 held-bit-spec =
     tie.close
     (tie.spec
-    (λ c κs. search kit) -- front-bit-requires
-    (λ c. search kit) -- returns
-    (λ c κs. search kit) -- xor16-requires
-    (λ c. search kit) -- mul-bit
-    (λ c. search kit) -- mul-bit-2
-    (λ c. search kit) -- add-bit
-    (λ c. search kit) -- add-bit-2
-    (λ c κs. search kit) -- bit-requires
-    (λ c. search kit)) -- returns-2
+    (λ c κs. search kit)  -- front-bit-requires
+    (λ c. search kit)  -- returns
+    (λ c κs. search kit)  -- xor16-requires
+    (λ c. search kit)  -- mul-bit
+    (λ c. search kit)  -- mul-bit-2
+    (λ c. search kit)  -- add-bit
+    (λ c. search kit)  -- add-bit-2
+    (λ c κs. search kit)  -- bit-requires
+    (λ c. search kit))  -- returns-2

@@ -23,13 +23,13 @@ held-byte-spec =
     (tie.spec
     Inv-loop
     μ-loop
-    (λ c. search kit) -- loop-holds
-    (λ c. search kit) -- mul-byte
-    (λ c. search kit) -- mul-held-bit
-    (λ c. search kit) -- add-held-bit
-    (λ c κs. search kit) -- held-bit-requires
-    (λ c. search kit) -- add-byte
-    (λ c. search kit) -- add-b
-    (λ c. search kit) -- loop-less
-    (λ c. search kit) -- loop-again
-    (λ c. search kit)) -- returns
+    (λ c. search kit)  -- loop-holds
+    (λ c. search kit)  -- mul-byte
+    (λ c. search kit)  -- mul-held-bit
+    (λ c. search kit)  -- add-held-bit
+    (λ c κs. search kit)  -- held-bit-requires
+    (λ c. search kit)  -- add-byte
+    (λ c. search kit)  -- add-b
+    (λ c. search kit)  -- loop-less
+    (λ c. search kit)  -- loop-again
+    (λ c. search kit))  -- returns

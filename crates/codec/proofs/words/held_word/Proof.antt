@@ -23,10 +23,10 @@ held-word-spec =
     (tie.spec
     Inv-loop
     μ-loop
-    (λ c. search kit) -- loop-holds
-    (λ c κs. search kit) -- held-byte-requires
-    (λ c. search kit) -- array-write-word
-    (λ c. search kit) -- add-j
-    (λ c. search kit) -- loop-less
-    (λ c. search kit) -- loop-again
-    (λ c. search kit)) -- returns
+    (λ c. search kit)  -- loop-holds
+    (λ c κs. search kit)  -- held-byte-requires
+    (λ c. search kit)  -- array-write-word
+    (λ c. search kit)  -- add-j
+    (λ c. search kit)  -- loop-less
+    (λ c. search kit)  -- loop-again
+    (λ c. search kit))  -- returns

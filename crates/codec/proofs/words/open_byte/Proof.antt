@@ -24,13 +24,13 @@ open-byte-spec =
     (tie.spec
     Inv-loop
     μ-loop
-    (λ c. search kit) -- loop-holds
-    (λ c. search kit) -- mul-byte
-    (λ c. search kit) -- mul-open-bit
-    (λ c. search kit) -- add-open-bit
-    (λ c κs. search kit) -- open-bit-requires
-    (λ c. search kit) -- add-byte
-    (λ c. search kit) -- add-b
-    (λ c. search kit) -- loop-less
-    (λ c. search kit) -- loop-again
-    (λ c. search kit)) -- returns
+    (λ c. search kit)  -- loop-holds
+    (λ c. search kit)  -- mul-byte
+    (λ c. search kit)  -- mul-open-bit
+    (λ c. search kit)  -- add-open-bit
+    (λ c κs. search kit)  -- open-bit-requires
+    (λ c. search kit)  -- add-byte
+    (λ c. search kit)  -- add-b
+    (λ c. search kit)  -- loop-less
+    (λ c. search kit)  -- loop-again
+    (λ c. search kit))  -- returns

@@ -13,4 +13,4 @@ unfolding _⊕_
 xor16-spec =
     tie.close
     (tie.spec
-    (λ c. search kit)) -- returns
+    (λ c. search kit))  -- returns
