@@ -1,13 +1,13 @@
 // Encoding: the words of a pair from history and payload, and its coded bytes from them.
-use crate::history::shift_in;
-use crate::pairs::put_coded;
-use crate::words::open_word;
-use crate::words::put_back_half;
+use layout::history::shift_in;
+use layout::pairs::put_coded;
+use layout::words::open_word;
+use layout::words::put_back_half;
 ghost use mathlib.Core.Path.{_≡_};
 ghost use Prim.Native.Nat.{_<_};
 ghost use lib.ListN.{length};
 ghost use Rattle.bits.specs.Bits.{pack};
-ghost use Rattle.codec.specs.BackHalves.{backHalf, backHalves};
+ghost use Rattle.layout.specs.BackHalves.{backHalf, backHalves};
 ghost use Rattle.ofec.specs.History.{shift};
 ghost use Rattle.ofec.specs.Encoding.{encodedWord, encoded};
 

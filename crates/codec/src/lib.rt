@@ -1,9 +1,6 @@
 // Encoding a pair and receiving it: 01, "Rows and pairs".
 mod encoding;
-mod history;
-mod pairs;
 mod receiving;
-mod words;
 
 use calls::Answer;
 use calls::Refusal;

@@ -1,15 +1,15 @@
 // Receiving: the words of a pair from history and coded bytes, each repaired, and payload, marks and newest pair from them.
-use crate::history::shift_in;
-use crate::pairs::put_coded;
-use crate::pairs::put_payload;
-use crate::words::held_word;
-use crate::words::put_back_half;
+use layout::history::shift_in;
+use layout::pairs::put_coded;
+use layout::pairs::put_payload;
+use layout::words::held_word;
+use layout::words::put_back_half;
 ghost use mathlib.Core.Path.{_≡_};
 ghost use Prim.Native.Nat.{_<_};
 ghost use lib.ListN.{length};
 ghost use Rattle.bits.specs.Bits.{pack};
 ghost use Rattle.bch.specs.Repair.{mark};
-ghost use Rattle.codec.specs.BackHalves.{backHalf, backHalves};
+ghost use Rattle.layout.specs.BackHalves.{backHalf, backHalves};
 ghost use Rattle.ofec.specs.History.{shift};
 ghost use Rattle.ofec.specs.Receiving.{repairOf, mendedWord, newestPair, payloadOut, marks as marksOf};
 

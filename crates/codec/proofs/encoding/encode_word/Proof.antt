@@ -1,7 +1,7 @@
 -- `codec::encoding::encode_word` meets its contract.
 -- Assumes nothing.
-use Rattle.codec.specs.WordBits.{word-completed}
-use Rattle.codec.specs.BackHalves.{last-half}
+use Rattle.layout.specs.WordBits.{word-completed}
+use Rattle.layout.specs.BackHalves.{last-half}
 use borrow.Author.Needs.{needs}
 use Rattle.codec.proofs.encoding.encode_word.Statement.{statement}
 use Rattle.codec.proofs.encoding.encode_word.Tie as tie

@@ -4,7 +4,7 @@ use Prim.Native.Nat.{_-_}
 use Rattle.bits.specs.Bits.{byteOf, pack}
 use Rattle.bits.specs.Filling.{Blocks, by-blocks}
 use Rattle.ofec.specs.Encoding.{encodedWord}
-use Rattle.codec.specs.BackHalves.{backHalves, back-block}
+use Rattle.layout.specs.BackHalves.{backHalves, back-block}
 use borrow.Author.Needs.{needs}
 use Rattle.codec.proofs.encoding.encode_words.Statement.{statement}
 use Rattle.codec.proofs.encoding.encode_words.Tie as tie

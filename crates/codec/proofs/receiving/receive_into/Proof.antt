@@ -1,6 +1,6 @@
 -- `codec::receiving::receive_into` meets its contract.
 -- Assumes nothing.
-use Rattle.codec.specs.BackHalves.{gathered}
+use Rattle.layout.specs.BackHalves.{gathered}
 use borrow.Author.Needs.{needs}
 use Rattle.codec.proofs.receiving.receive_into.Statement.{statement}
 use Rattle.codec.proofs.receiving.receive_into.Tie as tie

@@ -1,7 +1,7 @@
 -- `codec::receiving::receive_word` meets its contract.
 -- Assumes nothing.
-use Rattle.codec.specs.WordBits.{word-mark, word-mended}
-use Rattle.codec.specs.BackHalves.{last-half}
+use Rattle.layout.specs.WordBits.{word-mark, word-mended}
+use Rattle.layout.specs.BackHalves.{last-half}
 use borrow.Author.Needs.{needs}
 use Rattle.codec.proofs.receiving.receive_word.Statement.{statement}
 use Rattle.codec.proofs.receiving.receive_word.Tie as tie

@@ -5,7 +5,7 @@ use Rattle.bits.specs.Bits.{byteOf, pack}
 use Rattle.bits.specs.Filling.{Filling, fill, Blocks, by-blocks}
 use Rattle.bch.specs.Repair.{mark}
 use Rattle.ofec.specs.Receiving.{repairOf, mendedWord, marks as marksOf}
-use Rattle.codec.specs.BackHalves.{backHalves, back-block}
+use Rattle.layout.specs.BackHalves.{backHalves, back-block}
 use borrow.Author.Needs.{needs}
 use Rattle.codec.proofs.receiving.receive_words.Statement.{statement}
 use Rattle.codec.proofs.receiving.receive_words.Tie as tie
