@@ -7,7 +7,6 @@ pub mod PairLaws
 pub mod BufferLaws
 pub mod History
 pub mod HistoryLaws
-pub mod Moving
 pub mod WordLaws
 pub mod Encoding
 pub mod EncodingLaws
@@ -15,7 +14,6 @@ pub mod Sent
 pub mod SentLaws
 pub mod Receiving
 pub mod ReceivingLaws
-pub mod Sources
 pub mod Calls
 pub mod CallLaws
 pub mod Promise

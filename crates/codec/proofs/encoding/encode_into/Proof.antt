@@ -1,0 +1,21 @@
+-- `codec::encoding::encode_into` meets its contract.
+-- Assumes nothing.
+use Rattle.layout.specs.BackHalves.{gathered}
+use borrow.Author.Needs.{needs}
+use Rattle.codec.proofs.encoding.encode_into.Statement.{statement}
+use Rattle.codec.proofs.encoding.encode_into.Tie as tie
+
+ruleset kit = (needs, gathered)
+
+pub encode-into-spec : {M : Type 1} → statement M
+encode-into-spec =
+    tie.close
+    (tie.spec
+    (λ c. search kit)  -- slice-aggregate-encode-words
+    (λ c κs. search kit)  -- encode-words-requires
+    (λ c. search kit)  -- slice-aggregate-put-coded
+    (λ c κs. search kit)  -- put-coded-requires
+    (λ c κs. search kit)  -- shift-in-requires
+    (λ c. search kit)  -- same-length
+    (λ c. search kit)  -- same-length-2
+    (λ c. search kit))  -- returns

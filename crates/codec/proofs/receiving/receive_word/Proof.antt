@@ -1,0 +1,22 @@
+-- `codec::receiving::receive_word` meets its contract.
+-- Assumes nothing.
+use Rattle.layout.specs.WordBits.{word-mark, word-mended}
+use Rattle.layout.specs.BackHalves.{last-half}
+use borrow.Author.Needs.{needs}
+use Rattle.codec.proofs.receiving.receive_word.Statement.{statement}
+use Rattle.codec.proofs.receiving.receive_word.Tie as tie
+
+ruleset kit = (needs, word-mark, word-mended, last-half)
+
+pub receive-word-spec : {M : Type 1} → statement M
+receive-word-spec =
+    tie.close
+    (tie.spec
+    (λ c κs. search kit)  -- held-word-requires
+    (λ c. search kit)  -- slice-aggregate-mend
+    (λ c κs. search kit)  -- mend-requires
+    (λ c. search kit)  -- slice-aggregate-put-back-half
+    (λ c κs. search kit)  -- put-back-half-requires
+    (λ c κs. search kit)  -- mark-of-requires
+    (λ c. search kit)  -- same-length
+    (λ c. search kit))  -- returns

@@ -1,0 +1,35 @@
+-- `layout::pairs::coded_byte` meets its contract: eight bits shifted in.
+-- Assumes nothing.
+use Prim.Native.Nat.{_+_, _-_, _*_}
+use Rattle.bits.specs.Bits.{bit, byteOf}
+use Rattle.layout.specs.BackHalves.{codedSource}
+use Rattle.bits.specs.Gathering.{Gathering, gather}
+use borrow.Author.Needs.{needs}
+use Rattle.layout.proofs.pairs.coded_byte.Statement.{statement}
+use Rattle.layout.proofs.pairs.coded_byte.Tie as tie
+
+ruleset kit = (needs, gather)
+
+abbrev Inv-loop : tie.InvT-loop
+Inv-loop backs j byte₀ b₀ byte b = Gathering (λ k. bit backs (codedSource (j * 8 + k))) 8 b byte
+
+abbrev μ-loop : tie.MeasureT-loop
+μ-loop backs j byte₀ b₀ byte b = 8 - b
+
+pub coded-byte-spec : {M : Type 1} → statement M
+unfolding byteOf
+coded-byte-spec =
+    tie.close
+    (tie.spec
+    Inv-loop
+    μ-loop
+    (λ c. search kit)  -- loop-holds
+    (λ c. search kit)  -- mul-byte
+    (λ c. search kit)  -- mul-coded-bit
+    (λ c. search kit)  -- add-coded-bit
+    (λ c κs. search kit)  -- coded-bit-requires
+    (λ c. search kit)  -- add-byte
+    (λ c. search kit)  -- add-b
+    (λ c. search kit)  -- loop-less
+    (λ c. search kit)  -- loop-again
+    (λ c. search kit))  -- returns

@@ -1,0 +1,32 @@
+-- `layout::words::held_word` meets its contract.
+-- Assumes nothing.
+use Prim.Native.Nat.{_-_}
+use Rattle.bits.specs.Bits.{byteOf, pack}
+use Rattle.bits.specs.Filling.{Filling, fill}
+use Rattle.ofec.specs.Receiving.{heldWord}
+use borrow.Author.Needs.{needs}
+use Rattle.layout.proofs.words.held_word.Statement.{statement}
+use Rattle.layout.proofs.words.held_word.Tie as tie
+
+ruleset kit = (needs, fill)
+
+abbrev Inv-loop : tie.InvT-loop
+Inv-loop history coded pair w word₀ j₀ word j = Filling (byteOf (heldWord history pair coded w)) 32 j word
+
+abbrev μ-loop : tie.MeasureT-loop
+μ-loop history coded pair w word₀ j₀ word j = 32 - j
+
+pub held-word-spec : {M : Type 1} → statement M
+unfolding pack
+held-word-spec =
+    tie.close
+    (tie.spec
+    Inv-loop
+    μ-loop
+    (λ c. search kit)  -- loop-holds
+    (λ c κs. search kit)  -- held-byte-requires
+    (λ c. search kit)  -- array-write-word
+    (λ c. search kit)  -- add-j
+    (λ c. search kit)  -- loop-less
+    (λ c. search kit)  -- loop-again
+    (λ c. search kit))  -- returns

@@ -1,0 +1,36 @@
+-- `layout::words::open_byte` meets its contract: eight bits shifted in.
+-- Assumes nothing.
+use Prim.Native.Nat.{_+_, _-_, _*_}
+use Rattle.bits.specs.Bits.{byteOf}
+use Rattle.bch.specs.Completion.{firstBits}
+use Rattle.ofec.specs.Encoding.{openWord}
+use Rattle.bits.specs.Gathering.{Gathering, gather}
+use borrow.Author.Needs.{needs}
+use Rattle.layout.proofs.words.open_byte.Statement.{statement}
+use Rattle.layout.proofs.words.open_byte.Tie as tie
+
+ruleset kit = (needs, gather)
+
+abbrev Inv-loop : tie.InvT-loop
+Inv-loop history payload pair w j byte₀ b₀ byte b = Gathering (λ k. firstBits (openWord history pair payload w) (j * 8 + k)) 8 b byte
+
+abbrev μ-loop : tie.MeasureT-loop
+μ-loop history payload pair w j byte₀ b₀ byte b = 8 - b
+
+pub open-byte-spec : {M : Type 1} → statement M
+unfolding byteOf
+open-byte-spec =
+    tie.close
+    (tie.spec
+    Inv-loop
+    μ-loop
+    (λ c. search kit)  -- loop-holds
+    (λ c. search kit)  -- mul-byte
+    (λ c. search kit)  -- mul-open-bit
+    (λ c. search kit)  -- add-open-bit
+    (λ c κs. search kit)  -- open-bit-requires
+    (λ c. search kit)  -- add-byte
+    (λ c. search kit)  -- add-b
+    (λ c. search kit)  -- loop-less
+    (λ c. search kit)  -- loop-again
+    (λ c. search kit))  -- returns

@@ -1,0 +1,33 @@
+-- `layout::words::open_word` meets its contract.
+-- Assumes nothing.
+use Prim.Native.Nat.{_-_}
+use Rattle.bits.specs.Bits.{byteOf, pack}
+use Rattle.bits.specs.Filling.{Filling, fill}
+use Rattle.bch.specs.Completion.{firstBits}
+use Rattle.ofec.specs.Encoding.{openWord}
+use borrow.Author.Needs.{needs}
+use Rattle.layout.proofs.words.open_word.Statement.{statement}
+use Rattle.layout.proofs.words.open_word.Tie as tie
+
+ruleset kit = (needs, fill)
+
+abbrev Inv-loop : tie.InvT-loop
+Inv-loop history payload pair w word₀ j₀ word j = Filling (byteOf (firstBits (openWord history pair payload w))) 32 j word
+
+abbrev μ-loop : tie.MeasureT-loop
+μ-loop history payload pair w word₀ j₀ word j = 32 - j
+
+pub open-word-spec : {M : Type 1} → statement M
+unfolding pack
+open-word-spec =
+    tie.close
+    (tie.spec
+    Inv-loop
+    μ-loop
+    (λ c. search kit)  -- loop-holds
+    (λ c κs. search kit)  -- open-byte-requires
+    (λ c. search kit)  -- array-write-word
+    (λ c. search kit)  -- add-j
+    (λ c. search kit)  -- loop-less
+    (λ c. search kit)  -- loop-again
+    (λ c. search kit))  -- returns

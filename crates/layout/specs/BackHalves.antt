@@ -1,0 +1,133 @@
+-- The back halves of a pair's 32 words, 16 bytes each, one after another; coded pair and payload as the code gathers them from there.
+-- Assumes nothing.
+use mathlib.Core.Path.{_≡_, refl, sym, ap, ap₂, _∙_}
+use mathlib.Core.Bool.{Bool, true, false, cond}
+use mathlib.Core.List.{List}
+use Prim.Native.Nat.{ℕ, _+_, _-_, _*_, _/_, _%_, _<_, _≤_}
+use native.Mathlib.Omega.{arith}
+use borrow.Author.Tests.{lt-ltb, le-ltb}
+use lib.Dec.{ltb}
+use lib.ListN.{length, getD, drop}
+use lib.Seq.{getD-drop}
+use Rattle.bits.specs.Lists.{tabulate}
+use Rattle.bits.specs.ListLaws.{getD-tabulate, is-tabulate, tabulate-ext}
+use Rattle.bits.specs.Bits.{bit, byteOf, fromBits, pack}
+use Rattle.bits.specs.BitLaws.{fromBits-ext, bit-pack, pack-ext}
+use Rattle.bits.specs.Xor.{_⊕_}
+use Rattle.bch.specs.CodeWord.{Word}
+use Rattle.ofec.specs.Pairs.{laidOut, codedIndex, ownIndex, codedPair, payloadOf}
+use Rattle.ofec.specs.PairLaws.{codedPlace, codedPlace-lt, coded-laid, ownWord, ownPlace, Own, own-from, payload-laid}
+use Rattle.ofec.specs.History.{shift}
+use Rattle.ofec.specs.Encoding.{encodedWord, encoded}
+use Rattle.ofec.specs.EncodingLaws.{encoded-code}
+use Rattle.ofec.specs.Receiving.{mendedWord, newestPair, payloadOut}
+use Rattle.ofec.specs.ReceivingLaws.{mended-bits}
+
+-- The back half of word w, and of all of them: bit m is bit 128 + m mod 128 of word m div 128.
+unfoldable pub backHalf : (ℕ → Word) → ℕ → List ℕ
+backHalf words w = pack 16 (λ k. words w (128 + k))
+
+unfoldable pub backHalves : (ℕ → Word) → ℕ → ℕ
+backHalves words m = words (m / 128) (128 + m % 128)
+
+-- The last 16 of a word's 32 bytes
+unfoldable pub lastHalf : List ℕ → List ℕ
+lastHalf s = tabulate 16 (λ j. getD s (16 + j) 0)
+
+-- are its back half,
+pub last-half : (words : ℕ → Word) (w : ℕ) (s b : List ℕ) → b ≡ lastHalf s → s ≡ pack 32 (words w) → b ≡ backHalf words w
+unfolding pack byteOf lastHalf backHalf
+last-half words w s b p e =
+    p ∙ tabulate-ext 16 (λ j. getD s (16 + j) 0) (byteOf (λ k. words w (128 + k)))
+    (λ j l. ap (λ t. getD t (16 + j) 0) e ∙ getD-tabulate 32 (byteOf (words w)) (16 + j) (omega arith)
+    ∙ fromBits-ext 8 (λ k. words w ((16 + j) * 8 + k)) (λ k. words w (128 + (j * 8 + k))) (λ k lk. ap (λ x. words w x % 2) (omega arith)))
+
+-- and block w of all back halves.
+pub back-block : (words : ℕ → Word) (w : ℕ) (b : List ℕ) → b ≡ backHalf words w → b ≡ tabulate 16 (λ i. byteOf (backHalves words) (w * 16 + i))
+unfolding pack byteOf backHalf backHalves
+back-block words w b e =
+    e ∙ tabulate-ext 16 (byteOf (λ k. words w (128 + k))) (λ i. byteOf (backHalves words) (w * 16 + i))
+    (λ i l. fromBits-ext 8 (λ k. words w (128 + (i * 8 + k))) (λ k. words (((w * 16 + i) * 8 + k) / 128) (128 + ((w * 16 + i) * 8 + k) % 128))
+    (λ k lk. let d : ((w * 16 + i) * 8 + k) / 128 ≡ w = omega arith in
+    let m : ((w * 16 + i) * 8 + k) % 128 ≡ i * 8 + k = omega arith in
+    rw (d, m)))
+
+-- ---- where the bits of a coded pair and of a payload stand
+
+unfoldable pub codedSource : ℕ → ℕ
+codedSource i = i / 16 * 16 + ((i % 16) ⊕ (i / 128 % 16))
+
+unfoldable pub payloadSource : ℕ → ℕ
+payloadSource i = cond (ltb i 3072) (i % 512 / 16 * 128 + i / 512 * 16 + i % 16) ((i - 3072) / 15 * 128 + 96 + (i - 3072) % 15)
+
+-- As they are gathered.
+unfoldable pub codedFrom : List ℕ → List ℕ
+codedFrom backs = pack 512 (λ i. bit backs (codedSource i))
+
+unfoldable pub payloadFrom : List ℕ → List ℕ
+payloadFrom backs = pack 444 (λ i. bit backs (payloadSource i))
+
+pub coded-bit-is : (s : List ℕ) (i x b : ℕ) → x ≡ (i % 16) ⊕ (i / 128 % 16) → b ≡ bit s (i / 16 * 16 + x) → b ≡ bit s (codedSource i)
+unfolding codedSource
+coded-bit-is s i x b e p = p ∙ rw e
+
+pub payload-bit-low : (s : List ℕ) (i b : ℕ) → i < 3072 → b ≡ bit s (i % 512 / 16 * 128 + i / 512 * 16 + i % 16) → b ≡ bit s (payloadSource i)
+unfolding payloadSource
+payload-bit-low s i b l p = let t : ltb i 3072 ≡ true = lt-ltb i 3072 l in p ∙ rw t
+
+pub payload-bit-high : (s : List ℕ) (i b : ℕ) → 3072 ≤ i → b ≡ bit s ((i - 3072) / 15 * 128 + 96 + (i - 3072) % 15) → b ≡ bit s (payloadSource i)
+unfolding payloadSource
+payload-bit-high s i b l p = let t : ltb i 3072 ≡ false = le-ltb i 3072 l in p ∙ rw t
+
+pub ruleset bit-sources = (coded-bit-is, payload-bit-low, payload-bit-high)
+
+codedSource-is : (i : ℕ) → codedSource i ≡ 128 * (i / 128) + codedPlace i
+unfolding codedSource codedPlace
+codedSource-is i = omega arith
+
+payloadSource-is : (i : ℕ) → payloadSource i ≡ 128 * ownWord i + ownPlace i
+unfolding payloadSource ownWord ownPlace
+payloadSource-is i = go (ltb i 3072)
+  where
+    go : (t : Bool) → cond t (i % 512 / 16 * 128 + i / 512 * 16 + i % 16) ((i - 3072) / 15 * 128 + 96 + (i - 3072) % 15)
+        ≡ 128 * cond t (i % 512 / 16) ((i - 3072) / 15) + cond t (16 * (i / 512) + i % 16) (96 + (i - 3072) % 15)
+    go true = omega arith
+    go false = omega arith
+
+-- ---- what is gathered from the words' back halves is their coded pair and their payload
+
+module _ (words : ℕ → Word) (bits : (w k : ℕ) → w < 32 → k < 256 → words w k < 2) (backs : List ℕ) (e : backs ≡ pack 512 (backHalves words)) where
+  back-at : (i w k : ℕ) → w < 32 → k < 128 → i ≡ 128 * w + k → bit backs i ≡ words w (128 + k)
+  unfolding backHalves
+  back-at i w k lw lk p =
+      let d : i / 128 ≡ w = omega arith in
+      let m : i % 128 ≡ k = omega arith in
+      ap (λ s. bit s i) e ∙ bit-pack 512 (backHalves words) i (omega arith) ∙ rw (d, m) (omega (arith, bits w (128 + k) lw (omega arith)))
+
+  coded-gathered : codedFrom backs ≡ codedPair words
+  unfolding codedPair codedFrom
+  coded-gathered =
+      pack-ext 512 (λ i. bit backs (codedSource i)) (laidOut 128 codedIndex words)
+      (λ i l. back-at (codedSource i) (i / 128) (codedPlace i) (omega arith) (codedPlace-lt i) (codedSource-is i) ∙ sym (coded-laid words i (omega arith)))
+
+  payload-gathered : payloadFrom backs ≡ payloadOf words
+  unfolding payloadOf payloadFrom
+  payload-gathered =
+      pack-ext 444 (λ i. bit backs (payloadSource i)) (laidOut 111 ownIndex words)
+      (λ i l. let o = own-from i (omega arith) in
+      back-at (payloadSource i) (ownWord i) (ownPlace i) (o .word) (omega (arith, o .place)) (payloadSource-is i) ∙ sym (payload-laid words i (omega arith)))
+
+pub encoded-is : (h : List ℕ) (P : ℕ) (y s q : List ℕ) → s ≡ pack 512 (backHalves (encodedWord h P y)) → q ≡ codedFrom s → q ≡ encoded h P y
+unfolding encoded
+encoded-is h P y s q e p = p ∙ coded-gathered (encodedWord h P y) (λ w k lw l. encoded-code h P y w .bits k l) s e
+
+module _ (h : List ℕ) (P : ℕ) (p s : List ℕ) (e : s ≡ pack 512 (backHalves (mendedWord h P p))) where
+  pub payload-is : (y : List ℕ) → y ≡ payloadFrom s → y ≡ payloadOut h P p
+  unfolding payloadOut
+  payload-is y g = g ∙ payload-gathered (mendedWord h P p) (λ w k lw l. mended-bits h P p w k) s e
+
+  pub shifted-is : (q t : List ℕ) → q ≡ codedFrom s → t ≡ shift h q → t ≡ shift h (newestPair h P p)
+  unfolding newestPair
+  shifted-is q t eq et = et ∙ ap (shift h) (eq ∙ coded-gathered (mendedWord h P p) (λ w k lw l. mended-bits h P p w k) s e)
+
+pub ruleset gathered = (encoded-is, payload-is, shifted-is)

@@ -1,0 +1,3 @@
+pub mod Shifting
+pub mod WordBits
+pub mod BackHalves
