@@ -5,3 +5,7 @@ pub mod Line
 pub mod Outward
 pub mod Inward
 pub mod Demand3
+pub mod LineLaws
+pub mod OutwardLaws
+pub mod InwardLaws
+pub mod Theorem
