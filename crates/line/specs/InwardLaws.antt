@@ -149,12 +149,12 @@ module _ (n : ℕ) (h : Heard n) where
 
 -- ---- the receivers
 
-length-payloads : (cs : List Encoding) → length (payloads cs) ≡ length (accepted Encodings cs)
+pub length-payloads : (cs : List Encoding) → length (payloads cs) ≡ length (accepted Encodings cs)
 unfolding payloads
 length-payloads cs = length-map (accepted Encodings cs) (λ (c : Encoding). c .payload)
 
 module _ (o : Outward) (i : Inward o) where
-  takes : (e : Side) → Takes (lineBit (i .heard .frames) e) (i .calls e)
+  pub takes : (e : Side) → Takes (lineBit (i .heard .frames) e) (i .calls e)
   takes e =
       record {
         takes = λ P c a.
@@ -162,7 +162,7 @@ module _ (o : Outward) (i : Inward o) where
             (received-holds (o .superframes) (i .heard) e P (omega (arith, At-lt a, i .some e)));
       }
 
-  enough : (e : Side) → length (accepted Receivings (i .calls e)) ≤ length (payloads (o .calls e))
+  pub enough : (e : Side) → length (accepted Receivings (i .calls e)) ≤ length (payloads (o .calls e))
   enough e = omega (arith, i .some e, o .filled e, length-payloads (o .calls e))
 
   pub comes : Comes o i

@@ -9,3 +9,10 @@ pub mod LineLaws
 pub mod OutwardLaws
 pub mod InwardLaws
 pub mod Theorem
+pub mod CallLists
+pub mod CallListLaws
+pub mod Witnesses
+pub mod WrongLaws
+pub mod Witness
+pub mod BenchValues
+pub mod BenchLaws

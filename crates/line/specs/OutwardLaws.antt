@@ -27,14 +27,14 @@ use Rattle.symbols.specs.CellLaws.{toCells-length, toCells-below, bits-back}
 use Rattle.symbols.specs.Calls.{After, after, bitsToCells}
 use Rattle.symbols.specs.CallLaws.{map-accepts}
 use Rattle.framing.specs.Frames.{isOverhead, payloadBefore, payloadCells, payloadStart, ownOverhead, framed, subFrameOf, cellOf}
-use Rattle.framing.specs.FrameLaws.{own-legal, framed-payload}
+use Rattle.framing.specs.FrameLaws.{own-length, own-legal, framed-length, framed-payload, framed-legal}
 use Rattle.framing.specs.PlaceLaws.{payload-index-lt, Located, located}
 use Rattle.framing.specs.CallLaws.{frame-accepts}
 use Rattle.line.specs.Sides.{Side, side0, side1, encoder, buffers}
 use Rattle.line.specs.Line.{outputBit, lineByte, lineBit}
 use Rattle.line.specs.Outward.{Outward, codedPairs, pairsOfBuffer, interleaving, mapping, payloadByte, framePayload, framing, frames}
 use Rattle.line.specs.Demand3.{Goes}
-use Rattle.line.specs.LineLaws.{getD-buffers, encoder-lt, pairsOf-side, outputBit-for, pairs-bit, OnLine, byte-lt, byte-cell, byte-half, byte-buffer, byte-place, cell-lt, line-bit}
+use Rattle.line.specs.LineLaws.{length-buffers, getD-buffers, encoder-lt, pairsOf-side, outputBit-for, pairs-bit, OnLine, byte-lt, byte-cell, byte-half, byte-buffer, byte-place, cell-lt, line-bit}
 
 -- The coded pair of an accepted call stands at its number.
 coded-at : (cs : List Encoding) {P : ℕ} {c : Encoding} → At (accepted Encodings cs) P c → getD (codedPairs cs) P [] ≡ encode c .coded
@@ -169,6 +169,26 @@ module _ (o : Outward) where
       line-coded e R C r c lR lC lr lc
       ∙ ap (λ (p : List ℕ). pairBit p (R % 2) C r c) (coded-at (o .calls e) (f .1))
       ∙ coded-sent (o .calls e) (o .runs e) (o .sent e) (o .formulas e) (R / 2) (f .0) (f .1) .holds R C r c refl lC lr lc
+
+  -- ---- the frames are a line
+
+  pub frames-many : length (frames o) ≡ 48 * o .superframes
+  unfolding frames
+  frames-many = length-buffers (48 * o .superframes) (λ f. framing o f .written)
+
+  frame-is : (f : ℕ) → f < 48 * o .superframes → getD (frames o) f [] ≡ framed (f % 48) (framePayload o f) (ownOverhead (f % 48) (o .overhead))
+  unfolding frames
+  frame-is f l = getD-buffers (48 * o .superframes) (λ k. framing o k .written) f l ∙ ap (λ (a : After). a .written) (framing-is f)
+
+  pub frames-long : (f : ℕ) → f < 48 * o .superframes → length (getD (frames o) f []) ≡ 7424
+  frames-long f l = ap length (frame-is f l) ∙ framed-length (f % 48) (framePayload o f) (ownOverhead (f % 48) (o .overhead))
+
+  pub frames-legal : (f : ℕ) → f < 48 * o .superframes → Legal (getD (frames o) f [])
+  frames-legal f l =
+      let s : f % 48 ≤ 47 = omega arith in
+      rw (frame-is f l)
+      (framed-legal (f % 48) (framePayload o f) (ownOverhead (f % 48) (o .overhead)) (payload-length f) (own-length (f % 48) (o .overhead) s (o .overhead-long))
+      (payload-legal f) (own-legal (f % 48) (o .overhead) s (o .overhead-long) (o .overhead-legal)))
 
   pub goes : Goes o
   goes =
