@@ -10,6 +10,7 @@ use native.Mathlib.Decide.{decLt}
 use lib.ListN.{length, getD, length-map}
 use lib.Seq.{ext-getD}
 use Rattle.bits.specs.Bits.{bit}
+use Rattle.bits.specs.BitLaws.{pack-below, bits-equal}
 use Rattle.calls.specs.declared.Answer.the-variants.{Done, Refused}
 use Rattle.calls.specs.declared.Refusal.the-variants.{Misfit}
 use Rattle.calls.specs.Answers.{refusalOf, valueOr, Accepted, TurnedBack}
@@ -17,14 +18,14 @@ use Rattle.calls.specs.Sequences.{At, Run, accepted}
 use Rattle.calls.specs.SequenceLaws.{At-lt, At-find, At-map, is-accepted}
 use Rattle.ofec.specs.Rows.{RowBits, wordOf, payloadIndex}
 use Rattle.ofec.specs.RowLaws.{word-at, backPlace, backPlace-low, backPlace-lt}
-use Rattle.ofec.specs.Pairs.{ownIndex}
-use Rattle.ofec.specs.PairLaws.{ownWord, ownPlace, Own, own-from}
+use Rattle.ofec.specs.Pairs.{laidOut, ownIndex, payloadOf}
+use Rattle.ofec.specs.PairLaws.{ownWord, ownPlace, Own, own-from, length-payloadOf}
 use Rattle.ofec.specs.History.{shift}
 use Rattle.ofec.specs.HistoryLaws.{length-fresh, length-shift}
 use Rattle.ofec.specs.Encoding.{encoded}
 use Rattle.ofec.specs.EncodingLaws.{length-encoded, payloadBit-own}
 use Rattle.ofec.specs.SentLaws.{madeBits, sent-exists}
-use Rattle.ofec.specs.Receiving.{newestPair}
+use Rattle.ofec.specs.Receiving.{mendedWord, newestPair, payloadOut}
 use Rattle.ofec.specs.ReceivingLaws.{length-newest}
 use Rattle.ofec.specs.Calls.{State, state, start, Encoded, Encoding, encode, Encodings, Received, Receiving, receive, Receivings, payloads}
 use Rattle.ofec.specs.CallLaws.{EncodeFits, encode-payload, encode-accepted, encode-accepts, ReceiveFits, receive-coded, receive-accepted, receive-accepts}
@@ -39,7 +40,7 @@ use Rattle.line.specs.LineLaws.{length-buffers}
 use Rattle.line.specs.OutwardLaws.{goes, frames-many, frames-long, frames-legal}
 use Rattle.line.specs.InwardLaws.{length-received, length-payloads, takes, enough, comes}
 use Rattle.line.specs.CallLists.{Among, oneByOne, stateAfter}
-use Rattle.line.specs.CallListLaws.{among-run, among-accepted, length-oneByOne, made-at, oneByOne-run, oneByOne-accepted}
+use Rattle.line.specs.CallListLaws.{among-run, among-accepted, among-none, length-oneByOne, made-at, oneByOne-run, oneByOne-accepted}
 use Rattle.line.specs.Witnesses.{Given, encodingOf, encodings, LentBack, receivingOf, receivings, AllBack, OneWrong}
 use Rattle.line.specs.WrongLaws.{none-wrong, one-wrong}
 
@@ -118,25 +119,24 @@ module _ (g : Given) (e : Side) where
 pub goes-out : (g : Given) (calls : Side → List Encoding) → ((e : Side) → Among Encodings (encodings g e) (calls e))
     → (o : Outward) × (o .superframes ≡ g .superframes) × (o .calls ≡ calls) × ((e : Side) → payloads (o .calls e) ≡ g .payloads e)
 unfolding payloads
-goes-out g calls among =
-    (
-      record {
-        superframes = g .superframes;
-        calls = calls;
-        last = λ e. stateAfter Encodings (encodingOf g e) (168 * g .superframes) 0 start;
-        runs = λ e. among-run Encodings (among e) (encodings-run g e);
-        filled = λ e. ap length (taken e) ∙ length-encodings g e;
-        overhead = g .overhead;
-        overhead-long = g .overhead-long;
-        overhead-legal = g .overhead-legal;
-        lent = g .lent;
-        sent = λ e. madeBits (payloads (calls e));
-        formulas = λ e. sent-exists (payloads (calls e));
-      },
-      refl,
-      refl,
-      λ e. ap (map (λ (c : Encoding). c .payload)) (taken e) ∙ encodings-payloads g e,
-    )
+goes-out g calls among = (
+  record {
+    superframes = g .superframes;
+    calls = calls;
+    last = λ e. stateAfter Encodings (encodingOf g e) (168 * g .superframes) 0 start;
+    runs = λ e. among-run Encodings (among e) (encodings-run g e);
+    filled = λ e. ap length (taken e) ∙ length-encodings g e;
+    overhead = g .overhead;
+    overhead-long = g .overhead-long;
+    overhead-legal = g .overhead-legal;
+    lent = g .lent;
+    sent = λ e. madeBits (payloads (calls e));
+    formulas = λ e. sent-exists (payloads (calls e));
+  },
+  refl,
+  refl,
+  λ e. ap (map (λ (c : Encoding). c .payload)) (taken e) ∙ encodings-payloads g e,
+)
   where
     taken : (e : Side) → accepted Encodings (calls e) ≡ encodings g e
     taken e = among-accepted Encodings (among e) ∙ encodings-accepted g e
@@ -202,21 +202,20 @@ module _ (n : ℕ) (h : Heard n) (room : LentBack) (small : 168 * n ≤ 42949672
 pub comes-in : (o : Outward) (h : Heard (o .superframes)) → ((e : Side) → Limit (o .sent e) (lineBit (h .frames) e) (168 * o .superframes)) → (room : LentBack)
     → (calls : Side → List Receiving) → ((e : Side) → Among Receivings (receivings (o .superframes) h room e) (calls e))
     → (i : Inward o) × (i .heard ≡ h) × (i .calls ≡ calls) × ((e : Side) → length (accepted Receivings (i .calls e)) ≡ 168 * o .superframes)
-comes-in o h limit room calls among =
-    (
-      record {
-        heard = h;
-        calls = calls;
-        last = λ e. stateAfter Receivings (receivingOf (o .superframes) h room e) (168 * o .superframes) 0 start;
-        runs = λ e. among-run Receivings (among e) (receivings-run (o .superframes) h room (within o e) e);
-        some = λ e. omega (arith, all e);
-        in-order = λ e P c a. receivings-order (o .superframes) h room (within o e) e P c (subst (λ l. At l P c) (taken e) a);
-        limit = λ e. subst (λ k. Limit (o .sent e) (lineBit (h .frames) e) k) (sym (all e)) (limit e);
-      },
-      refl,
-      refl,
-      all,
-    )
+comes-in o h limit room calls among = (
+  record {
+    heard = h;
+    calls = calls;
+    last = λ e. stateAfter Receivings (receivingOf (o .superframes) h room e) (168 * o .superframes) 0 start;
+    runs = λ e. among-run Receivings (among e) (receivings-run (o .superframes) h room (within o e) e);
+    some = λ e. omega (arith, all e);
+    in-order = λ e P c a. receivings-order (o .superframes) h room (within o e) e P c (subst (λ l. At l P c) (taken e) a);
+    limit = λ e. subst (λ k. Limit (o .sent e) (lineBit (h .frames) e) k) (sym (all e)) (limit e);
+  },
+  refl,
+  refl,
+  all,
+)
   where
     taken : (e : Side) → accepted Receivings (calls e) ≡ receivings (o .superframes) h room e
     taken e = among-accepted Receivings (among e) ∙ receivings-accepted (o .superframes) h room (within o e) e
@@ -228,20 +227,19 @@ comes-in o h limit room calls among =
 
 -- The frames of what goes out are a line.
 pub unaltered : (o : Outward) (overhead : List ℕ) → length overhead ≡ 12288 → Legal overhead → LentIn → (h : Heard (o .superframes)) × (h .frames ≡ frames o)
-unaltered o overhead long legal lent =
-    (
-      record {
-        frames = frames o;
-        many = frames-many o;
-        long = frames-long o;
-        legal = frames-legal o;
-        overhead = overhead;
-        overhead-long = long;
-        overhead-legal = legal;
-        lent = lent;
-      },
-      refl,
-    )
+unaltered o overhead long legal lent = (
+  record {
+    frames = frames o;
+    many = frames-many o;
+    long = frames-long o;
+    legal = frames-legal o;
+    overhead = overhead;
+    overhead-long = long;
+    overhead-legal = legal;
+    lent = lent;
+  },
+  refl,
+)
 
 module _ (o : Outward) (h : Heard (o .superframes)) (same : h .frames ≡ frames o) where
   pub none : (e : Side) (R r : ℕ) → R < 336 * o .superframes → r < 16 → wrongBits (o .sent e) (lineBit (h .frames) e) R r ≡ 0
@@ -311,6 +309,42 @@ module _ (o : Outward) (i : Inward o) where
               rows : (e : Side) → length (payloads (o .calls e)) ≡ 168 * o .superframes
               rows e = length-payloads (o .calls e) ∙ o .filled e
 
+-- Where the payload is bytes, it comes back whole.
+pub payload-whole : (o : Outward) (i : Inward o) → AllBack o i → (e : Side) (P : ℕ) (c : Receiving) → At (accepted Receivings (i .calls e)) P c
+    → ((j : ℕ) → getD (getD (payloads (o .calls e)) P []) j 0 < 256) → receive c .payload ≡ getD (payloads (o .calls e)) P []
+unfolding payloads payloadOut payloadOf
+payload-whole o i back e P c a bytes =
+    bits-equal (receive c .payload) (getD (payloads (o .calls e)) P []) (long ∙ sym given-long) small bytes (λ j l. back .payload e P c a j (omega (arith, long)))
+  where
+    is : receive c .payload ≡ payloadOut (c .history) (c .pair) (c .coded)
+    is = ap (λ (d : Received). d .payload) (receive-accepted c (is-accepted Receivings (i .calls e) a) .1)
+
+    long : length (receive c .payload) ≡ 444
+    long = ap length is ∙ length-payloadOf (mendedWord (c .history) (c .pair) (c .coded))
+
+    small : (j : ℕ) → getD (receive c .payload) j 0 < 256
+    small j = rw is (pack-below 444 (laidOut 111 ownIndex (mendedWord (c .history) (c .pair) (c .coded))) j)
+
+    f : (d : Encoding) × At (accepted Encodings (o .calls e)) P d
+    f = At-find (accepted Encodings (o .calls e)) P (omega (arith, At-lt a, i .some e, o .filled e))
+
+    given-long : length (getD (payloads (o .calls e)) P []) ≡ 444
+    given-long =
+        ap length (At-map (λ (d : Encoding). d .payload) [] (f .1)) ∙ encode-accepted (f .0) (is-accepted Encodings (o .calls e) (f .1)) .0 .payload
+
+-- So for all payloads there are runs, there and back, that take all pairs and bring all payload back.
+pub there-and-back : (g : Given) → LentIn → LentBack
+    → (o : Outward) × (i : Inward o) × ((e : Side) → payloads (o .calls e) ≡ g .payloads e)
+    × ((e : Side) → length (accepted Receivings (i .calls e)) ≡ 168 * o .superframes) × AllBack o i
+there-and-back g lent room =
+    let out = goes-out g (encodings g) (λ e. among-none Encodings (encodings g e)) in
+    let o = out .0 in
+    let h = unaltered o (o .overhead) (o .overhead-long) (o .overhead-legal) lent in
+    let back =
+    comes-in o (h .0) (unaltered-limit o (h .0) (h .1)) room (receivings (o .superframes) (h .0) room)
+    (λ e. among-none Receivings (receivings (o .superframes) (h .0) room e)) in
+    (o, back .0, out .3, back .3, all-back o (back .0) (ap (λ (k : Heard (o .superframes)). k .frames) (back .1) ∙ h .1))
+
 -- ---- a line that alters one bit
 
 module _ (o : Outward) (h : Heard (o .superframes)) (e : Side) (R C r c : ℕ) (lC : C < 8) (lr : r < 16) (lc : c < 16)
@@ -338,6 +372,6 @@ module _ (o : Outward) (i : Inward o) (e : Side) (R C r c : ℕ) (lC : C < 8) (l
         marked o i e R r d lr a one-kept,
         one-wrong lC lr lc one R r (taken-row o i e R d a) lr,
         mark-some (o .sent e) (lineBit (i .heard .frames) e) (payloads (o .calls e)) (o .formulas e) (i .calls e) (i .runs e) (enough o i e) (takes o i e) (i .limit e)
-        R r (backPlace C r c) d lr (backPlace-low C r c) (backPlace-lt C r c lC lr lc) a one-kept
-        (λ q. one .wrong (sym (word-at (lineBit (i .heard .frames) e) R C r c lr lc) ∙ q ∙ word-at (o .sent e) R C r c lr lc)),
+            R r (backPlace C r c) d lr (backPlace-low C r c) (backPlace-lt C r c lC lr lc) a one-kept
+            (λ q. one .wrong (sym (word-at (lineBit (i .heard .frames) e) R C r c lr lc) ∙ q ∙ word-at (o .sent e) R C r c lr lc)),
       )

@@ -212,7 +212,7 @@ module _ (S W : RowBits) (ys : List (List ℕ)) (sent : Sent ys S) (cs : List Re
         arith,
         promise R r c lr a .flips n,
         distance-mono 256 (wordOf (heldBits 10 (c .history ++ c .coded) (R / 2)) R r) (wordOf S R r) (wordOf W R r) (wordOf S R r)
-        (λ k l. near (right-lent (R / 2) c a) R r k refl lr (c .coded) (takes .takes (R / 2) c a) l),
+            (λ k l. near (right-lent (R / 2) c a) R r k refl lr (c .coded) (takes .takes (R / 2) c a) l),
       )
 
   -- .. and at least one where a bit of its back half was delivered wrong.
