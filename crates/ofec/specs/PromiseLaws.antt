@@ -9,6 +9,7 @@ use native.Mathlib.Omega.{arith}
 use lib.ListN.{length, getD, length-map}
 use Rattle.bits.specs.Bits.{bit}
 use Rattle.bits.specs.Count.{distance}
+use Rattle.bits.specs.CountLaws.{distance-mono, distance-zero}
 use Rattle.calls.specs.Answers.{valueOr, Accepted}
 use Rattle.calls.specs.Sequences.{At, Run, accepted}
 use Rattle.calls.specs.SequenceLaws.{At-lt, At-find, At-map, is-accepted, lent-at}
@@ -17,10 +18,10 @@ use Rattle.bch.specs.CodeWord.{Word, CodeWord}
 use Rattle.bch.specs.Repair.{repair, repaired, mark}
 use Rattle.bch.specs.declared.Repair.{Repair}
 use Rattle.ofec.specs.Rows.{RowBits, frontCounts, backBit, wordOf, payloadIndex}
-use Rattle.ofec.specs.RowLaws.{word-back, backPlace, backPlace-of, xor-16}
+use Rattle.ofec.specs.RowLaws.{word-back, backPlace, backPlace-of, xor-16, Place, zeros, before, own, place}
 use Rattle.ofec.specs.Pairs.{pairBit}
 use Rattle.ofec.specs.History.{fresh, heldBits, shift}
-use Rattle.ofec.specs.HistoryLaws.{held-shifted, held-newest, Right, right-after, historyAfter}
+use Rattle.ofec.specs.HistoryLaws.{held-shifted, held-newest, near, Right, right-after, historyAfter}
 use Rattle.ofec.specs.Sent.{Sent}
 use Rattle.ofec.specs.Encoding.{encoded}
 use Rattle.ofec.specs.EncodingLaws.{numbered, encoded-holds}
@@ -190,12 +191,44 @@ module _ (S W : RowBits) (ys : List (List ℕ)) (sent : Sent ys S) (cs : List Re
           ap (λ (x : Received). state (x .history) (valueOr (x .answer) (c .pair))) (ok .1)
           ∙ ap₂ state (ap₂ shift eh (ap₂ (λ h P. newestPair h P (c .coded)) eh ep ∙ ap (newestPair (history i) i) ey)) (omega arith)
 
+  right-lent : (P : ℕ) (c : Receiving) → At (accepted Receivings cs) P c → Right 10 S W P (c .history)
+  right-lent P c a =
+      let within : P < length (accepted Receivings cs) = At-lt a in
+      let eh : c .history ≡ history P = ap (λ (s : State). s .history) (lent P c a) in
+      subst (λ h. Right 10 S W P h) (sym eh) (history-right P (omega arith))
+
   -- THE PROMISE of the code layer: it holds of each word (R, r) that an accepted call took.
   pub promise : (R r : ℕ) (c : Receiving) → r < 16 → At (accepted Receivings cs) (R / 2) c → Promise S W c R r
   promise R r c lr a =
       let within : R / 2 < length (accepted Receivings cs) = At-lt a in
-      let was = lent (R / 2) c a in
-      let eh : c .history ≡ history (R / 2) = ap (λ (s : State). s .history) was in
-      one-word c R r lr (receive-accepted c (is-accepted Receivings cs a) .1) (ap (λ (s : State). s .pair) was)
-      (subst (λ h. Right 10 S W (R / 2) h) (sym eh) (history-right (R / 2) (omega arith))) (takes .takes (R / 2) c a)
-      (code (R / 2) within R r refl lr) (three (R / 2) within R r refl lr)
+      one-word c R r lr (receive-accepted c (is-accepted Receivings cs a) .1) (ap (λ (s : State). s .pair) (lent (R / 2) c a))
+      (right-lent (R / 2) c a) (takes .takes (R / 2) c a) (code (R / 2) within R r refl lr) (three (R / 2) within R r refl lr)
+
+  -- A word that is not lost has at most as many flips as the line delivered wrong bits ..
+  pub mark-within : (R r : ℕ) (c : Receiving) → r < 16 → At (accepted Receivings cs) (R / 2) c → NotLost (receive c) R r → markOf (receive c) R r ≤ wrongBits S W R r
+  unfolding wrongBits
+  mark-within R r c lr a n =
+      omega (
+        arith,
+        promise R r c lr a .flips n,
+        distance-mono 256 (wordOf (heldBits 10 (c .history ++ c .coded) (R / 2)) R r) (wordOf S R r) (wordOf W R r) (wordOf S R r)
+            (λ k l. near (right-lent (R / 2) c a) R r k refl lr (c .coded) (takes .takes (R / 2) c a) l),
+      )
+
+  -- .. and at least one where a bit of its back half was delivered wrong.
+  pub mark-some : (R r k : ℕ) (c : Receiving) → r < 16 → 128 ≤ k → k < 256 → At (accepted Receivings cs) (R / 2) c → NotLost (receive c) R r
+      → wordOf W R r k ≢ wordOf S R r k → markOf (receive c) R r ≢ 0
+  mark-some R r k c lr low lk a n wrong none =
+      wrong (sym (go (place R r k lr lk)) ∙ distance-zero 256 held′ (wordOf S R r) (sym (promise R r c lr a .flips n) ∙ none) k lk)
+    where
+      held′ : Word
+      held′ = wordOf (heldBits 10 (c .history ++ c .coded) (R / 2)) R r
+
+      go : Place R r k → wordOf (heldBits 10 (c .history ++ c .coded) (R / 2)) R r k ≡ wordOf W R r k
+      go (zeros m is) = absurd (omega arith)
+      go (before Q C b d m lo hi lC lb ld is) = absurd (omega arith)
+      go (own C d m lC ld is) =
+          is (heldBits 10 (c .history ++ c .coded) (R / 2))
+          ∙ held-newest 10 (c .history) (c .coded) (R / 2) (right-lent (R / 2) c a .size) R C r d lC lr ld refl
+          ∙ takes .takes (R / 2) c a .holds R C r d refl lC lr ld
+          ∙ sym (is W)

@@ -1,0 +1,29 @@
+-- The bench values hold.
+-- Assumes nothing.
+use mathlib.Core.Bool.{true}
+use Rattle.bch.specs.BenchValues.{only-238, two-flips-mark, two-flips-word, three-flips}
+use Rattle.ofec.specs.Bench.{word-20-0-first, word-20-0-last, word-21-5-119, in-no-front, payload-index-3087, payload-index-3551, payload-index-3552}
+use Rattle.interleaver.specs.BenchValues.{bench-1, bench-16, bench-32, bench-172031}
+use Rattle.symbols.specs.BenchValues.{bench-cells}
+use Rattle.line.specs.BenchValues.{BenchValues}
+
+pub bench-values : BenchValues
+bench-values =
+    record {
+      parity = only-238;
+      two-flipped = two-flips-mark;
+      two-repaired = two-flips-word;
+      three-flipped = three-flips true;
+      word-20-0-bit-0 = word-20-0-first;
+      word-20-0-bit-127 = word-20-0-last;
+      word-21-5-bit-119 = word-21-5-119;
+      row-13-block-7 = in-no-front;
+      payload-3087 = payload-index-3087;
+      payload-3551 = payload-index-3551;
+      payload-3552 = payload-index-3552;
+      output-1 = bench-1;
+      output-16 = bench-16;
+      output-32 = bench-32;
+      output-172031 = bench-172031;
+      cells = bench-cells;
+    }

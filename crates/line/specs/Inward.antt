@@ -1,0 +1,78 @@
+-- What comes in. 01, "Whole runs": "The line may put any legal cell for any cell, overhead too. Unframing, with that list or another legal
+-- one, cells to bits and taking apart give the pairs received."
+-- Assumes nothing.
+use mathlib.Core.Path.{_≡_}
+use mathlib.Core.List.{List, []}
+use Prim.Native.Nat.{ℕ, _+_, _-_, _*_, _/_, _%_, _<_, _≤_}
+use lib.ListN.{length, getD}
+use Rattle.bits.specs.Lists.{tabulate}
+use Rattle.calls.specs.Sequences.{At, Run, accepted}
+use Rattle.ofec.specs.Calls.{Receiving, Receivings, State, start}
+use Rattle.ofec.specs.Promise.{Limit}
+use Rattle.interleaver.specs.Calls.{Apart, deinterleave}
+use Rattle.symbols.specs.Cells.{Legal}
+use Rattle.symbols.specs.Calls.{After, cellsToBits}
+use Rattle.framing.specs.Frames.{payloadCells, payloadStart, subFrameOf}
+use Rattle.framing.specs.Calls.{unframeCall}
+use Rattle.line.specs.Sides.{Side, side0, side1}
+use Rattle.line.specs.Line.{lineBit}
+use Rattle.line.specs.Outward.{Outward}
+
+-- Output buffers lent to the line calls, of any content and the stated length: a payload for each sub-frame f of the line, bits and the
+-- pairs of either encoder for each buffer b.
+pub record LentIn : Type 0 where
+  pub payload : ℕ → List ℕ
+  pub bits : ℕ → List ℕ
+  pub pairs : Side → ℕ → List ℕ
+  pub payload-long : (f : ℕ) → length (payload f) ≡ payloadCells (f % 48) * 2
+  pub bits-long : (b : ℕ) → length (bits b) ≡ 21504
+  pub pairs-long : (e : Side) (b : ℕ) → length (pairs e b) ≡ 10752
+
+-- What came off a line of n super-frames, legal but otherwise of any kind; the overhead list that unframing is lent, and the buffers.
+pub record Heard (n : ℕ) : Type 0 where
+  pub frames : List (List ℕ)
+  pub many : length frames ≡ 48 * n
+  pub long : (f : ℕ) → f < 48 * n → length (getD frames f []) ≡ 7424
+  pub legal : (f : ℕ) → f < 48 * n → Legal (getD frames f [])
+  pub overhead : List ℕ
+  pub overhead-long : length overhead ≡ 12288
+  pub overhead-legal : Legal overhead
+  pub lent : LentIn
+
+-- The calls, "each is made for every buffer or sub-frame".
+module _ (n : ℕ) (h : Heard n) where
+  unfoldable pub unframing : ℕ → After
+  unframing f = unframeCall (f % 48) (getD (h .frames) f []) (h .overhead) (h .lent .payload f)
+
+  -- "Payload runs on from buffer to buffer and sub-frame to sub-frame": byte y of the payload of super-frame q, and the cells of buffer b.
+  unfoldable pub heardByte : ℕ → ℕ → ℕ
+  heardByte q y = getD (unframing (48 * q + subFrameOf (y / 2)) .written) (y - payloadStart (subFrameOf (y / 2)) * 2) 0
+
+  unfoldable pub bufferCells : ℕ → List ℕ
+  bufferCells b = tabulate 43008 (λ i. heardByte (b / 8) (b % 8 * 43008 + i))
+
+  unfoldable pub demapping : ℕ → After
+  demapping b = cellsToBits (bufferCells b) (h .lent .bits b)
+
+  unfoldable pub parting : ℕ → Apart
+  parting b = deinterleave (demapping b .written) (h .lent .pairs side0 b) (h .lent .pairs side1 b)
+
+  unfoldable pub pairsBack : Side → ℕ → List ℕ
+  pairsBack side0 b = parting b .pairs0
+  pairsBack side1 b = parting b .pairs1
+
+  -- Received pair P of an encoder.
+  unfoldable pub receivedPair : Side → ℕ → List ℕ
+  receivedPair e P = tabulate 512 (λ i. getD (pairsBack e (P / 21)) (512 * (P % 21) + i) 0)
+
+-- The two lists of receiving calls on it.
+pub record Inward (o : Outward) : Type 0 where
+  pub heard : Heard (o .superframes)
+  pub calls : Side → List Receiving
+  pub last : Side → State
+  pub runs : (e : Side) → Run Receivings start (calls e) (last e)
+  -- "The accepted calls of a receiver take its encoder's received pairs in order from pair 0, all or only the first so many."
+  pub some : (e : Side) → length (accepted Receivings (calls e)) ≤ 168 * o .superframes
+  pub in-order : (e : Side) (P : ℕ) (c : Receiving) → At (accepted Receivings (calls e)) P c → c .coded ≡ receivedPair (o .superframes) heard e P
+  -- "The three wrong bits are a limit on the words of the pairs that it took."
+  pub limit : (e : Side) → Limit (o .sent e) (lineBit (heard .frames) e) (length (accepted Receivings (calls e)))

@@ -1,0 +1,18 @@
+-- The statement of demand 3, top down: Demand3 (the claims), Outward and Inward (what goes out and what comes in), Line (the bit that
+-- the cells of a line give). The rest are laws.
+pub mod Sides
+pub mod Line
+pub mod Outward
+pub mod Inward
+pub mod Demand3
+pub mod LineLaws
+pub mod OutwardLaws
+pub mod InwardLaws
+pub mod Theorem
+pub mod CallLists
+pub mod CallListLaws
+pub mod Witnesses
+pub mod WrongLaws
+pub mod Witness
+pub mod BenchValues
+pub mod BenchLaws

@@ -1,0 +1,30 @@
+-- The received bit. 01, "Rows and pairs": "The received bit is the one that the cells off the line give there, by the definitions of
+-- framing, cells and interleaving read backwards." It is a formula over the cells and not what our calls give back.
+-- Assumes nothing.
+use mathlib.Core.List.{List, []}
+use Prim.Native.Nat.{ℕ, _+_, _*_, _/_, _%_}
+use lib.ListN.{getD}
+use Rattle.ofec.specs.Rows.{RowBits}
+use Rattle.interleaver.specs.Interleaving.{pairsBit, outputOf}
+use Rattle.symbols.specs.Cells.{symbol}
+use Rattle.framing.specs.Frames.{subFrameOf, cellOf}
+use Rattle.line.specs.Sides.{Side, encoder}
+
+-- "A buffer takes 21 pairs" of each encoder: row R is in buffer R div 42, and there row R mod 42. Its bit (C, r, c) is this output bit.
+unfoldable pub outputBit : Side → ℕ → ℕ → ℕ → ℕ → ℕ
+outputBit e R C r c = outputOf (encoder e) (pairsBit (R % 42) C r c)
+
+-- "A byte's bits .. are one symbol", and a cell: output bit n is in cell n div 8 of its buffer. "eight buffers" fill a super-frame, so
+-- that is this payload cell of super-frame R div 42 div 8.
+unfoldable pub payloadCellOf : Side → ℕ → ℕ → ℕ → ℕ → ℕ
+payloadCellOf e R C r c = R / 42 % 8 * 21504 + outputBit e R C r c / 8
+
+-- Byte h (X or Y) of payload cell x of super-frame q, on a line that is the list of its sub-frames, 48 a super-frame.
+unfoldable pub lineByte : List (List ℕ) → ℕ → ℕ → ℕ → ℕ
+lineByte frames q x h = getD (getD frames (48 * q + subFrameOf x) []) (cellOf x * 2 + h) 0
+
+-- The bit of (R, C, r, c) of an encoder that a line of frames gives.
+unfoldable pub lineBit : List (List ℕ) → Side → RowBits
+lineBit frames e R C r c =
+    getD (symbol (lineByte frames (R / 42 / 8) (payloadCellOf e R C r c) 0) (lineByte frames (R / 42 / 8) (payloadCellOf e R C r c) 1))
+    (outputBit e R C r c % 8) 0

@@ -1,0 +1,203 @@
+-- What goes out: every call is accepted, and the frames hold every sent bit in its place.
+-- Assumes nothing.
+use mathlib.Core.Path.{_≡_, refl, sym, ap, ap₂, _∙_}
+use mathlib.Core.Bool.{false}
+use mathlib.Core.List.{List, []}
+use Prim.Native.Nat.{ℕ, _+_, _-_, _*_, _/_, _%_, _<_, _≤_}
+use native.Mathlib.Omega.{arith}
+use borrow.Author.Tests.{lt-leb}
+use lib.ListN.{length, getD}
+use Rattle.bits.specs.Lists.{tabulate}
+use Rattle.bits.specs.ListLaws.{length-tabulate, getD-tabulate, tabulate-below}
+use Rattle.bits.specs.Bits.{bit}
+use Rattle.calls.specs.declared.Answer.the-variants.{Done}
+use Rattle.calls.specs.Answers.{refusalOf, valueOr, TurnedBack}
+use Rattle.calls.specs.Sequences.{At, accepted}
+use Rattle.calls.specs.SequenceLaws.{At-find, At-map}
+use Rattle.ofec.specs.Pairs.{pairBit}
+use Rattle.ofec.specs.Calls.{State, Encoding, encode, Encodings}
+use Rattle.ofec.specs.CallLaws.{encode-refused, encode-keeps}
+use Rattle.ofec.specs.PromiseLaws.{coded-sent}
+use Rattle.interleaver.specs.Interleaving.{pairsBit, pairsOf, interleaved}
+use Rattle.interleaver.specs.InterleavingLaws.{length-interleaved, interleaved-below, bit-interleaved-for}
+use Rattle.interleaver.specs.Calls.{Interleaved, joined}
+use Rattle.interleaver.specs.CallLaws.{join-done}
+use Rattle.symbols.specs.Cells.{Legal, toCells, toBits}
+use Rattle.symbols.specs.CellLaws.{toCells-length, toCells-below, bits-back}
+use Rattle.symbols.specs.Calls.{After, after, bitsToCells}
+use Rattle.symbols.specs.CallLaws.{map-accepts}
+use Rattle.framing.specs.Frames.{isOverhead, payloadBefore, payloadCells, payloadStart, ownOverhead, framed, subFrameOf, cellOf}
+use Rattle.framing.specs.FrameLaws.{own-length, own-legal, framed-length, framed-payload, framed-legal}
+use Rattle.framing.specs.PlaceLaws.{payload-index-lt, Located, located}
+use Rattle.framing.specs.CallLaws.{frame-accepts}
+use Rattle.line.specs.Sides.{Side, side0, side1, encoder, buffers}
+use Rattle.line.specs.Line.{outputBit, lineByte, lineBit}
+use Rattle.line.specs.Outward.{Outward, codedPairs, pairsOfBuffer, interleaving, mapping, payloadByte, framePayload, framing, frames}
+use Rattle.line.specs.Demand3.{Goes}
+use Rattle.line.specs.LineLaws.{length-buffers, getD-buffers, encoder-lt, pairsOf-side, outputBit-for, pairs-bit, OnLine, byte-lt, byte-cell, byte-half, byte-buffer, byte-place, cell-lt, line-bit}
+
+-- The coded pair of an accepted call stands at its number.
+coded-at : (cs : List Encoding) {P : ℕ} {c : Encoding} → At (accepted Encodings cs) P c → getD (codedPairs cs) P [] ≡ encode c .coded
+unfolding codedPairs
+coded-at cs a = At-map (λ (c : Encoding). encode c .coded) [] a
+
+length-pairs : (pairs : List (List ℕ)) (b : ℕ) → length (pairsOfBuffer pairs b) ≡ 10752
+unfolding pairsOfBuffer
+length-pairs pairs b = length-tabulate 10752 (λ i. getD (getD pairs (21 * b + i / 512) []) (i % 512) 0)
+
+module _ (o : Outward) where
+  -- ---- the calls
+
+  -- The pairs of buffer b, of either encoder, and the bits that they give.
+  pairs : ℕ → Side → List ℕ
+  pairs b e = pairsOfBuffer (codedPairs (o .calls e)) b
+
+  bits : ℕ → List ℕ
+  bits b = interleaved (pairs b side0) (pairs b side1)
+
+  interleaving-is : (b : ℕ) → interleaving o b ≡ joined (Done 0) (bits b)
+  unfolding interleaving pairs bits
+  interleaving-is b =
+      sym
+      (join-done (pairs b side0) (pairs b side1) (o .lent .bits b) (bits b)
+      (length-pairs (codedPairs (o .calls side0)) b) (length-pairs (codedPairs (o .calls side1)) b) (o .lent .bits-long b) refl)
+
+  length-bits : (b : ℕ) → length (bits b) ≡ 21504
+  unfolding bits
+  length-bits b = length-interleaved (pairs b side0) (pairs b side1)
+
+  mapping-is : (b : ℕ) → mapping o b ≡ after (Done 0) (toCells (bits b))
+  unfolding mapping
+  mapping-is b =
+      ap (λ (a : Interleaved). mapped (a .bits)) (interleaving-is b)
+      ∙ map-accepts (bits b) (o .lent .cells b) (length-bits b) (o .lent .cells-long b)
+    where
+      mapped : List ℕ → After
+      mapped s = bitsToCells s (o .lent .cells b)
+
+  cells-is : (b : ℕ) → mapping o b .written ≡ toCells (bits b)
+  cells-is b = ap (λ (a : After). a .written) (mapping-is b)
+
+  -- Every payload byte is legal.
+  payload-lt : (q y : ℕ) → payloadByte o q y < 16
+  unfolding payloadByte
+  payload-lt q y =
+      rw (cells-is (8 * q + y / 43008)) (toCells-below (bits (8 * q + y / 43008)) (y % 43008))
+
+  payload-length : (f : ℕ) → length (framePayload o f) ≡ payloadCells (f % 48) * 2
+  unfolding framePayload
+  payload-length f = length-tabulate (payloadCells (f % 48) * 2) (λ i. payloadByte o (f / 48) (payloadStart (f % 48) * 2 + i))
+
+  payload-legal : (f : ℕ) → Legal (framePayload o f)
+  unfolding framePayload
+  payload-legal f =
+      record {
+        legal = λ k l. lt-leb 16 (getD (framePayload o f) k 0)
+            (tabulate-below (payloadCells (f % 48) * 2) (λ i. payloadByte o (f / 48) (payloadStart (f % 48) * 2 + i)) 16
+            (λ i. payload-lt (f / 48) (payloadStart (f % 48) * 2 + i)) (omega arith) k);
+      }
+
+  framing-is : (f : ℕ) → framing o f ≡ after (Done 0) (framed (f % 48) (framePayload o f) (ownOverhead (f % 48) (o .overhead)))
+  unfolding framing
+  framing-is f =
+      let l : f % 48 ≤ 47 = omega arith in
+      frame-accepts (f % 48) (o .overhead) (o .lent .frame f) (framePayload o f) l (o .overhead-long) (o .lent .frame-long f) (payload-length f)
+      (own-legal (f % 48) (o .overhead) l (o .overhead-long) (o .overhead-legal)) (payload-legal f)
+
+  -- ---- the cells of a buffer lie on the line
+
+  frame-byte : (f m h : ℕ) → m < 3712 → h < 2 → isOverhead (f % 48) m ≡ false
+      → getD (framing o f .written) (m * 2 + h) 0 ≡ payloadByte o (f / 48) ((payloadStart (f % 48) + payloadBefore (f % 48) m) * 2 + h)
+  unfolding framePayload
+  frame-byte f m h lm lh e =
+      ap (λ (a : After). getD (a .written) (m * 2 + h) 0) (framing-is f)
+      ∙ framed-payload (f % 48) (framePayload o f) (ownOverhead (f % 48) (o .overhead)) m h lm lh e
+      ∙ getD-tabulate (payloadCells (f % 48) * 2) (λ i. payloadByte o (f / 48) (payloadStart (f % 48) * 2 + i)) (payloadBefore (f % 48) m * 2 + h)
+      (omega (arith, payload-index-lt (f % 48) m lm e))
+      ∙ ap (payloadByte o (f / 48)) (omega arith)
+
+  line-byte : (q x h : ℕ) → q < o .superframes → x < 172032 → h < 2 → lineByte (frames o) q x h ≡ payloadByte o q (x * 2 + h)
+  unfolding lineByte frames
+  line-byte q x h lq lx lh =
+      ap (λ (l : List ℕ). getD l (cellOf x * 2 + h) 0) (getD-buffers (48 * o .superframes) (λ f. framing o f .written) (48 * q + subFrameOf x) (omega (arith, at .sub-frame)))
+      ∙ frame-byte (48 * q + subFrameOf x) (cellOf x) h (at .inside) lh (rw sub (at .payload))
+      ∙ ap₂ (λ p s. payloadByte o p ((payloadStart s + payloadBefore s (cellOf x)) * 2 + h)) super sub
+      ∙ ap (λ y. payloadByte o q (y * 2 + h)) (at .index)
+    where
+      at : Located x (subFrameOf x) (cellOf x)
+      at = located x lx
+
+      sub : (48 * q + subFrameOf x) % 48 ≡ subFrameOf x
+      sub = omega (arith, at .sub-frame)
+
+      super : (48 * q + subFrameOf x) / 48 ≡ q
+      super = omega (arith, at .sub-frame)
+
+  on-line : (b : ℕ) → b < 8 * o .superframes → OnLine (frames o) b (mapping o b .written)
+  unfolding payloadByte
+  on-line b lb =
+      record {
+        size = ap length (cells-is b) ∙ toCells-length (bits b) ∙ omega (arith, length-bits b);
+        bytes = λ i li. sym
+            (line-byte (b / 8) (b % 8 * 21504 + i / 2) (i % 2) (omega arith) (cell-lt b i li) (omega arith)
+            ∙ ap (payloadByte o (b / 8)) (whole (b % 8) i)
+            ∙ ap₂ (λ c k. getD (mapping o c .written) k 0) (byte-buffer b i li) (byte-place b i li));
+      }
+    where
+      whole : (k i : ℕ) → (k * 21504 + i / 2) * 2 + i % 2 ≡ k * 43008 + i
+      whole k i = omega arith
+
+  -- ---- what the frames hold
+
+  -- The line's bit is the coded pair's.
+  line-coded : (e : Side) (R C r c : ℕ) → R < 336 * o .superframes → C < 8 → r < 16 → c < 16
+      → lineBit (frames o) e R C r c ≡ pairBit (getD (codedPairs (o .calls e)) (R / 2) []) (R % 2) C r c
+  unfolding bits pairs
+  line-coded e R C r c lR lC lr lc =
+      line-bit (frames o) e R C r c lC lr lc (mapping o (R / 42) .written) (on-line (R / 42) (omega arith))
+      ∙ ap (λ (s : List ℕ). bit (toBits s) (outputBit e R C r c)) (cells-is (R / 42))
+      ∙ ap (λ (s : List ℕ). bit s (outputBit e R C r c)) (bits-back (bits (R / 42)) (interleaved-below (pairs (R / 42) side0) (pairs (R / 42) side1)))
+      ∙ ap (bit (bits (R / 42))) (outputBit-for e R C r c lC lr lc)
+      ∙ bit-interleaved-for (encoder e) (R % 42) C r c (encoder-lt e) (omega arith) lC lr lc (pairs (R / 42) side0) (pairs (R / 42) side1)
+      ∙ ap (λ (s : List ℕ). bit s (pairsBit (R % 42) C r c)) (pairsOf-side (pairs (R / 42)) e)
+      ∙ pairs-bit R C r c lC lr lc (codedPairs (o .calls e))
+
+  -- So it is the sent one.
+  line-sent : (e : Side) (R C r c : ℕ) → R < 336 * o .superframes → C < 8 → r < 16 → c < 16 → lineBit (frames o) e R C r c ≡ o .sent e R C r c
+  line-sent e R C r c lR lC lr lc =
+      let f = At-find (accepted Encodings (o .calls e)) (R / 2) (omega (arith, o .filled e)) in
+      line-coded e R C r c lR lC lr lc
+      ∙ ap (λ (p : List ℕ). pairBit p (R % 2) C r c) (coded-at (o .calls e) (f .1))
+      ∙ coded-sent (o .calls e) (o .runs e) (o .sent e) (o .formulas e) (R / 2) (f .0) (f .1) .holds R C r c refl lC lr lc
+
+  -- ---- the frames are a line
+
+  pub frames-many : length (frames o) ≡ 48 * o .superframes
+  unfolding frames
+  frames-many = length-buffers (48 * o .superframes) (λ f. framing o f .written)
+
+  frame-is : (f : ℕ) → f < 48 * o .superframes → getD (frames o) f [] ≡ framed (f % 48) (framePayload o f) (ownOverhead (f % 48) (o .overhead))
+  unfolding frames
+  frame-is f l = getD-buffers (48 * o .superframes) (λ k. framing o k .written) f l ∙ ap (λ (a : After). a .written) (framing-is f)
+
+  pub frames-long : (f : ℕ) → f < 48 * o .superframes → length (getD (frames o) f []) ≡ 7424
+  frames-long f l = ap length (frame-is f l) ∙ framed-length (f % 48) (framePayload o f) (ownOverhead (f % 48) (o .overhead))
+
+  pub frames-legal : (f : ℕ) → f < 48 * o .superframes → Legal (getD (frames o) f [])
+  frames-legal f l =
+      let s : f % 48 ≤ 47 = omega arith in
+      rw (frame-is f l)
+      (framed-legal (f % 48) (framePayload o f) (ownOverhead (f % 48) (o .overhead)) (payload-length f) (own-length (f % 48) (o .overhead) s (o .overhead-long))
+      (payload-legal f) (own-legal (f % 48) (o .overhead) s (o .overhead-long) (o .overhead-legal)))
+
+  pub goes : Goes o
+  goes =
+      record {
+        interleaved = λ b l. ap (λ (a : Interleaved). refusalOf (a .answer)) (interleaving-is b);
+        mapped = λ b l. ap (λ (a : After). refusalOf (a .answer)) (mapping-is b);
+        framed = λ f l. ap (λ (a : After). refusalOf (a .answer)) (framing-is f);
+        holds = line-sent;
+        refused = λ e i c a bad.
+            let kept = encode-refused c bad in
+            (kept .1, kept .0, ap (λ (s : State). s .pair) (encode-keeps c bad));
+      }

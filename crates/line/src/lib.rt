@@ -1,0 +1,1 @@
+// Whole runs of the line: definitions and theorems alone, in specs/.
