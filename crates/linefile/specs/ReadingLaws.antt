@@ -101,13 +101,16 @@ module _ (file : List ℕ) (n o f q s : ℕ) where
     pub part-fits : (v : ℕ) → answer ≡ Done v → a ≡ startOf f q s → a + 7424 ≤ length file
     part-fits v e ea = rw ea (within (reads v (sym is ∙ e)))
 
-    pub part-read : (v : ℕ) → answer ≡ Done v → a ≡ startOf f q s → take (a + 7424 - a) (drop a file) ≡ readPart file n o f q s
+    pub part-read : (part : List ℕ) (v : ℕ) → part ≡ take 7424 (drop a file) → answer ≡ Done v → a ≡ startOf f q s → part ≡ readPart file n o f q s
     unfolding readPart
-    part-read v e ea = rw (ea, add-sub-cancel-left) (ap (λ (x : Answer). partWhen x (take 7424 (drop (startOf f q s) file))) (sym e ∙ is))
+    part-read part v ep e ea = ep ∙ rw ea (ap (λ (x : Answer). partWhen x (take 7424 (drop (startOf f q s) file))) (sym e ∙ is))
 
   pub part-none : (answer : Answer) (r : Refusal) → answer ≡ readAnswer file n o f q s → answer ≡ Refused r → [] ≡ readPart file n o f q s
   unfolding readPart
   part-none answer r is e = ap (λ (x : Answer). partWhen x (take 7424 (drop (startOf f q s) file))) (sym e ∙ is)
+
+pub from-there : (file : List ℕ) (a : ℕ) → take (a + 7424 - a) (drop a file) ≡ take 7424 (drop a file)
+from-there file a = rw add-sub-cancel-left
 
 pub ruleset part-cases = (part-fits, part-read, part-none)
 
