@@ -8,7 +8,7 @@ use Prim.Native.Nat.{ℕ, _+_, _-_, _<_, _≤_}
 use native.Mathlib.Nat.{add-sub-cancel-left, eq-zero-or-pos}
 use native.Mathlib.Omega.{arith}
 use borrow.Author.Tests.{lt-ltb, le-ltb, le-leb, lt-leb, eq-eqb, ne-eqb, ltb-true, leb-true, eqb-true}
-use lib.Dec.{leb, ltb}
+use lib.Dec.{leb, ltb, eqb}
 use lib.ListN.{length, getD, take, drop, length-drop}
 use lib.Seq.{length-take-le, getD-take, getD-drop}
 use Rattle.bits.specs.Tests.{both}
@@ -23,7 +23,7 @@ use Rattle.linefile.specs.Header.{number}
 use Rattle.linefile.specs.HeaderLaws.{Sound, both-true, judged-done}
 use Rattle.linefile.specs.Opening.{headerOf, openAnswer, partWhen, openFile, openCall}
 use Rattle.linefile.specs.OpeningLaws.{open-done, open-refused, open-misfit}
-use Rattle.linefile.specs.Reading.{sameNumbers, readAnswer, readAnswerIn, startOf, readPart}
+use Rattle.linefile.specs.Reading.{sameAnswer, frameAnswer, readAnswer, readAnswerIn, startOf, readPart}
 
 -- ---- the companion, case by case
 
@@ -34,28 +34,28 @@ module _ (file : List ℕ) (n o f q s : ℕ) where
 
   module _ (v : ℕ) (opens : openAnswer file ≡ Done v) where
     pub read-other-n : (n ≡ number file 0 → ⊥) → readAnswer file n o f q s ≡ Refused BadHeader
-    unfolding readAnswer sameNumbers
+    unfolding readAnswer sameAnswer frameAnswer
     read-other-n h = simp (opens, ne-eqb _ _ h)
 
     pub read-other-o : n ≡ number file 0 → (o ≡ number file 1 → ⊥) → readAnswer file n o f q s ≡ Refused BadHeader
-    unfolding readAnswer sameNumbers
+    unfolding readAnswer sameAnswer frameAnswer
     read-other-o en h = simp (opens, eq-eqb _ _ en, ne-eqb _ _ h)
 
     pub read-other-f : n ≡ number file 0 → o ≡ number file 1 → (f ≡ number file 2 → ⊥) → readAnswer file n o f q s ≡ Refused BadHeader
-    unfolding readAnswer sameNumbers
+    unfolding readAnswer sameAnswer frameAnswer
     read-other-f en eo h = simp (opens, eq-eqb _ _ en, eq-eqb _ _ eo, ne-eqb _ _ h)
 
     module _ (en : n ≡ number file 0) (eo : o ≡ number file 1) (ef : f ≡ number file 2) where
       pub read-no-subframe : 47 < s → readAnswer file n o f q s ≡ Refused NoSuchFrame
-      unfolding readAnswer sameNumbers
+      unfolding readAnswer sameAnswer frameAnswer
       read-no-subframe l = simp (opens, eq-eqb _ _ en, eq-eqb _ _ eo, eq-eqb _ _ ef, lt-leb _ _ l)
 
       pub read-no-superframe : s ≤ 47 → n ≤ q → readAnswer file n o f q s ≡ Refused NoSuchFrame
-      unfolding readAnswer sameNumbers
+      unfolding readAnswer sameAnswer frameAnswer
       read-no-superframe l h = simp (opens, eq-eqb _ _ en, eq-eqb _ _ eo, eq-eqb _ _ ef, le-leb _ _ l, le-ltb _ _ h)
 
       pub read-done : s ≤ 47 → q < n → readAnswer file n o f q s ≡ Done 0
-      unfolding readAnswer sameNumbers
+      unfolding readAnswer sameAnswer frameAnswer
       read-done l h = simp (opens, eq-eqb _ _ en, eq-eqb _ _ eo, eq-eqb _ _ ef, le-leb _ _ l, lt-ltb _ _ h)
 
 -- What holds where the reader is not refused.
@@ -69,13 +69,16 @@ pub record Reads (file : List ℕ) (n o f q s : ℕ) : Type 0 where
 
 module _ (file : List ℕ) (n o f q s : ℕ) where
   pub reads : (v : ℕ) → readAnswer file n o f q s ≡ Done v → Reads file n o f q s
-  unfolding readAnswer sameNumbers
-  reads v e = go (openAnswer file) refl (sameNumbers file n o f) refl (both (leb s 47) (ltb q n)) refl
+  unfolding readAnswer sameAnswer frameAnswer
+  reads v e = go (openAnswer file) refl (same n o f) refl (both (leb s 47) (ltb q n)) refl
     where
+      same : ℕ → ℕ → ℕ → Bool
+      same a b c = both (eqb a (number file 0)) (both (eqb b (number file 1)) (eqb c (number file 2)))
+
       never : (r : Refusal) → readAnswer file n o f q s ≡ Refused r → ⊥
       never r p = let z : _≡_ {A = ℕ} 0 1 = cc in omega arith
 
-      go : (a : Answer) → openAnswer file ≡ a → (b : Bool) → sameNumbers file n o f ≡ b → (c : Bool) → both (leb s 47) (ltb q n) ≡ c → Reads file n o f q s
+      go : (a : Answer) → openAnswer file ≡ a → (b : Bool) → same n o f ≡ b → (c : Bool) → both (leb s 47) (ltb q n) ≡ c → Reads file n o f q s
       go (Refused r) p b pb c pc = absurd (never r (read-closed file n o f q s r p))
       go (Done w) p false pb c pc = absurd (never BadHeader (simp (p, pb)))
       go (Done w) p true pb false pc = absurd (never NoSuchFrame (simp (p, pb, pc)))
