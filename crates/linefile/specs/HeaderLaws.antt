@@ -25,10 +25,8 @@ unfolding number
 number-below bytes k small = omega (arith, small (4 * k), small (4 * k + 1), small (4 * k + 2), small (4 * k + 3))
 
 -- A number by halves, as a worker gathers it.
-abbrev pub twoBytes : List ℕ → ℕ → ℕ
-twoBytes bytes i = getD bytes i 0 * 256 + getD bytes (i + 1) 0
-
-pub by-halves : (bytes : List ℕ) (k a b : ℕ) → a ≡ twoBytes bytes (4 * k) → b ≡ twoBytes bytes (4 * k + 2) → a * 65536 + b ≡ number bytes k
+pub by-halves : (bytes : List ℕ) (k a b : ℕ) → a ≡ getD bytes (4 * k) 0 * 256 + getD bytes (4 * k + 1) 0
+    → b ≡ getD bytes (4 * k + 2) 0 * 256 + getD bytes (4 * k + 2 + 1) 0 → a * 65536 + b ≡ number bytes k
 unfolding number
 by-halves bytes k a b ea eb = let e : 4 * k + 2 + 1 ≡ 4 * k + 3 = omega arith in omega (arith, ea, eb, ap (λ (i : ℕ). getD bytes i 0) e)
 

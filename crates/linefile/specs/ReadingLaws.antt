@@ -4,7 +4,7 @@ use mathlib.Core.Path.{_≡_, refl, sym, ap, _∙_}
 use mathlib.Core.List.{List, []}
 use mathlib.Core.Bool.{Bool, true, false}
 use mathlib.Core.Logic.{_⊎_, inl, inr, ⊎-elim}
-use Prim.Native.Nat.{ℕ, _+_, _-_, _<_, _≤_}
+use Prim.Native.Nat.{ℕ, _+_, _-_, _*_, _/_, _%_, _<_, _≤_}
 use native.Mathlib.Nat.{add-sub-cancel-left, eq-zero-or-pos}
 use native.Mathlib.Omega.{arith}
 use borrow.Author.Tests.{lt-ltb, le-ltb, le-leb, lt-leb, eq-eqb, ne-eqb, ltb-true, leb-true, eqb-true}
@@ -189,6 +189,11 @@ module _ (file : List ℕ) (n o f q s : ℕ) where
 -- No byte of the file is in the stretches of two different sub-frames.
 pub apart : (f q s q′ s′ x : ℕ) → s ≤ 47 → s′ ≤ 47 → startOf f q s ≤ x → x < startOf f q s + 7424 → startOf f q′ s′ ≤ x → x < startOf f q′ s′ + 7424 → (q ≡ q′) × (s ≡ s′)
 apart f q s q′ s′ x hs hs′ a b a′ b′ = (omega arith, omega arith)
+
+-- Byte x of the frames is in the stretch of this sub-frame.
+pub covers : (f n x : ℕ) → x < 356352 * n
+    → (x / 356352 < n) × (x % 356352 / 7424 ≤ 47) × (startOf f (x / 356352) (x % 356352 / 7424) ≤ f + x) × (f + x < startOf f (x / 356352) (x % 356352 / 7424) + 7424)
+covers f n x l = (omega arith, omega arith, omega arith, omega arith)
 
 -- Reading an opened file: no refusal but No. 4.
 module _ (file : List ℕ) (opens : Accepted (openAnswer file)) (q s : ℕ) where

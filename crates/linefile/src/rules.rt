@@ -2,10 +2,9 @@
 use calls::Answer;
 use calls::Refusal;
 ghost use mathlib.Core.Path.{_≡_};
-ghost use Prim.Native.Nat.{_+_, _^_, _<_, _≤_};
-ghost use lib.ListN.{length};
+ghost use Prim.Native.Nat.{_+_, _*_, _^_, _<_, _≤_};
+ghost use lib.ListN.{length, getD};
 ghost use Rattle.linefile.specs.Header.{number as header·number, rulesHold, refused as header·refused, judged};
-ghost use Rattle.linefile.specs.HeaderLaws.{twoBytes};
 
 // What a header says of its file: done with its numbers, or refused with zeros.
 pub struct Header {
@@ -19,7 +18,7 @@ pub struct Header {
 // The two bytes from i on as a number.
 fn two_bytes(first: &[u8], i: usize) -> usize
     requires { ⌜ i + 1 < length (now first) ⌝ }
-    ensures { λ r. ⌜ (r ≡ twoBytes (now (first .entry)) i) × (r < 65536) ⌝ }
+    ensures { λ r. ⌜ (r ≡ getD (now (first .entry)) i 0 * 256 + getD (now (first .entry)) (i + 1) 0) × (r < 65536) ⌝ }
 {
     bits::widen(first[i]) * 256 + bits::widen(first[i + 1])
 }
