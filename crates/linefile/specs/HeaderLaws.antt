@@ -24,6 +24,12 @@ pub number-below : (bytes : List ℕ) (k : ℕ) → ((i : ℕ) → getD bytes i 
 unfolding number
 number-below bytes k small = omega (arith, small (4 * k), small (4 * k + 1), small (4 * k + 2), small (4 * k + 3))
 
+-- A number by halves, as a worker gathers it.
+pub by-halves : (bytes : List ℕ) (k a b : ℕ) → a ≡ getD bytes (4 * k) 0 * 256 + getD bytes (4 * k + 1) 0
+    → b ≡ getD bytes (4 * k + 2) 0 * 256 + getD bytes (4 * k + 2 + 1) 0 → a * 65536 + b ≡ number bytes k
+unfolding number
+by-halves bytes k a b ea eb = let e : 4 * k + 2 + 1 ≡ 4 * k + 3 = omega arith in omega (arith, ea, eb, ap (λ (i : ℕ). getD bytes i 0) e)
+
 -- A header's numbers lie in its first sixteen bytes.
 pub number-first : (bytes more : List ℕ) (k : ℕ) → k < 4 → take 16 bytes ≡ take 16 more → number bytes k ≡ number more k
 unfolding number

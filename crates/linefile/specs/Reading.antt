@@ -1,7 +1,7 @@
 -- Reading a sub-frame of a line file.
 -- Assumes nothing.
 use mathlib.Core.List.{List}
-use mathlib.Core.Bool.{Bool, cond}
+use mathlib.Core.Bool.{cond}
 use Prim.Native.Nat.{ℕ, _+_, _*_}
 use lib.Dec.{ltb, leb, eqb}
 use lib.ListN.{take, drop}
@@ -12,26 +12,24 @@ use Rattle.calls.specs.declared.Refusal.the-variants.{BadHeader, NoSuchFrame}
 use Rattle.linefile.specs.Header.{number}
 use Rattle.linefile.specs.Opening.{openAnswer, partWhen, OpenFile}
 
--- The numbers n, o, f are those in the file's bytes.
-unfoldable pub sameNumbers : List ℕ → ℕ → ℕ → ℕ → Bool
-sameNumbers file n o f = both (eqb n (number file 0)) (both (eqb o (number file 1)) (eqb f (number file 2)))
+-- No. 2: "An open file whose numbers differ from those in its bytes".
+unfoldable pub sameAnswer : List ℕ → ℕ → ℕ → ℕ → Answer
+sameAnswer file n o f =
+    cond (both (eqb n (number file 0)) (both (eqb o (number file 1)) (eqb f (number file 2)))) (Done 0) (Refused BadHeader)
+
+-- No. 4: "sub-frame above 47, or super-frame not below n".
+unfoldable pub frameAnswer : ℕ → ℕ → ℕ → Answer
+frameAnswer n q s = cond (both (leb s 47) (ltb q n)) (Done 0) (Refused NoSuchFrame)
 
 -- A refusal stands; where there is none, what follows decides.
 abbrev pub andThen : Answer → Answer → Answer
 andThen (Done v) next = next
 andThen (Refused r) next = Refused r
 
--- What the reader's companion answers, the refusals in the order of 01's table: No. 1 or 2, as the opening of these bytes
--- would be; No. 2, "An open file whose numbers differ from those in its bytes"; No. 4, "sub-frame above 47, or super-frame
--- not below n".
+-- What the reader's companion answers, in the order of 01's table: the bytes are refused as the opening of them would be, then
+-- the numbers, then the frame.
 unfoldable pub readAnswer : List ℕ → ℕ → ℕ → ℕ → ℕ → ℕ → Answer
-readAnswer file n o f q s =
-    andThen (openAnswer file)
-    (cond (sameNumbers file n o f)
-    (cond (both (leb s 47) (ltb q n))
-    (Done 0)
-    (Refused NoSuchFrame))
-    (Refused BadHeader))
+readAnswer file n o f q s = andThen (openAnswer file) (andThen (sameAnswer file n o f) (frameAnswer n q s))
 
 -- "7,424 bytes from f + 356,352×q + 7,424×s".
 abbrev pub startOf : ℕ → ℕ → ℕ → ℕ

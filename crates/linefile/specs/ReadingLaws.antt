@@ -4,11 +4,11 @@ use mathlib.Core.Path.{_≡_, refl, sym, ap, _∙_}
 use mathlib.Core.List.{List, []}
 use mathlib.Core.Bool.{Bool, true, false}
 use mathlib.Core.Logic.{_⊎_, inl, inr, ⊎-elim}
-use Prim.Native.Nat.{ℕ, _+_, _-_, _<_, _≤_}
+use Prim.Native.Nat.{ℕ, _+_, _-_, _*_, _/_, _%_, _<_, _≤_}
 use native.Mathlib.Nat.{add-sub-cancel-left, eq-zero-or-pos}
 use native.Mathlib.Omega.{arith}
 use borrow.Author.Tests.{lt-ltb, le-ltb, le-leb, lt-leb, eq-eqb, ne-eqb, ltb-true, leb-true, eqb-true}
-use lib.Dec.{leb, ltb}
+use lib.Dec.{leb, ltb, eqb}
 use lib.ListN.{length, getD, take, drop, length-drop}
 use lib.Seq.{length-take-le, getD-take, getD-drop}
 use Rattle.bits.specs.Tests.{both}
@@ -23,7 +23,7 @@ use Rattle.linefile.specs.Header.{number}
 use Rattle.linefile.specs.HeaderLaws.{Sound, both-true, judged-done}
 use Rattle.linefile.specs.Opening.{headerOf, openAnswer, partWhen, openFile, openCall}
 use Rattle.linefile.specs.OpeningLaws.{open-done, open-refused, open-misfit}
-use Rattle.linefile.specs.Reading.{sameNumbers, readAnswer, readAnswerIn, startOf, readPart}
+use Rattle.linefile.specs.Reading.{sameAnswer, frameAnswer, readAnswer, readAnswerIn, startOf, readPart}
 
 -- ---- the companion, case by case
 
@@ -34,28 +34,28 @@ module _ (file : List ℕ) (n o f q s : ℕ) where
 
   module _ (v : ℕ) (opens : openAnswer file ≡ Done v) where
     pub read-other-n : (n ≡ number file 0 → ⊥) → readAnswer file n o f q s ≡ Refused BadHeader
-    unfolding readAnswer sameNumbers
+    unfolding readAnswer sameAnswer frameAnswer
     read-other-n h = simp (opens, ne-eqb _ _ h)
 
     pub read-other-o : n ≡ number file 0 → (o ≡ number file 1 → ⊥) → readAnswer file n o f q s ≡ Refused BadHeader
-    unfolding readAnswer sameNumbers
+    unfolding readAnswer sameAnswer frameAnswer
     read-other-o en h = simp (opens, eq-eqb _ _ en, ne-eqb _ _ h)
 
     pub read-other-f : n ≡ number file 0 → o ≡ number file 1 → (f ≡ number file 2 → ⊥) → readAnswer file n o f q s ≡ Refused BadHeader
-    unfolding readAnswer sameNumbers
+    unfolding readAnswer sameAnswer frameAnswer
     read-other-f en eo h = simp (opens, eq-eqb _ _ en, eq-eqb _ _ eo, ne-eqb _ _ h)
 
     module _ (en : n ≡ number file 0) (eo : o ≡ number file 1) (ef : f ≡ number file 2) where
       pub read-no-subframe : 47 < s → readAnswer file n o f q s ≡ Refused NoSuchFrame
-      unfolding readAnswer sameNumbers
+      unfolding readAnswer sameAnswer frameAnswer
       read-no-subframe l = simp (opens, eq-eqb _ _ en, eq-eqb _ _ eo, eq-eqb _ _ ef, lt-leb _ _ l)
 
       pub read-no-superframe : s ≤ 47 → n ≤ q → readAnswer file n o f q s ≡ Refused NoSuchFrame
-      unfolding readAnswer sameNumbers
+      unfolding readAnswer sameAnswer frameAnswer
       read-no-superframe l h = simp (opens, eq-eqb _ _ en, eq-eqb _ _ eo, eq-eqb _ _ ef, le-leb _ _ l, le-ltb _ _ h)
 
       pub read-done : s ≤ 47 → q < n → readAnswer file n o f q s ≡ Done 0
-      unfolding readAnswer sameNumbers
+      unfolding readAnswer sameAnswer frameAnswer
       read-done l h = simp (opens, eq-eqb _ _ en, eq-eqb _ _ eo, eq-eqb _ _ ef, le-leb _ _ l, lt-ltb _ _ h)
 
 -- What holds where the reader is not refused.
@@ -69,13 +69,16 @@ pub record Reads (file : List ℕ) (n o f q s : ℕ) : Type 0 where
 
 module _ (file : List ℕ) (n o f q s : ℕ) where
   pub reads : (v : ℕ) → readAnswer file n o f q s ≡ Done v → Reads file n o f q s
-  unfolding readAnswer sameNumbers
-  reads v e = go (openAnswer file) refl (sameNumbers file n o f) refl (both (leb s 47) (ltb q n)) refl
+  unfolding readAnswer sameAnswer frameAnswer
+  reads v e = go (openAnswer file) refl (same n o f) refl (both (leb s 47) (ltb q n)) refl
     where
+      same : ℕ → ℕ → ℕ → Bool
+      same a b c = both (eqb a (number file 0)) (both (eqb b (number file 1)) (eqb c (number file 2)))
+
       never : (r : Refusal) → readAnswer file n o f q s ≡ Refused r → ⊥
       never r p = let z : _≡_ {A = ℕ} 0 1 = cc in omega arith
 
-      go : (a : Answer) → openAnswer file ≡ a → (b : Bool) → sameNumbers file n o f ≡ b → (c : Bool) → both (leb s 47) (ltb q n) ≡ c → Reads file n o f q s
+      go : (a : Answer) → openAnswer file ≡ a → (b : Bool) → same n o f ≡ b → (c : Bool) → both (leb s 47) (ltb q n) ≡ c → Reads file n o f q s
       go (Refused r) p b pb c pc = absurd (never r (read-closed file n o f q s r p))
       go (Done w) p false pb c pc = absurd (never BadHeader (simp (p, pb)))
       go (Done w) p true pb false pc = absurd (never NoSuchFrame (simp (p, pb, pc)))
@@ -101,13 +104,16 @@ module _ (file : List ℕ) (n o f q s : ℕ) where
     pub part-fits : (v : ℕ) → answer ≡ Done v → a ≡ startOf f q s → a + 7424 ≤ length file
     part-fits v e ea = rw ea (within (reads v (sym is ∙ e)))
 
-    pub part-read : (v : ℕ) → answer ≡ Done v → a ≡ startOf f q s → take (a + 7424 - a) (drop a file) ≡ readPart file n o f q s
+    pub part-read : (part : List ℕ) (v : ℕ) → part ≡ take 7424 (drop a file) → answer ≡ Done v → a ≡ startOf f q s → part ≡ readPart file n o f q s
     unfolding readPart
-    part-read v e ea = rw (ea, add-sub-cancel-left) (ap (λ (x : Answer). partWhen x (take 7424 (drop (startOf f q s) file))) (sym e ∙ is))
+    part-read part v ep e ea = ep ∙ rw ea (ap (λ (x : Answer). partWhen x (take 7424 (drop (startOf f q s) file))) (sym e ∙ is))
 
   pub part-none : (answer : Answer) (r : Refusal) → answer ≡ readAnswer file n o f q s → answer ≡ Refused r → [] ≡ readPart file n o f q s
   unfolding readPart
   part-none answer r is e = ap (λ (x : Answer). partWhen x (take 7424 (drop (startOf f q s) file))) (sym e ∙ is)
+
+pub from-there : (file : List ℕ) (a : ℕ) → take (a + 7424 - a) (drop a file) ≡ take 7424 (drop a file)
+from-there file a = rw add-sub-cancel-left
 
 pub ruleset part-cases = (part-fits, part-read, part-none)
 
@@ -183,6 +189,11 @@ module _ (file : List ℕ) (n o f q s : ℕ) where
 -- No byte of the file is in the stretches of two different sub-frames.
 pub apart : (f q s q′ s′ x : ℕ) → s ≤ 47 → s′ ≤ 47 → startOf f q s ≤ x → x < startOf f q s + 7424 → startOf f q′ s′ ≤ x → x < startOf f q′ s′ + 7424 → (q ≡ q′) × (s ≡ s′)
 apart f q s q′ s′ x hs hs′ a b a′ b′ = (omega arith, omega arith)
+
+-- Byte x of the frames is in the stretch of this sub-frame.
+pub covers : (f n x : ℕ) → x < 356352 * n
+    → (x / 356352 < n) × (x % 356352 / 7424 ≤ 47) × (startOf f (x / 356352) (x % 356352 / 7424) ≤ f + x) × (f + x < startOf f (x / 356352) (x % 356352 / 7424) + 7424)
+covers f n x l = (omega arith, omega arith, omega arith, omega arith)
 
 -- Reading an opened file: no refusal but No. 4.
 module _ (file : List ℕ) (opens : Accepted (openAnswer file)) (q s : ℕ) where

@@ -3,6 +3,8 @@ use crate::opening::open_header;
 use calls::Answer;
 use calls::Refusal;
 ghost use mathlib.Core.Path.{_≡_};
+ghost use Prim.Native.Nat.{_+_, _≤_};
+ghost use lib.ListN.{length, take, drop};
 ghost use Rattle.linefile.specs.Reading.{startOf, readAnswer, readPart};
 
 // Where a sub-frame's stretch of the file starts.
@@ -46,6 +48,14 @@ pub fn read_answer_at(
     Answer::Done(0)
 }
 
+// A sub-frame's bytes from there on.
+fn stretch(file: &[u8], at: usize) -> &[u8]
+    requires { ⌜ at + 7424 ≤ length (now file) ⌝ }
+    ensures { λ r. ⌜ now r ≡ take 7424 (drop at (now (file .entry))) ⌝ }
+{
+    &file[at..at + 7424]
+}
+
 // The reader: the sub-frame's own stretch of the lent file, or the empty part where it is refused.
 pub fn read_at(
     file: &[u8],
@@ -58,10 +68,7 @@ pub fn read_at(
     ensures { λ r. ⌜ now r ≡ readPart (now (file .entry)) superframes overhead frames superframe subframe ⌝ }
 {
     match read_answer_at(file, superframes, overhead, frames, superframe, subframe) {
-        Answer::Done(_) => {
-            let a = start(frames, superframe, subframe);
-            &file[a..a + 7424]
-        }
+        Answer::Done(_) => stretch(file, start(frames, superframe, subframe)),
         Answer::Refused(_) => &file[..0],
     }
 }

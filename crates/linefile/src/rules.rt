@@ -2,8 +2,8 @@
 use calls::Answer;
 use calls::Refusal;
 ghost use mathlib.Core.Path.{_≡_};
-ghost use Prim.Native.Nat.{_+_, _^_, _<_, _≤_};
-ghost use lib.ListN.{length};
+ghost use Prim.Native.Nat.{_+_, _*_, _^_, _<_, _≤_};
+ghost use lib.ListN.{length, getD};
 ghost use Rattle.linefile.specs.Header.{number as header·number, rulesHold, refused as header·refused, judged};
 
 // What a header says of its file: done with its numbers, or refused with zeros.
@@ -15,15 +15,20 @@ pub struct Header {
     pub total: u32,
 }
 
+// The two bytes from i on as a number.
+fn two_bytes(first: &[u8], i: usize) -> usize
+    requires { ⌜ i + 1 < length (now first) ⌝ }
+    ensures { λ r. ⌜ (r ≡ getD (now (first .entry)) i 0 * 256 + getD (now (first .entry)) (i + 1) 0) × (r < 65536) ⌝ }
+{
+    bits::widen(first[i]) * 256 + bits::widen(first[i + 1])
+}
+
 // Number k of a header, 0 to 3.
 fn number(first: &[u8], k: usize) -> usize
     requires { ⌜ (k < 4) × (16 ≤ length (now first)) ⌝ }
     ensures { λ r. ⌜ (r ≡ header·number (now (first .entry)) k) × (r < 2 ^ 32) ⌝ }
 {
-    let i = 4 * k;
-    let high = bits::widen(first[i]) * 256 + bits::widen(first[i + 1]);
-    let low = bits::widen(first[i + 2]) * 256 + bits::widen(first[i + 3]);
-    high * 65536 + low
+    two_bytes(first, 4 * k) * 65536 + two_bytes(first, 4 * k + 2)
 }
 
 // Whether the numbers n, o, f and total of a header keep the rules, in a file of so many bytes.

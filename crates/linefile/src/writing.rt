@@ -2,25 +2,18 @@
 use calls::Answer;
 use calls::Refusal;
 ghost use mathlib.Core.Path.{_≡_};
-ghost use Prim.Native.Nat.{_<_};
+ghost use mathlib.Core.List.{[], _∷_};
 ghost use lib.ListN.{length};
-ghost use Rattle.linefile.specs.Writing.{byteOf, headerBytes, written, writeCall};
+ghost use Rattle.linefile.specs.Writing.{headerBytes, written, writeCall};
 
-// Byte k of a number, 0 the most significant.
-fn byte_of(x: u32, k: usize) -> u8
-    requires { ⌜ k < 4 ⌝ }
-    ensures { λ r. ⌜ r ≡ byteOf x k ⌝ }
+// Writes the numbers n, o, f and total as a header.
+fn put_numbers(n: u32, o: u32, f: u32, total: u32, header: &mut [u8])
+    requires { ⌜ length (now header) ≡ 16 ⌝ }
+    ensures { λ _. ⌜ now (header .exit) ≡ headerBytes (n ∷ o ∷ f ∷ total ∷ []) ⌝ }
 {
-    ((x >> (24 - 8 * k)) % 256) as u8
-}
-
-// Writes four numbers as a header.
-fn put_numbers(numbers: &[u32], header: &mut [u8])
-    requires { ⌜ (length (now numbers) ≡ 4) × (length (now header) ≡ 16) ⌝ }
-    ensures { λ _. ⌜ now (header .exit) ≡ headerBytes (now (numbers .entry)) ⌝ }
-{
+    let numbers = [n, o, f, total];
     for i in 0..16 {
-        header[i] = byte_of(numbers[i / 4], i % 4);
+        header[i] = ((numbers[i / 4] >> (24 - 8 * (i % 4))) % 256) as u8;
     }
 }
 
@@ -37,7 +30,6 @@ pub fn write_header(superframes: u32, header: &mut [u8]) -> Answer
     if 64 < superframes {
         return Answer::Refused(Refusal::BadHeader);
     }
-    let numbers = [superframes, 16, 12304, 12304 + 356352 * superframes];
-    put_numbers(&numbers, header);
+    put_numbers(superframes, 16, 12304, 12304 + 356352 * superframes, header);
     Answer::Done(0)
 }

@@ -14,10 +14,7 @@ read-at-spec =
     (λ c κs. search kit)  -- read-answer-at-requires
     (λ c. search kit)  -- enum-told
     (λ c κs. search kit)  -- start-requires
-    (λ c. search kit)  -- add-result
-    (λ c. search kit)  -- sub-result
-    (λ c. search kit)  -- part-result-start
-    (λ c. search kit)  -- part-result-end
+    (λ c κs. search kit)  -- stretch-requires
     (λ c. search kit)  -- enum-told-2
     (λ c. search kit)  -- slice-aggregate-result
     (λ c. search kit)  -- returns

@@ -14,9 +14,8 @@ write-header-spec =
     (λ c. search kit)  -- returns
     (λ c. search kit)  -- returns-2
     (λ c. search kit)  -- returns-3
-    (λ c. search kit)  -- mul-t9
-    (λ c. search kit)  -- add-t10
-    (λ c. search kit)  -- slice-aggregate-put-numbers
+    (λ c. search kit)  -- mul-put-numbers
+    (λ c. search kit)  -- add-put-numbers
     (λ c κs. search kit)  -- put-numbers-requires
     (λ c. search kit)  -- same-length
     (λ c. search kit))  -- returns-4
