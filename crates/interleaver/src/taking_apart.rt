@@ -1,8 +1,8 @@
 // From the bits of a buffer to the pairs of two encoders, block by block.
 ghost use mathlib.Core.Path.{_≡_};
-ghost use Prim.Native.Nat.{_+_, _*_, _<_};
+ghost use Prim.Native.Nat.{_<_};
 ghost use lib.ListN.{length};
-ghost use Rattle.bits.specs.Bits.{bitOf, bit, fromBits, byteOf, pack};
+ghost use Rattle.bits.specs.Bits.{bit, byteOf, pack};
 ghost use Rattle.interleaver.specs.Block.{blockLine, restored};
 ghost use Rattle.interleaver.specs.PositionLaws.{outputAt};
 ghost use Rattle.interleaver.specs.BlockBuffer.{Held, linePlace, lineBlock, restoredBlock, heldBit};
@@ -10,17 +10,15 @@ use crate::block::restore;
 use crate::buffer::held_row;
 use crate::rows::BitRow;
 use crate::rows::BlockRow;
-use crate::rows::bit_row_of;
-use crate::rows::block_row;
-use crate::rows::subset_of;
 
 // The bit at a column of bit row i of a block row.
 fn line_bit(bits: &[u8], k: BlockRow, i: BitRow, column: usize) -> u16
     requires { ⌜ (length (now bits) ≡ 21504) × (k .0 < 84) × (i .0 < 16) × (column < 128) ⌝ }
     ensures { λ r. ⌜ (r ≡ bit (now (bits .entry)) (outputAt k i column)) × (r < 2) ⌝ }
 {
-    let q = bit_row_of(k, i);
-    let n = 1344 * column + 32 * (q.0 / 8) + 8 * subset_of(k) + q.0 % 8;
+    let subset = k.0 / 42 * 2 + k.0 % 2;
+    let q = BitRow(k.0 % 42 / 2 * 16 + i.0);
+    let n = 1344 * column + 32 * (q.0 / 8) + 8 * subset + q.0 % 8;
     bits::bit(bits, n) as u16
 }
 
@@ -61,22 +59,14 @@ pub fn restored_blocks(bits: &[u8]) -> [[u16; 16]; 672]
     blocks
 }
 
-// The upper (h = 0) or the lower (h = 1) half of a row.
-fn half(w: u16, h: usize) -> u8
-    requires { ⌜ h < 2 ⌝ }
-    ensures { λ r. ⌜ r ≡ fromBits 8 (λ k. bitOf 16 w (8 * h + k)) ⌝ }
-{
-    ((w >> (8 - 8 * h)) % 256) as u8
-}
-
 // Byte m of an encoder's pairs.
 fn pairs_byte(blocks: &[[u16; 16]; 672], encoder: usize, m: usize) -> u8
     requires { ⌜ (encoder < 2) × (m < 10752) ⌝ }
     ensures { λ r. ⌜ r ≡ byteOf (heldBit (now (blocks .entry)) encoder) m ⌝ }
 {
-    let k = block_row(encoder, m / 256);
+    let k = BlockRow(2 * (m / 256) + encoder);
     let w = held_row(blocks, k, m % 16 / 2, BitRow(m % 256 / 16));
-    half(w, m % 2)
+    ((w >> (8 - 8 * (m % 2))) % 256) as u8
 }
 
 // An encoder's pairs of a buffer of restored blocks.

@@ -11,7 +11,12 @@ pub pairs-byte-spec : {M : Type 1} → statement M
 pairs-byte-spec =
     tie.close
     (tie.spec
-    (λ c κs. search kit)  -- block-row-requires
+    (λ c. search kit)  -- mul-held-row
+    (λ c. search kit)  -- add-held-row
     (λ c κs. search kit)  -- held-row-requires
-    (λ c κs. search kit)  -- half-requires
+    (λ c. search kit)  -- mul-result
+    (λ c. search kit)  -- sub-result
+    (λ c. search kit)  -- cast-result
+    (λ c. search kit)  -- shr-result
+    (λ c. search kit)  -- cast-result-2
     (λ c. search kit))  -- returns
