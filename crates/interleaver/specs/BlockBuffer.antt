@@ -50,6 +50,10 @@ outputBit blocks n = partsBit blocks (outColumn n) (tOf n) (subsetOf n) (bOf n)
 
 -- ---- from bits to pairs
 
+-- The bit at column j of block C, in the bit row whose first output bit is this one.
+unfoldable pub lineColumn : List ℕ → ℕ → ℕ → ℕ → ℕ
+lineColumn bits first C j = bit bits (1344 * (16 * C + j) + first)
+
 -- The bit at (i, j) of block C of block row k, and that block; block number x, restored.
 unfoldable pub linePlace : List ℕ → BlockRow → ℕ → ℕ → ℕ → ℕ
 linePlace bits k C i j = bit bits (outputAt k (record { 0 = i }) (16 * C + j))

@@ -22,7 +22,7 @@ use Rattle.interleaver.specs.Positions.{outColumn, tOf, subsetOf, bOf, o
 use Rattle.interleaver.specs.PositionLaws.{outputAt, outputFor, outBlockRow-lt}
 use Rattle.interleaver.specs.Interleaving.{pairsBit, pairsOf, sourceOf, interleavedBit, interleaved, outputOf, apart}
 use Rattle.interleaver.specs.InterleavingLaws.{outputFrom, outputOf-is}
-use Rattle.interleaver.specs.BlockBuffer.{Held, heldRow, pairsPlace, pairsBlock, sentBlock, reorderedBlock, partsBit, outputBit, linePlace, lineBlock, restoredBlock, heldBit}
+use Rattle.interleaver.specs.BlockBuffer.{Held, heldRow, pairsPlace, pairsBlock, sentBlock, reorderedBlock, partsBit, outputBit, lineColumn, linePlace, lineBlock, restoredBlock, heldBit}
 
 -- ---- the loop that makes the blocks: none / more / done
 
@@ -140,6 +140,29 @@ from-at : (e m : ℕ)
     → outputAt (blockRow e (m / 2048)) (record { 0 = targetRow (m % 2048 / 128) (m % 16) }) (16 * (m % 128 / 16) + targetColumn (m % 2048 / 128) (m % 16)) ≡ outputFrom e m
 unfolding outputFrom outputFor
 from-at e m = refl
+
+pub line-bit : (bits : List ℕ) (first C j v : ℕ) → v ≡ bit bits (1344 * (16 * C + j) + first) → v ≡ lineColumn bits first C j
+unfolding lineColumn
+line-bit bits first C j v e = e
+
+-- The first output bit of bit row i of block row k.
+pub line-row : (bits : List ℕ) (k : BlockRow) (i : BitRow) (C w : ℕ)
+    → w ≡ fromBits 16 (lineColumn bits (32 * ((k .0 % 42 / 2 * 16 + i .0) / 8) + 8 * (k .0 / 42 * 2 + k .0 % 2) + (k .0 % 42 / 2 * 16 + i .0) % 8) C)
+    → w ≡ blockLine (linePlace bits k C) (i .0)
+unfolding blockLine lineColumn linePlace outputAt
+line-row bits k i C w e =
+    e
+    ∙ fromBits-ext 16 (lineColumn bits (32 * (q / 8) + 8 * subset + q % 8) C) (linePlace bits k C (i .0))
+    (λ j l. ap (λ n. bit bits n % 2) (sum (1344 * (16 * C + j)) (32 * (q / 8)) (8 * subset) (q % 8)))
+  where
+    q : ℕ
+    q = k .0 % 42 / 2 * 16 + i .0
+
+    subset : ℕ
+    subset = k .0 / 42 * 2 + k .0 % 2
+
+    sum : (a b c d : ℕ) → a + (b + c + d) ≡ a + b + c + d
+    sum a b c d = omega arith
 
 pub restored-block : (bits : List ℕ) (x : ℕ) (b : List ℕ) → b ≡ restored (lineBlock bits (record { 0 = x / 8 }) (x % 8)) → b ≡ restoredBlock bits x
 unfolding restoredBlock
