@@ -7,25 +7,19 @@ use Rattle.interleaver.specs.Rows.{firstOf}
 use Rattle.interleaver.specs.Block.{shift, sourceRow, sourceColumn}
 use Rattle.interleaver.specs.Positions.{encoderOf, rowOf, blockOf, bitRowOf, columnOf}
 
-pub record At (n e R C r c : ℕ) : Type 0 where
+-- Output bit n is bit (R, C, r, c) of encoder e.
+pub record ComesFrom (n e R C r c : ℕ) : Type 0 where
   pub encoder : encoderOf n ≡ e
   pub row : rowOf n ≡ R
   pub block : blockOf n ≡ C
   pub bit-row : bitRowOf n ≡ r
   pub column : columnOf n ≡ c
 
-pub bench-1 : At 1 0 0 0 14 15
+pub bench-values : ComesFrom 1 0 0 0 14 15 × ComesFrom 16 0 21 0 0 0 × ComesFrom 32 0 0 0 15 7 × ComesFrom 172031 1 41 7 0 15
 unfolding encoderOf rowOf blockOf bitRowOf columnOf firstOf shift sourceRow sourceColumn
-bench-1 = record { encoder = refl; row = refl; block = refl; bit-row = refl; column = refl }
-
-pub bench-16 : At 16 0 21 0 0 0
-unfolding encoderOf rowOf blockOf bitRowOf columnOf firstOf shift sourceRow sourceColumn
-bench-16 = record { encoder = refl; row = refl; block = refl; bit-row = refl; column = refl }
-
-pub bench-32 : At 32 0 0 0 15 7
-unfolding encoderOf rowOf blockOf bitRowOf columnOf firstOf shift sourceRow sourceColumn
-bench-32 = record { encoder = refl; row = refl; block = refl; bit-row = refl; column = refl }
-
-pub bench-172031 : At 172031 1 41 7 0 15
-unfolding encoderOf rowOf blockOf bitRowOf columnOf firstOf shift sourceRow sourceColumn
-bench-172031 = record { encoder = refl; row = refl; block = refl; bit-row = refl; column = refl }
+bench-values = (
+  record { encoder = refl; row = refl; block = refl; bit-row = refl; column = refl },
+  record { encoder = refl; row = refl; block = refl; bit-row = refl; column = refl },
+  record { encoder = refl; row = refl; block = refl; bit-row = refl; column = refl },
+  record { encoder = refl; row = refl; block = refl; bit-row = refl; column = refl },
+)

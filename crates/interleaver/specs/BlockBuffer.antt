@@ -39,17 +39,20 @@ sentBlock pairs0 pairs1 k C = pairsBlock (pairsOf pairs0 pairs1 (encoderIn k)) (
 unfoldable pub reorderedBlock : List ℕ → List ℕ → ℕ → List ℕ
 reorderedBlock pairs0 pairs1 x = reordered (sentBlock pairs0 pairs1 (record { 0 = x / 8 }) (x % 8))
 
--- The bit at a column of bit row q of a subset; output bit n by its four parts.
-unfoldable pub columnBit : List (List ℕ) → ℕ → ℕ → BitRow → ℕ
-columnBit blocks column subset q = bitOf 16 (heldRow blocks (blockRowOf subset q) (column / 16) (within q)) (column % 16)
-
+-- Output bit n by its four parts: bit row 8t+b of the subset, at a column.
 unfoldable pub partsBit : List (List ℕ) → ℕ → ℕ → ℕ → ℕ → ℕ
-partsBit blocks column t subset b = columnBit blocks column subset (record { 0 = 8 * t + b })
+partsBit blocks column t subset b =
+    let q : BitRow = record { 0 = 8 * t + b } in
+    bitOf 16 (heldRow blocks (blockRowOf subset q) (column / 16) (within q)) (column % 16)
 
 unfoldable pub outputBit : List (List ℕ) → ℕ → ℕ
 outputBit blocks n = partsBit blocks (outColumn n) (tOf n) (subsetOf n) (bOf n)
 
 -- ---- from bits to pairs
+
+-- The bit at column j of block C, in the bit row whose first output bit is this one.
+unfoldable pub lineColumn : List ℕ → ℕ → ℕ → ℕ → ℕ
+lineColumn bits first C j = bit bits (1344 * (16 * C + j) + first)
 
 -- The bit at (i, j) of block C of block row k, and that block; block number x, restored.
 unfoldable pub linePlace : List ℕ → BlockRow → ℕ → ℕ → ℕ → ℕ

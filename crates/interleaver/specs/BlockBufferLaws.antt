@@ -13,7 +13,7 @@ use Rattle.bits.specs.Bits.{bitOf, bit, fromBits, byteOf, pack}
 use Rattle.bits.specs.BitLaws.{bit-lt, fromBits-ext, pack-ext}
 use Rattle.interleaver.specs.declared.rows.BlockRow.{BlockRow}
 use Rattle.interleaver.specs.declared.rows.BitRow.{BitRow}
-use Rattle.interleaver.specs.HalfLaws.{two-bytes}
+use Rattle.interleaver.specs.HalfLaws.{two-bytes, half-is}
 use Rattle.interleaver.specs.Rows.{blockRow, blockRowOf, within}
 use Rattle.interleaver.specs.Block.{place, blockLine, block, sourceRow, sourceColumn, reordered, restored}
 use Rattle.interleaver.specs.BlockLaws.{place-block-of, place-reordered, place-restored, targetRow, targetColumn, targetRow-lt, targetColumn-lt, sourceRow-lt, sourceColumn-lt}
@@ -22,7 +22,7 @@ use Rattle.interleaver.specs.Positions.{outColumn, tOf, subsetOf, bOf, o
 use Rattle.interleaver.specs.PositionLaws.{outputAt, outputFor, outBlockRow-lt}
 use Rattle.interleaver.specs.Interleaving.{pairsBit, pairsOf, sourceOf, interleavedBit, interleaved, outputOf, apart}
 use Rattle.interleaver.specs.InterleavingLaws.{outputFrom, outputOf-is}
-use Rattle.interleaver.specs.BlockBuffer.{Held, heldRow, pairsPlace, pairsBlock, sentBlock, reorderedBlock, columnBit, partsBit, outputBit, linePlace, lineBlock, restoredBlock, heldBit}
+use Rattle.interleaver.specs.BlockBuffer.{Held, heldRow, pairsPlace, pairsBlock, sentBlock, reorderedBlock, partsBit, outputBit, lineColumn, linePlace, lineBlock, restoredBlock, heldBit}
 
 -- ---- the loop that makes the blocks: none / more / done
 
@@ -86,10 +86,13 @@ pub reordered-block : (pairs0 pairs1 : List ℕ) (x : ℕ) (b : List ℕ) → b 
 unfolding reorderedBlock
 reordered-block pairs0 pairs1 x b e = e
 
-pub column-bit : (blocks : List (List ℕ)) (column subset : ℕ) (q i : BitRow) (k : BlockRow) (w : ℕ) → k ≡ blockRowOf subset q → i ≡ within q
-    → w ≡ heldRow blocks k (column / 16) i → w / 2 ^ (15 - column % 16) % 2 ≡ columnBit blocks column subset q
-unfolding columnBit bitOf
-column-bit blocks column subset q i k w p r e = rw (e, p, r)
+-- Bit rows 8t to 8t+7 of a subset stand in one block row.
+pub parts-bit : (blocks : List (List ℕ)) (column t subset b : ℕ) (k : BlockRow) (w : ℕ) → k ≡ blockRowOf subset (record { 0 = 8 * t }) → b < 8
+    → w ≡ heldRow blocks k (column / 16) (record { 0 = (8 * t + b) % 16 }) → w / 2 ^ (15 - column % 16) % 2 ≡ partsBit blocks column t subset b
+unfolding partsBit bitOf
+parts-bit blocks column t subset b k w p l e =
+    let same : 8 * t / 16 ≡ (8 * t + b) / 16 = omega arith in
+    rw (e, p, same)
 
 -- The eight output bits of a byte are of one column, t and subset.
 pub output-byte : (blocks : List (List ℕ)) (j v : ℕ) → v ≡ fromBits 8 (partsBit blocks (j / 168) (j % 168 / 4) (j % 4)) → v ≡ byteOf (outputBit blocks) j
@@ -116,7 +119,7 @@ module _ (pairs0 pairs1 : List ℕ) (blocks : List (List ℕ)) (h : Held (reorde
       (sourceRow i j) (sourceColumn i j) (sourceRow-lt i j) (sourceColumn-lt i j)
 
   output-bit : (n : ℕ) → n < 172032 → outputBit blocks n ≡ interleavedBit pairs0 pairs1 n
-  unfolding outputBit partsBit columnBit reorderedBlock interleavedBit sourceOf encoderOf rowOf blockOf bitRowOf columnOf
+  unfolding outputBit partsBit reorderedBlock interleavedBit sourceOf encoderOf rowOf blockOf bitRowOf columnOf
   output-bit n ln =
       held-is (reorderedBlock pairs0 pairs1) (λ k C. reordered (sentBlock pairs0 pairs1 k C)) (λ x. refl) blocks h
       (outBlockRow n) (outColumn n / 16) (placeRow n) (placeColumn n) (outBlockRow-lt n ln) (omega arith)
@@ -138,10 +141,28 @@ from-at : (e m : ℕ)
 unfolding outputFrom outputFor
 from-at e m = refl
 
-pub line-bit : (bits : List ℕ) (k : BlockRow) (i q : BitRow) (column s v : ℕ) → q ≡ bitRowIn k i → s ≡ subsetIn k
-    → v ≡ bit bits (1344 * column + 32 * (q .0 / 8) + 8 * s + q .0 % 8) → v ≡ bit bits (outputAt k i column)
-unfolding outputAt
-line-bit bits k i q column s v p r e = e ∙ rw (p, r)
+pub line-bit : (bits : List ℕ) (first C j v : ℕ) → v ≡ bit bits (1344 * (16 * C + j) + first) → v ≡ lineColumn bits first C j
+unfolding lineColumn
+line-bit bits first C j v e = e
+
+-- The first output bit of bit row i of block row k.
+pub line-row : (bits : List ℕ) (k : BlockRow) (i : BitRow) (C w : ℕ)
+    → w ≡ fromBits 16 (lineColumn bits (32 * ((k .0 % 42 / 2 * 16 + i .0) / 8) + 8 * (k .0 / 42 * 2 + k .0 % 2) + (k .0 % 42 / 2 * 16 + i .0) % 8) C)
+    → w ≡ blockLine (linePlace bits k C) (i .0)
+unfolding blockLine lineColumn linePlace outputAt
+line-row bits k i C w e =
+    e
+    ∙ fromBits-ext 16 (lineColumn bits (32 * (q / 8) + 8 * subset + q % 8) C) (linePlace bits k C (i .0))
+    (λ j l. ap (λ n. bit bits n % 2) (sum (1344 * (16 * C + j)) (32 * (q / 8)) (8 * subset) (q % 8)))
+  where
+    q : ℕ
+    q = k .0 % 42 / 2 * 16 + i .0
+
+    subset : ℕ
+    subset = k .0 / 42 * 2 + k .0 % 2
+
+    sum : (a b c d : ℕ) → a + (b + c + d) ≡ a + b + c + d
+    sum a b c d = omega arith
 
 pub restored-block : (bits : List ℕ) (x : ℕ) (b : List ℕ) → b ≡ restored (lineBlock bits (record { 0 = x / 8 }) (x % 8)) → b ≡ restoredBlock bits x
 unfolding restoredBlock
@@ -151,12 +172,12 @@ pub restored-of : (b a r : List ℕ) → a ≡ b → r ≡ restored a → r ≡ 
 restored-of b a r p q = q ∙ ap restored p
 
 -- Byte m of an encoder's pairs is a half of a row.
-pub pairs-byte : (blocks : List (List ℕ)) (e m w v : ℕ) (k : BlockRow) → k ≡ blockRow e (m / 256)
+pub pairs-byte : (blocks : List (List ℕ)) (e m w : ℕ) (k : BlockRow) → k ≡ blockRow e (m / 256)
     → w ≡ heldRow blocks k (m % 16 / 2) (record { 0 = m % 256 / 16 })
-    → v ≡ fromBits 8 (λ i. bitOf 16 w (8 * (m % 2) + i)) → v ≡ byteOf (heldBit blocks e) m
+    → w < 2 ^ 16 → w / 2 ^ (8 - 8 * (m % 2)) % 256 ≡ byteOf (heldBit blocks e) m
 unfolding byteOf heldBit
-pairs-byte blocks e m w v k p q r =
-    r
+pairs-byte blocks e m w k p q l =
+    half-is w (m % 2) l (omega arith)
     ∙ fromBits-ext 8 (λ i. bitOf 16 w (8 * (m % 2) + i)) (λ i. heldBit blocks e (m * 8 + i))
     (λ i l.
     let row : (m * 8 + i) / 2048 ≡ m / 256 = omega arith in

@@ -2,9 +2,8 @@
 -- Assumes nothing.
 use mathlib.Core.Path.{_≡_, refl, sym, ap, ap₂, _∙_}
 use mathlib.Core.List.{List}
-use Prim.Native.Nat.{ℕ, _+_, _-_, _*_, _/_, _%_, _^_, _<_, _≤_}
+use Prim.Native.Nat.{ℕ, _+_, _-_, _*_, _/_, _%_, _^_, _<_}
 use native.Mathlib.Omega.{arith}
-use borrow.Author.Tests.{lt-ltb, le-ltb}
 use lib.ListN.{length, getD}
 use lib.Seq.{ext-getD}
 use Rattle.bits.specs.ListLaws.{length-tabulate, getD-tabulate, tabulate-below, tabulate-ext}
@@ -57,13 +56,9 @@ block-ext f g same =
 
 -- ---- the inverse of the reordering
 
-pub shift-first : (i : ℕ) → i < 8 → 0 ≡ shift i
+pub shift-is : (i : ℕ) → i < 16 → shift i ≡ i / 8
 unfolding shift
-shift-first i l = simp (lt-ltb i 8 l)
-
-pub shift-last : (i : ℕ) → 8 ≤ i → 1 ≡ shift i
-unfolding shift
-shift-last i l = simp (le-ltb i 8 l)
+shift-is = agree 16 shift (λ i. i / 8) tt
 
 -- (r, c) goes to place (i, j), i = (c−r) mod 16 and j = (c+i+d) mod 16.
 unfoldable pub targetRow : ℕ → ℕ → ℕ
@@ -160,11 +155,12 @@ reordered-restored b h =
 
 -- ---- as code finds the bits
 
-pub reordered-bit : (b : List ℕ) (i j d v : ℕ) → d ≡ shift i → v ≡ place b ((j + 32 - 2 * i - d) % 16) ((j + 32 - i - d) % 16) → v ≡ reorderedBit b i j
+pub reordered-bit : (b : List ℕ) (i j v : ℕ) → i < 16 → v ≡ place b ((j + 32 - 2 * i - i / 8) % 16) ((j + 32 - i - i / 8) % 16) → v ≡ reorderedBit b i j
 unfolding reorderedBit sourceRow sourceColumn
-reordered-bit b i j d v p e = e ∙ rw p
+reordered-bit b i j v l e = e ∙ rw (shift-is i l)
 
-pub restored-bit : (b : List ℕ) (r c d v : ℕ) → d ≡ shift ((c + 16 - r) % 16) → v ≡ place b ((c + 16 - r) % 16) ((c + (c + 16 - r) % 16 + d) % 16)
+pub restored-bit : (b : List ℕ) (r c v : ℕ) → v ≡ place b ((c + 16 - r) % 16) ((c + (c + 16 - r) % 16 + (c + 16 - r) % 16 / 8) % 16)
     → r < 16 → c < 16 → v ≡ restoredBit b r c
 unfolding restoredBit targetRow targetColumn
-restored-bit b r c d v p e lr lc = e ∙ rw p (sym (ap₂ (place b) (placeFrom-row r c lr lc) (placeFrom-column r c lr lc)))
+restored-bit b r c v e lr lc =
+    e ∙ rw (← shift-is ((c + 16 - r) % 16) (omega arith)) (sym (ap₂ (place b) (placeFrom-row r c lr lc) (placeFrom-column r c lr lc)))

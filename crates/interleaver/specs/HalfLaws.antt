@@ -9,6 +9,9 @@ use lib.ListN.{getD}
 use Rattle.bits.specs.Bits.{bitOf, bit, fromBits, byteOf}
 use Rattle.bits.specs.BitLaws.{fromBits-lt, fromBits-ext, fromBits-bitOf}
 
+pub last-lt : (x : ℕ) → x % 2 < 2
+last-lt x = omega arith
+
 -- m + n bits are m bits and then n.
 pub fromBits-split : (m n : ℕ) (f : ℕ → ℕ) → fromBits (m + n) f ≡ fromBits m f * 2 ^ n + fromBits n (λ k. f (m + k))
 unfolding fromBits

@@ -3,7 +3,6 @@
 use mathlib.Core.Path.{_≡_, refl, ap, _∙_}
 use Prim.Native.Nat.{ℕ, _+_, _*_, _/_, _%_, _<_}
 use native.Mathlib.Omega.{arith}
-use borrow.Author.Tests.{ne-eqb}
 use Rattle.bits.specs.Tests.{agree}
 use Rattle.interleaver.specs.declared.rows.BlockRow.{BlockRow}
 use Rattle.interleaver.specs.declared.rows.BitRow.{BitRow}
@@ -33,25 +32,6 @@ subsetIn k = k .0 / 42 * 2 + k .0 % 2
 abbrev pub bitRowIn : BlockRow → BitRow → BitRow
 bitRowIn k i = record { 0 = k .0 % 42 / 2 * 16 + i .0 }
 
--- The first block row, as code finds it.
-pub first-0 : (s : ℕ) → s ≡ 0 → 0 ≡ firstOf s
-unfolding firstOf
-first-0 s e = rw e
-
-pub first-1 : (s : ℕ) → s ≡ 1 → 1 ≡ firstOf s
-unfolding firstOf
-first-1 s e = rw e
-
-pub first-2 : (s : ℕ) → s ≡ 2 → 42 ≡ firstOf s
-unfolding firstOf
-first-2 s e = rw e
-
-pub first-3 : (s : ℕ) → (s ≡ 0 → ⊥) → (s ≡ 1 → ⊥) → (s ≡ 2 → ⊥) → 43 ≡ firstOf s
-unfolding firstOf
-first-3 s p q r = simp (ne-eqb s 0 p, ne-eqb s 1 q, ne-eqb s 2 r)
-
-pub ruleset firsts = (first-0, first-1, first-2, first-3)
-
 -- The block row of a bit row of a subset, as code finds it.
-pub row-of : (s f : ℕ) (q : BitRow) → f ≡ firstOf s → record { 0 = f + 2 * (q .0 / 16) } ≡ blockRowOf s q
-row-of s f q e = rw e
+pub row-of : (s : ℕ) (q : BitRow) → s < 4 → record { 0 = s / 2 * 42 + s % 2 + 2 * (q .0 / 16) } ≡ blockRowOf s q
+row-of s q l = rw (firstOf-is s l)

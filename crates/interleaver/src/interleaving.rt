@@ -4,20 +4,12 @@ ghost use Prim.Native.Nat.{_<_};
 ghost use lib.ListN.{length};
 ghost use Rattle.bits.specs.Bits.{fromBits, pack};
 ghost use Rattle.interleaver.specs.Block.{reordered};
-ghost use Rattle.interleaver.specs.BlockBuffer.{Held, pairsBlock, sentBlock, reorderedBlock, columnBit, partsBit, outputBit};
+ghost use Rattle.interleaver.specs.BlockBuffer.{Held, pairsBlock, sentBlock, reorderedBlock, partsBit, outputBit};
 use crate::block::reorder;
 use crate::buffer::held_row;
 use crate::rows::BitRow;
 use crate::rows::BlockRow;
 use crate::rows::block_row_of;
-use crate::rows::within;
-
-// A byte as a half row.
-fn wide(x: u8) -> u16
-    ensures { λ r. ⌜ (r ≡ x) × (r < 256) ⌝ }
-{
-    x as u16
-}
 
 // Block C of an encoder's row R.
 fn pairs_block(pairs: &[u8], row: usize, block: usize) -> [u16; 16]
@@ -27,7 +19,7 @@ fn pairs_block(pairs: &[u8], row: usize, block: usize) -> [u16; 16]
     let mut b = [0u16; 16];
     for r in 0..16 {
         let at = 256 * row + 16 * r + 2 * block;
-        b[r] = wide(pairs[at]) * 256 + wide(pairs[at + 1]);
+        b[r] = (bits::widen(pairs[at]) * 256 + bits::widen(pairs[at + 1])) as u16;
     }
     b
 }
@@ -57,23 +49,16 @@ pub fn reordered_blocks(pairs0: &[u8], pairs1: &[u8]) -> [[u16; 16]; 672]
     blocks
 }
 
-// The bit at a column of bit row q of a subset.
-fn column_bit(blocks: &[[u16; 16]; 672], column: usize, subset: usize, q: BitRow) -> u8
-    requires { ⌜ (column < 128) × (q .0 < 336) ⌝ }
-    ensures { λ r. ⌜ (r ≡ columnBit (now (blocks .entry)) column subset q) × (r < 2) ⌝ }
-{
-    let w = held_row(blocks, block_row_of(subset, q), column / 16, within(q));
-    ((w >> (15 - column % 16)) % 2) as u8
-}
-
-// The byte of output bits b = 0 to 7 of a column, t and subset.
+// The byte of output bits b = 0 to 7 of a column, t and subset: bit rows 8t to 8t+7 of the subset, all in one block row.
 fn output_byte(blocks: &[[u16; 16]; 672], column: usize, t: usize, subset: usize) -> u8
-    requires { ⌜ (column < 128) × (t < 42) ⌝ }
+    requires { ⌜ (column < 128) × (t < 42) × (subset < 4) ⌝ }
     ensures { λ r. ⌜ r ≡ fromBits 8 (partsBit (now (blocks .entry)) column t subset) ⌝ }
 {
+    let k = block_row_of(subset, BitRow(8 * t));
     let mut acc: u8 = 0;
     for b in 0..8 {
-        acc = acc * 2 + column_bit(blocks, column, subset, BitRow(8 * t + b));
+        let w = held_row(blocks, k, column / 16, BitRow((8 * t + b) % 16));
+        acc = acc * 2 + ((w >> (15 - column % 16)) % 2) as u8;
     }
     acc
 }

@@ -1,37 +1,26 @@
 // From the bits of a buffer to the pairs of two encoders, block by block.
 ghost use mathlib.Core.Path.{_≡_};
-ghost use Prim.Native.Nat.{_+_, _*_, _<_};
+ghost use Prim.Native.Nat.{_<_};
 ghost use lib.ListN.{length};
-ghost use Rattle.bits.specs.Bits.{bitOf, bit, fromBits, byteOf, pack};
+ghost use Rattle.bits.specs.Bits.{pack};
 ghost use Rattle.interleaver.specs.Block.{blockLine, restored};
-ghost use Rattle.interleaver.specs.PositionLaws.{outputAt};
 ghost use Rattle.interleaver.specs.BlockBuffer.{Held, linePlace, lineBlock, restoredBlock, heldBit};
 use crate::block::restore;
 use crate::buffer::held_row;
 use crate::rows::BitRow;
 use crate::rows::BlockRow;
-use crate::rows::bit_row_of;
-use crate::rows::block_row;
-use crate::rows::subset_of;
 
-// The bit at a column of bit row i of a block row.
-fn line_bit(bits: &[u8], k: BlockRow, i: BitRow, column: usize) -> u16
-    requires { ⌜ (length (now bits) ≡ 21504) × (k .0 < 84) × (i .0 < 16) × (column < 128) ⌝ }
-    ensures { λ r. ⌜ (r ≡ bit (now (bits .entry)) (outputAt k i column)) × (r < 2) ⌝ }
-{
-    let q = bit_row_of(k, i);
-    let n = 1344 * column + 32 * (q.0 / 8) + 8 * subset_of(k) + q.0 % 8;
-    bits::bit(bits, n) as u16
-}
-
-// Bit row i of block C of a block row, as the bits have it.
+// Bit row i of block C of a block row, as the bits have it: bit row q of a subset, t = q div 8 and b = q mod 8.
 fn line_row(bits: &[u8], k: BlockRow, block: usize, i: BitRow) -> u16
     requires { ⌜ (length (now bits) ≡ 21504) × (k .0 < 84) × (block < 8) × (i .0 < 16) ⌝ }
     ensures { λ r. ⌜ r ≡ blockLine (linePlace (now (bits .entry)) k block) (i .0) ⌝ }
 {
+    let subset = k.0 / 42 * 2 + k.0 % 2;
+    let q = BitRow(k.0 % 42 / 2 * 16 + i.0);
+    let at = 32 * (q.0 / 8) + 8 * subset + q.0 % 8;
     let mut acc: u16 = 0;
     for j in 0..16 {
-        acc = acc * 2 + line_bit(bits, k, i, 16 * block + j);
+        acc = acc * 2 + bits::bit(bits, 1344 * (16 * block + j) + at) as u16;
     }
     acc
 }
@@ -61,30 +50,14 @@ pub fn restored_blocks(bits: &[u8]) -> [[u16; 16]; 672]
     blocks
 }
 
-// The upper (h = 0) or the lower (h = 1) half of a row.
-fn half(w: u16, h: usize) -> u8
-    requires { ⌜ h < 2 ⌝ }
-    ensures { λ r. ⌜ r ≡ fromBits 8 (λ k. bitOf 16 w (8 * h + k)) ⌝ }
-{
-    ((w >> (8 - 8 * h)) % 256) as u8
-}
-
-// Byte m of an encoder's pairs.
-fn pairs_byte(blocks: &[[u16; 16]; 672], encoder: usize, m: usize) -> u8
-    requires { ⌜ (encoder < 2) × (m < 10752) ⌝ }
-    ensures { λ r. ⌜ r ≡ byteOf (heldBit (now (blocks .entry)) encoder) m ⌝ }
-{
-    let k = block_row(encoder, m / 256);
-    let w = held_row(blocks, k, m % 16 / 2, BitRow(m % 256 / 16));
-    half(w, m % 2)
-}
-
-// An encoder's pairs of a buffer of restored blocks.
+// An encoder's pairs of a buffer of restored blocks, a byte being a half of a row.
 pub fn write_pairs(blocks: &[[u16; 16]; 672], encoder: usize, pairs: &mut [u8])
     requires { ⌜ (encoder < 2) × (length (now pairs) ≡ 10752) ⌝ }
     ensures { λ _. ⌜ now (pairs .exit) ≡ pack 10752 (heldBit (now (blocks .entry)) encoder) ⌝ }
 {
     for m in 0..10752 {
-        pairs[m] = pairs_byte(blocks, encoder, m);
+        let k = BlockRow(2 * (m / 256) + encoder);
+        let w = held_row(blocks, k, m % 16 / 2, BitRow(m % 256 / 16));
+        pairs[m] = ((w >> (8 - 8 * (m % 2))) % 256) as u8;
     }
 }

@@ -11,10 +11,10 @@ use Rattle.interleaver.proofs.block.reordered_row.Tie as tie
 ruleset kit = (needs, gather, reordered-bit)
 
 abbrev Inv-loop : tie.InvT-loop
-Inv-loop b d i acc₀ j₀ acc j = Gathering (reorderedBit b i) 16 j acc
+Inv-loop b i d acc₀ j₀ acc j = Gathering (reorderedBit b i) 16 j acc
 
 abbrev μ-loop : tie.MeasureT-loop
-μ-loop b d i acc₀ j₀ acc j = 16 - j
+μ-loop b i d acc₀ j₀ acc j = 16 - j
 
 pub reordered-row-spec : {M : Type 1} → statement M
 unfolding blockLine
@@ -23,7 +23,6 @@ reordered-row-spec =
     (tie.spec
     Inv-loop
     μ-loop
-    (λ c κs. search kit)  -- shift-requires
     (λ c. search kit)  -- loop-holds
     (λ c. search kit)  -- mul-acc
     (λ c. search kit)  -- add-t10

@@ -3,11 +3,12 @@
 use Prim.Native.Nat.{_-_}
 use Rattle.bits.specs.Gathering.{Gathering, gather}
 use Rattle.interleaver.specs.Block.{blockLine, restoredBit}
+use Rattle.interleaver.specs.BlockLaws.{restored-bit}
 use borrow.Author.Needs.{needs}
 use Rattle.interleaver.proofs.block.restored_row.Statement.{statement}
 use Rattle.interleaver.proofs.block.restored_row.Tie as tie
 
-ruleset kit = (needs, gather)
+ruleset kit = (needs, gather, restored-bit)
 
 abbrev Inv-loop : tie.InvT-loop
 Inv-loop b r acc₀ c₀ acc c = Gathering (restoredBit b (r .0)) 16 c acc
@@ -23,8 +24,12 @@ restored-row-spec =
     Inv-loop
     μ-loop
     (λ c. search kit)  -- loop-holds
+    (λ c. search kit)  -- add-i
+    (λ c. search kit)  -- sub-i
     (λ c. search kit)  -- mul-acc
-    (λ c κs. search kit)  -- moved-bit-requires
+    (λ c. search kit)  -- add-bit-at
+    (λ c. search kit)  -- add-bit-at-2
+    (λ c κs. search kit)  -- bit-at-requires
     (λ c. search kit)  -- add-acc
     (λ c. search kit)  -- add-c
     (λ c. search kit)  -- loop-less

@@ -30,13 +30,14 @@ pairs-block-spec =
     (λ c. search kit)  -- add-at
     (λ c. search kit)  -- mul-at-3
     (λ c. search kit)  -- add-at-2
-    (λ c. search kit)  -- shared-slice-read-wide
-    (λ c κs. search kit)  -- wide-requires
+    (λ c. search kit)  -- shared-slice-read-widen
+    (λ c κs. search kit)  -- widen-requires
     (λ c. search kit)  -- mul-b
-    (λ c. search kit)  -- add-wide
-    (λ c. search kit)  -- shared-slice-read-wide-2
-    (λ c κs. search kit)  -- wide-requires-2
+    (λ c. search kit)  -- add-widen
+    (λ c. search kit)  -- shared-slice-read-widen-2
+    (λ c κs. search kit)  -- widen-requires-2
     (λ c. search kit)  -- add-b
+    (λ c. search kit)  -- cast-b
     (λ c. search kit)  -- mul-b-2
     (λ c. search kit)  -- array-write-b
     (λ c. search kit)  -- add-r

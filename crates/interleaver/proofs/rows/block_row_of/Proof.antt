@@ -1,4 +1,4 @@
--- `interleaver::rows::block_row_of` meets its contract: the first block row and every second from it.
+-- `interleaver::rows::block_row_of` meets its contract: the first block row of the subset, and every second from it.
 -- Assumes nothing.
 use Rattle.interleaver.specs.SubsetLaws.{row-of}
 use borrow.Author.Needs.{needs}
@@ -11,7 +11,8 @@ pub block-row-of-spec : {M : Type 1} → statement M
 block-row-of-spec =
     tie.close
     (tie.spec
-    (λ c κs. search kit)  -- first-of-requires
-    (λ c. search kit)  -- mul-t5
+    (λ c. search kit)  -- mul-t4
     (λ c. search kit)  -- add-t6
+    (λ c. search kit)  -- mul-t8
+    (λ c. search kit)  -- add-t9
     (λ c. search kit))  -- returns

@@ -4,11 +4,12 @@ use Prim.Native.Nat.{_-_}
 use Rattle.bits.specs.Filling.{Filling, fill}
 use Rattle.bits.specs.Bits.{byteOf, pack}
 use Rattle.interleaver.specs.BlockBuffer.{heldBit}
+use Rattle.interleaver.specs.BlockBufferLaws.{pairs-byte}
 use borrow.Author.Needs.{needs}
 use Rattle.interleaver.proofs.taking_apart.write_pairs.Statement.{statement}
 use Rattle.interleaver.proofs.taking_apart.write_pairs.Tie as tie
 
-ruleset kit = (needs, fill)
+ruleset kit = (needs, fill, pairs-byte)
 
 abbrev Inv-loop : tie.InvT-loop
 Inv-loop blocks encoder pairs₀ m₀ pairs m = Filling (byteOf (heldBit blocks encoder)) 10752 m pairs
@@ -24,7 +25,14 @@ write-pairs-spec =
     Inv-loop
     μ-loop
     (λ c. search kit)  -- loop-holds
-    (λ c κs. search kit)  -- pairs-byte-requires
+    (λ c. search kit)  -- mul-held-row
+    (λ c. search kit)  -- add-held-row
+    (λ c κs. search kit)  -- held-row-requires
+    (λ c. search kit)  -- mul-pairs
+    (λ c. search kit)  -- sub-pairs
+    (λ c. search kit)  -- cast-pairs
+    (λ c. search kit)  -- shr-pairs
+    (λ c. search kit)  -- cast-pairs-2
     (λ c. search kit)  -- slice-write-pairs
     (λ c. search kit)  -- add-m
     (λ c. search kit)  -- loop-less
