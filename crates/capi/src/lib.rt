@@ -57,7 +57,7 @@ pub extern "C" fn ofec_encode_pair(
 ) -> Outcome
     ensures { λ r. ⌜ (r ≡ outcomeOf (encodeCall (now (payload .entry)) (now (coded .entry)) (now (history .entry)) pair .answer) pair) × (now (coded .exit) ≡ encodeCall (now (payload .entry)) (now (coded .entry)) (now (history .entry)) pair .coded) × (now (history .exit) ≡ encodeCall (now (payload .entry)) (now (coded .entry)) (now (history .entry)) pair .history) ⌝ }
 {
-    outcome_of(ofec::encode_pair(payload, coded, history, pair), pair)
+    outcome_of(codec::encode_pair(payload, coded, history, pair), pair)
 }
 
 // Receives a pair. value: the next pair number, or the one lent in a refusal.
@@ -72,7 +72,7 @@ pub extern "C" fn ofec_receive_pair(
     ensures { λ r. ⌜ (r ≡ outcomeOf (receiveCall (now (coded .entry)) (now (payload .entry)) (now (marks .entry)) (now (history .entry)) pair .answer) pair) × (now (payload .exit) ≡ receiveCall (now (coded .entry)) (now (payload .entry)) (now (marks .entry)) (now (history .entry)) pair .payload) × (now (marks .exit) ≡ receiveCall (now (coded .entry)) (now (payload .entry)) (now (marks .entry)) (now (history .entry)) pair .marks) × (now (history .exit) ≡ receiveCall (now (coded .entry)) (now (payload .entry)) (now (marks .entry)) (now (history .entry)) pair .history) ⌝ }
 {
     outcome_of(
-        ofec::receive_pair(coded, payload, marks, history, pair),
+        codec::receive_pair(coded, payload, marks, history, pair),
         pair,
     )
 }
