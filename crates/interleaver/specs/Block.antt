@@ -11,16 +11,16 @@ use Rattle.bits.specs.Bits.{bitOf, fromBits}
 use Rattle.bits.specs.Tests.{both}
 use Rattle.interleaver.specs.Least.{least}
 
--- The bit of a block at bit row i, column j.
-unfoldable pub place : List ℕ → ℕ → ℕ → ℕ
-place b i j = bitOf 16 (getD b i 0) j
+-- The bit of a block at place (i, j): bit row i, column j.
+unfoldable pub bitAt : List ℕ → ℕ → ℕ → ℕ
+bitAt b i j = bitOf 16 (getD b i 0) j
 
--- The block whose bit at (i, j) is f i j, and bit row i of it.
-unfoldable pub blockLine : (ℕ → ℕ → ℕ) → ℕ → ℕ
-blockLine f i = fromBits 16 (f i)
+-- Bit row i of the block whose bit at (i, j) is f i j, and that block.
+unfoldable pub rowWord : (ℕ → ℕ → ℕ) → ℕ → ℕ
+rowWord f i = fromBits 16 (f i)
 
 unfoldable pub block : (ℕ → ℕ → ℕ) → List ℕ
-block f = tabulate 16 (blockLine f)
+block f = tabulate 16 (rowWord f)
 
 -- "d = 0 for i < 8 and 1 otherwise"
 unfoldable pub shift : ℕ → ℕ
@@ -36,7 +36,7 @@ sourceColumn i j = (j + 32 - i - shift i) % 16
 
 -- The bit at (i, j) of a block that was reordered, and that block.
 unfoldable pub reorderedBit : List ℕ → ℕ → ℕ → ℕ
-reorderedBit b i j = place b (sourceRow i j) (sourceColumn i j)
+reorderedBit b i j = bitAt b (sourceRow i j) (sourceColumn i j)
 
 abbrev pub reordered : List ℕ → List ℕ
 reordered b = block (reorderedBit b)
@@ -47,7 +47,7 @@ placeFrom r c = least 256 (λ x. both (eqb (sourceRow (x / 16) (x % 16)) r) (eqb
 
 -- The bit at (r, c) of the block that was reordered to b, and that block.
 unfoldable pub restoredBit : List ℕ → ℕ → ℕ → ℕ
-restoredBit b r c = place b (placeFrom r c / 16) (placeFrom r c % 16)
+restoredBit b r c = bitAt b (placeFrom r c / 16) (placeFrom r c % 16)
 
 abbrev pub restored : List ℕ → List ℕ
 restored b = block (restoredBit b)

@@ -13,10 +13,10 @@ use Rattle.bits.specs.Bits.{bitOf, bit, fromBits, byteOf, pack}
 use Rattle.bits.specs.BitLaws.{bit-lt, fromBits-ext, pack-ext}
 use Rattle.interleaver.specs.declared.rows.BlockRow.{BlockRow}
 use Rattle.interleaver.specs.declared.rows.BitRow.{BitRow}
-use Rattle.interleaver.specs.HalfLaws.{two-bytes, half-is}
+use Rattle.interleaver.specs.NumberLaws.{two-bytes, half-is}
 use Rattle.interleaver.specs.Rows.{blockRow, blockRowOf, within}
-use Rattle.interleaver.specs.Block.{place, blockLine, block, sourceRow, sourceColumn, reordered, restored}
-use Rattle.interleaver.specs.BlockLaws.{place-block-of, place-reordered, place-restored, targetRow, targetColumn, targetRow-lt, targetColumn-lt, sourceRow-lt, sourceColumn-lt}
+use Rattle.interleaver.specs.Block.{bitAt, rowWord, block, sourceRow, sourceColumn, reordered, restored}
+use Rattle.interleaver.specs.BlockLaws.{bitAt-block-of, bitAt-reordered, bitAt-restored, targetRow, targetColumn, targetRow-lt, targetColumn-lt, sourceRow-lt, sourceColumn-lt}
 use Rattle.interleaver.specs.SubsetLaws.{subsetIn, bitRowIn}
 use Rattle.interleaver.specs.Positions.{outColumn, tOf, subsetOf, bOf, outBlockRow, placeRow, placeColumn, encoderOf, rowOf, blockOf, bitRowOf, columnOf}
 use Rattle.interleaver.specs.PositionLaws.{outputAt, outputFor, outBlockRow-lt}
@@ -54,8 +54,8 @@ number-block k C l = omega arith
 
 -- Where the number of a block is used by its block row and C.
 held-is : (f : ℕ → List ℕ) (g : BlockRow → ℕ → List ℕ) → ((x : ℕ) → f x ≡ g (record { 0 = x / 8 }) (x % 8)) → (blocks : List (List ℕ)) → Held f 672 blocks
-    → (k : BlockRow) (C : ℕ) (i : BitRow) (j : ℕ) → k .0 < 84 → C < 8 → bitOf 16 (heldRow blocks k C i) j ≡ place (g k C) (i .0) j
-unfolding heldRow place
+    → (k : BlockRow) (C : ℕ) (i : BitRow) (j : ℕ) → k .0 < 84 → C < 8 → bitOf 16 (heldRow blocks k C i) j ≡ bitAt (g k C) (i .0) j
+unfolding heldRow bitAt
 held-is f g by blocks h k C i j lk lC =
     ap (λ b. bitOf 16 (getD b (i .0) 0) j)
     (h .at (8 * k .0 + C) (omega arith) ∙ by (8 * k .0 + C)
@@ -65,8 +65,8 @@ held-is f g by blocks h k C i j lk lC =
 
 -- Bit row r of a block is two bytes of the pairs.
 pub pairs-row : (s : List ℕ) (R C r x y : ℕ) → x ≡ getD s (256 * R + 16 * r + 2 * C) 0 → y ≡ getD s (256 * R + 16 * r + 2 * C + 1) 0 → x < 256 → y < 256
-    → x * 256 + y ≡ blockLine (pairsPlace s R C) r
-unfolding blockLine pairsPlace pairsBit
+    → x * 256 + y ≡ rowWord (pairsPlace s R C) r
+unfolding rowWord pairsPlace pairsBit
 pairs-row s R C r x y p q lx ly =
     two-bytes s (256 * R + 16 * r + 2 * C) x y (pairsPlace s R C r) p q lx ly (λ k l. ap (bit s) (omega arith))
 
@@ -110,11 +110,11 @@ output-byte blocks j v e =
 -- Of reordered blocks the output bits are the buffer's.
 module _ (pairs0 pairs1 : List ℕ) (blocks : List (List ℕ)) (h : Held (reorderedBlock pairs0 pairs1) 672 blocks) where
   reordered-place : (k : BlockRow) (C i j : ℕ) → i < 16 → j < 16
-      → place (reordered (sentBlock pairs0 pairs1 k C)) i j ≡ bit (pairsOf pairs0 pairs1 (k .0 % 2)) (pairsBit (k .0 / 2) C (sourceRow i j) (sourceColumn i j))
+      → bitAt (reordered (sentBlock pairs0 pairs1 k C)) i j ≡ bit (pairsOf pairs0 pairs1 (k .0 % 2)) (pairsBit (k .0 / 2) C (sourceRow i j) (sourceColumn i j))
   unfolding sentBlock pairsPlace
   reordered-place k C i j li lj =
-      place-reordered (sentBlock pairs0 pairs1 k C) i j li lj
-      ∙ place-block-of (pairsPlace (pairsOf pairs0 pairs1 (k .0 % 2)) (k .0 / 2) C)
+      bitAt-reordered (sentBlock pairs0 pairs1 k C) i j li lj
+      ∙ bitAt-block-of (pairsPlace (pairsOf pairs0 pairs1 (k .0 % 2)) (k .0 / 2) C)
       (λ r c. bit-lt (pairsOf pairs0 pairs1 (k .0 % 2)) (pairsBit (k .0 / 2) C r c))
       (sourceRow i j) (sourceColumn i j) (sourceRow-lt i j) (sourceColumn-lt i j)
 
@@ -148,8 +148,8 @@ line-bit bits first C j v e = e
 -- The first output bit of bit row i of block row k.
 pub line-row : (bits : List ℕ) (k : BlockRow) (i : BitRow) (C w : ℕ)
     → w ≡ fromBits 16 (lineColumn bits (32 * ((k .0 % 42 / 2 * 16 + i .0) / 8) + 8 * (k .0 / 42 * 2 + k .0 % 2) + (k .0 % 42 / 2 * 16 + i .0) % 8) C)
-    → w ≡ blockLine (linePlace bits k C) (i .0)
-unfolding blockLine lineColumn linePlace outputAt
+    → w ≡ rowWord (linePlace bits k C) (i .0)
+unfolding rowWord lineColumn linePlace outputAt
 line-row bits k i C w e =
     e
     ∙ fromBits-ext 16 (lineColumn bits (32 * (q / 8) + 8 * subset + q % 8) C) (linePlace bits k C (i .0))
@@ -189,11 +189,11 @@ pairs-byte blocks e m w k p q l =
 -- Of restored blocks the bits are the pairs'.
 module _ (bits : List ℕ) (blocks : List (List ℕ)) (h : Held (restoredBlock bits) 672 blocks) where
   restored-place : (k : BlockRow) (C r c : ℕ) → r < 16 → c < 16
-      → place (restored (lineBlock bits k C)) r c ≡ bit bits (outputAt k (record { 0 = targetRow r c }) (16 * C + targetColumn r c))
+      → bitAt (restored (lineBlock bits k C)) r c ≡ bit bits (outputAt k (record { 0 = targetRow r c }) (16 * C + targetColumn r c))
   unfolding linePlace
   restored-place k C r c lr lc =
-      place-restored (lineBlock bits k C) r c lr lc
-      ∙ place-block-of (linePlace bits k C) (λ i j. bit-lt bits (outputAt k (record { 0 = i }) (16 * C + j)))
+      bitAt-restored (lineBlock bits k C) r c lr lc
+      ∙ bitAt-block-of (linePlace bits k C) (λ i j. bit-lt bits (outputAt k (record { 0 = i }) (16 * C + j)))
       (targetRow r c) (targetColumn r c) (targetRow-lt r c) (targetColumn-lt r c)
 
   held-bit : (e m : ℕ) → e < 2 → m < 86016 → heldBit blocks e m ≡ bit bits (outputOf e m)

@@ -12,7 +12,7 @@ use Rattle.bits.specs.BitLaws.{bitOf-lt, bitOf-fromBits, bitOf-equal, fromBits-
 use Rattle.bits.specs.Tests.{agree, grid}
 use Rattle.interleaver.specs.Least.{least}
 use Rattle.interleaver.specs.LeastLaws.{least-pair}
-use Rattle.interleaver.specs.Block.{place, blockLine, block, shift, sourceRow, sourceColumn, reorderedBit, reordered, placeFrom, restoredBit, restored}
+use Rattle.interleaver.specs.Block.{bitAt, rowWord, block, shift, sourceRow, sourceColumn, reorderedBit, reordered, placeFrom, restoredBit, restored}
 
 -- ---- a block and its bits
 
@@ -21,38 +21,38 @@ pub record Block (b : List ℕ) : Type 0 where
   pub rows : length b ≡ 16
   pub row : (i : ℕ) → getD b i 0 < 2 ^ 16
 
-pub place-lt : (b : List ℕ) (i j : ℕ) → place b i j < 2
-unfolding place
-place-lt b i j = bitOf-lt 16 (getD b i 0) j
+pub bitAt-lt : (b : List ℕ) (i j : ℕ) → bitAt b i j < 2
+unfolding bitAt
+bitAt-lt b i j = bitOf-lt 16 (getD b i 0) j
 
-pub place-block : (f : ℕ → ℕ → ℕ) (i j : ℕ) → i < 16 → j < 16 → place (block f) i j ≡ f i j % 2
-unfolding place block blockLine
-place-block f i j hi hj = ap (λ x. bitOf 16 x j) (getD-tabulate 16 (blockLine f) i hi) ∙ bitOf-fromBits 16 (f i) j hj
+pub bitAt-block : (f : ℕ → ℕ → ℕ) (i j : ℕ) → i < 16 → j < 16 → bitAt (block f) i j ≡ f i j % 2
+unfolding bitAt block rowWord
+bitAt-block f i j hi hj = ap (λ x. bitOf 16 x j) (getD-tabulate 16 (rowWord f) i hi) ∙ bitOf-fromBits 16 (f i) j hj
 
 -- The same where f gives bits.
-pub place-block-of : (f : ℕ → ℕ → ℕ) → ((i j : ℕ) → f i j < 2) → (i j : ℕ) → i < 16 → j < 16 → place (block f) i j ≡ f i j
-place-block-of f small i j hi hj = place-block f i j hi hj ∙ omega (arith, small i j)
+pub bitAt-block-of : (f : ℕ → ℕ → ℕ) → ((i j : ℕ) → f i j < 2) → (i j : ℕ) → i < 16 → j < 16 → bitAt (block f) i j ≡ f i j
+bitAt-block-of f small i j hi hj = bitAt-block f i j hi hj ∙ omega (arith, small i j)
 
 pub block-is : (f : ℕ → ℕ → ℕ) → Block (block f)
-unfolding block blockLine
+unfolding block rowWord
 block-is f =
     record {
-      rows = length-tabulate 16 (blockLine f);
-      row = tabulate-below 16 (blockLine f) (2 ^ 16) (λ i. fromBits-lt 16 (f i)) (omega arith);
+      rows = length-tabulate 16 (rowWord f);
+      row = tabulate-below 16 (rowWord f) (2 ^ 16) (λ i. fromBits-lt 16 (f i)) (omega arith);
     }
 
 -- Blocks whose bits agree are equal.
-pub block-equal : (a b : List ℕ) → Block a → Block b → ((i j : ℕ) → i < 16 → j < 16 → place a i j ≡ place b i j) → a ≡ b
-unfolding place
+pub block-equal : (a b : List ℕ) → Block a → Block b → ((i j : ℕ) → i < 16 → j < 16 → bitAt a i j ≡ bitAt b i j) → a ≡ b
+unfolding bitAt
 block-equal a b ha hb same =
     ext-getD 0 a b (ha .rows ∙ sym (hb .rows))
     (λ i l. bitOf-equal 16 (getD a i 0) (getD b i 0) (ha .row i) (hb .row i) (λ j lj. same i j (omega (arith, ha .rows)) lj))
 
 -- Functions that agree on the places give one block.
 pub block-ext : (f g : ℕ → ℕ → ℕ) → ((i j : ℕ) → i < 16 → j < 16 → f i j ≡ g i j) → block f ≡ block g
-unfolding block blockLine
+unfolding block rowWord
 block-ext f g same =
-    tabulate-ext 16 (blockLine f) (blockLine g) (λ i l. fromBits-ext 16 (f i) (g i) (λ j lj. ap (λ x. x % 2) (same i j l lj)))
+    tabulate-ext 16 (rowWord f) (rowWord g) (λ i l. fromBits-ext 16 (f i) (g i) (λ j lj. ap (λ x. x % 2) (same i j l lj)))
 
 -- ---- the inverse of the reordering
 
@@ -126,41 +126,41 @@ placeFrom-column r c lr lc = omega (arith, placeFrom-is r c lr lc, targetColumn-
 
 -- ---- reordered and restored
 
-pub place-reordered : (b : List ℕ) (i j : ℕ) → i < 16 → j < 16 → place (reordered b) i j ≡ place b (sourceRow i j) (sourceColumn i j)
+pub bitAt-reordered : (b : List ℕ) (i j : ℕ) → i < 16 → j < 16 → bitAt (reordered b) i j ≡ bitAt b (sourceRow i j) (sourceColumn i j)
 unfolding reorderedBit
-place-reordered b = place-block-of (reorderedBit b) (λ i j. place-lt b (sourceRow i j) (sourceColumn i j))
+bitAt-reordered b = bitAt-block-of (reorderedBit b) (λ i j. bitAt-lt b (sourceRow i j) (sourceColumn i j))
 
-pub place-restored : (b : List ℕ) (r c : ℕ) → r < 16 → c < 16 → place (restored b) r c ≡ place b (targetRow r c) (targetColumn r c)
+pub bitAt-restored : (b : List ℕ) (r c : ℕ) → r < 16 → c < 16 → bitAt (restored b) r c ≡ bitAt b (targetRow r c) (targetColumn r c)
 unfolding restoredBit
-place-restored b r c lr lc =
-    place-block-of (restoredBit b) (λ i j. place-lt b (placeFrom i j / 16) (placeFrom i j % 16)) r c lr lc
-    ∙ ap₂ (place b) (placeFrom-row r c lr lc) (placeFrom-column r c lr lc)
+bitAt-restored b r c lr lc =
+    bitAt-block-of (restoredBit b) (λ i j. bitAt-lt b (placeFrom i j / 16) (placeFrom i j % 16)) r c lr lc
+    ∙ ap₂ (bitAt b) (placeFrom-row r c lr lc) (placeFrom-column r c lr lc)
 
 -- A block that is reordered and restored is as it was, and the other way round.
 pub restored-reordered : (b : List ℕ) → Block b → restored (reordered b) ≡ b
 restored-reordered b h =
     block-equal (restored (reordered b)) b (block-is (restoredBit (reordered b))) h
     (λ r c lr lc.
-    place-restored (reordered b) r c lr lc
-    ∙ place-reordered b (targetRow r c) (targetColumn r c) (targetRow-lt r c) (targetColumn-lt r c)
-    ∙ ap₂ (place b) (source-target-row r c lr lc) (source-target-column r c lr lc))
+    bitAt-restored (reordered b) r c lr lc
+    ∙ bitAt-reordered b (targetRow r c) (targetColumn r c) (targetRow-lt r c) (targetColumn-lt r c)
+    ∙ ap₂ (bitAt b) (source-target-row r c lr lc) (source-target-column r c lr lc))
 
 pub reordered-restored : (b : List ℕ) → Block b → reordered (restored b) ≡ b
 reordered-restored b h =
     block-equal (reordered (restored b)) b (block-is (reorderedBit (restored b))) h
     (λ i j li lj.
-    place-reordered (restored b) i j li lj
-    ∙ place-restored b (sourceRow i j) (sourceColumn i j) (sourceRow-lt i j) (sourceColumn-lt i j)
-    ∙ ap₂ (place b) (target-source-row i j li lj) (target-source-column i j li lj))
+    bitAt-reordered (restored b) i j li lj
+    ∙ bitAt-restored b (sourceRow i j) (sourceColumn i j) (sourceRow-lt i j) (sourceColumn-lt i j)
+    ∙ ap₂ (bitAt b) (target-source-row i j li lj) (target-source-column i j li lj))
 
 -- ---- as code finds the bits
 
-pub reordered-bit : (b : List ℕ) (i j v : ℕ) → i < 16 → v ≡ place b ((j + 32 - 2 * i - i / 8) % 16) ((j + 32 - i - i / 8) % 16) → v ≡ reorderedBit b i j
+pub reordered-bit : (b : List ℕ) (i j v : ℕ) → i < 16 → v ≡ bitAt b ((j + 32 - 2 * i - i / 8) % 16) ((j + 32 - i - i / 8) % 16) → v ≡ reorderedBit b i j
 unfolding reorderedBit sourceRow sourceColumn
 reordered-bit b i j v l e = e ∙ rw (shift-is i l)
 
-pub restored-bit : (b : List ℕ) (r c v : ℕ) → v ≡ place b ((c + 16 - r) % 16) ((c + (c + 16 - r) % 16 + (c + 16 - r) % 16 / 8) % 16)
+pub restored-bit : (b : List ℕ) (r c v : ℕ) → v ≡ bitAt b ((c + 16 - r) % 16) ((c + (c + 16 - r) % 16 + (c + 16 - r) % 16 / 8) % 16)
     → r < 16 → c < 16 → v ≡ restoredBit b r c
 unfolding restoredBit targetRow targetColumn
 restored-bit b r c v e lr lc =
-    e ∙ rw (← shift-is ((c + 16 - r) % 16) (omega arith)) (sym (ap₂ (place b) (placeFrom-row r c lr lc) (placeFrom-column r c lr lc)))
+    e ∙ rw (← shift-is ((c + 16 - r) % 16) (omega arith)) (sym (ap₂ (bitAt b) (placeFrom-row r c lr lc) (placeFrom-column r c lr lc)))

@@ -37,6 +37,11 @@ module _ (R C r c : ℕ) (lC : C < 8) (lr : r < 16) (lc : c < 16) where
   unfolding pairsBit
   pairsBit-column = omega arith
 
+-- Row R is row R mod 2 of pair R div 2, and a pair has 4,096 bits.
+pub pairsBit-pair : (R C r c : ℕ) → pairsBit R C r c ≡ 4096 * (R / 2) + pairsBit (R % 2) C r c
+unfolding pairsBit
+pairsBit-pair R C r c = omega arith
+
 pub pairsBit-parts : (m : ℕ) → pairsBit (m / 2048) (m % 128 / 16) (m % 2048 / 128) (m % 16) ≡ m
 unfolding pairsBit
 pairsBit-parts m = omega arith

@@ -1,7 +1,7 @@
 -- Definitions first; the laws about each stand in the file below it.
 pub mod Least
 pub mod LeastLaws
-pub mod HalfLaws
+pub mod NumberLaws
 pub mod Rows
 pub mod SubsetLaws
 pub mod Block

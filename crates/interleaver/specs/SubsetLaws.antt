@@ -21,6 +21,11 @@ rowIn-row e R l = omega arith
 
 -- ---- a block row and its subset
 
+-- Each subset has 21 block rows, the last being 40, 41, 82 and 83.
+pub subset-ends : (subsetRow 0 20 .0 ≡ 40) × (subsetRow 1 20 .0 ≡ 41) × (subsetRow 2 20 .0 ≡ 82) × (subsetRow 3 20 .0 ≡ 83)
+unfolding firstOf
+subset-ends = (refl, refl, refl, refl)
+
 pub firstOf-is : (s : ℕ) → s < 4 → firstOf s ≡ s / 2 * 42 + s % 2
 unfolding firstOf
 firstOf-is = agree 4 firstOf (λ s. s / 2 * 42 + s % 2) tt

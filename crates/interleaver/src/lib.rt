@@ -3,10 +3,10 @@ ghost use mathlib.Core.Path.{_≡_};
 ghost use Rattle.interleaver.specs.Calls.{joined, interleave, parted, deinterleave};
 
 pub mod block;
-pub mod buffer;
-pub mod interleaving;
+mod buffer;
+mod interleaving;
 pub mod rows;
-pub mod taking_apart;
+mod taking_apart;
 
 use calls::Answer;
 use calls::Refusal;

@@ -3,7 +3,7 @@ ghost use mathlib.Core.Path.{_≡_};
 ghost use Prim.Native.Nat.{_<_};
 ghost use lib.ListN.{length};
 ghost use Rattle.bits.specs.Bits.{pack};
-ghost use Rattle.interleaver.specs.Block.{blockLine, restored};
+ghost use Rattle.interleaver.specs.Block.{rowWord, restored};
 ghost use Rattle.interleaver.specs.BlockBuffer.{Held, linePlace, lineBlock, restoredBlock, heldBit};
 use crate::block::restore;
 use crate::buffer::held_row;
@@ -13,7 +13,7 @@ use crate::rows::BlockRow;
 // Bit row i of block C of a block row, as the bits have it: bit row q of a subset, t = q div 8 and b = q mod 8.
 fn line_row(bits: &[u8], k: BlockRow, block: usize, i: BitRow) -> u16
     requires { ⌜ (length (now bits) ≡ 21504) × (k .0 < 84) × (block < 8) × (i .0 < 16) ⌝ }
-    ensures { λ r. ⌜ r ≡ blockLine (linePlace (now (bits .entry)) k block) (i .0) ⌝ }
+    ensures { λ r. ⌜ r ≡ rowWord (linePlace (now (bits .entry)) k block) (i .0) ⌝ }
 {
     let subset = k.0 / 42 * 2 + k.0 % 2;
     let q = BitRow(k.0 % 42 / 2 * 16 + i.0);

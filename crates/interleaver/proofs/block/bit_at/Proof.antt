@@ -1,13 +1,13 @@
 -- `interleaver::block::bit_at` meets its contract: the shift and the remainder are the definition of a bit.
 -- Assumes nothing.
 use Rattle.bits.specs.Bits.{bitOf}
-use Rattle.interleaver.specs.Block.{place}
+use Rattle.interleaver.specs.Block.{bitAt}
 use borrow.Author.Needs.{needs}
 use Rattle.interleaver.proofs.block.bit_at.Statement.{statement}
 use Rattle.interleaver.proofs.block.bit_at.Tie as tie
 
 pub bit-at-spec : {M : Type 1} → statement M
-unfolding place bitOf
+unfolding bitAt bitOf
 bit-at-spec =
     tie.close
     (tie.spec

@@ -2,7 +2,7 @@
 -- Assumes nothing.
 use Prim.Native.Nat.{_-_}
 use Rattle.bits.specs.Filling.{Filling, fill}
-use Rattle.interleaver.specs.Block.{blockLine, block, reorderedBit}
+use Rattle.interleaver.specs.Block.{rowWord, block, reorderedBit}
 use borrow.Author.Needs.{needs}
 use Rattle.interleaver.proofs.block.reorder.Statement.{statement}
 use Rattle.interleaver.proofs.block.reorder.Tie as tie
@@ -10,7 +10,7 @@ use Rattle.interleaver.proofs.block.reorder.Tie as tie
 ruleset kit = (needs, fill)
 
 abbrev Inv-loop : tie.InvT-loop
-Inv-loop b out₀ i₀ out i = Filling (blockLine (reorderedBit b)) 16 i out
+Inv-loop b out₀ i₀ out i = Filling (rowWord (reorderedBit b)) 16 i out
 
 abbrev μ-loop : tie.MeasureT-loop
 μ-loop b out₀ i₀ out i = 16 - i

@@ -2,7 +2,7 @@
 -- Assumes nothing.
 use Prim.Native.Nat.{_-_}
 use Rattle.bits.specs.Gathering.{Gathering, gather}
-use Rattle.interleaver.specs.Block.{blockLine, reorderedBit}
+use Rattle.interleaver.specs.Block.{rowWord, reorderedBit}
 use Rattle.interleaver.specs.BlockLaws.{reordered-bit}
 use borrow.Author.Needs.{needs}
 use Rattle.interleaver.proofs.block.reordered_row.Statement.{statement}
@@ -17,7 +17,7 @@ abbrev μ-loop : tie.MeasureT-loop
 μ-loop b i d acc₀ j₀ acc j = 16 - j
 
 pub reordered-row-spec : {M : Type 1} → statement M
-unfolding blockLine
+unfolding rowWord
 reordered-row-spec =
     tie.close
     (tie.spec

@@ -2,7 +2,7 @@
 -- Assumes nothing.
 use Prim.Native.Nat.{_-_}
 use Rattle.bits.specs.Gathering.{Gathering, gather}
-use Rattle.interleaver.specs.Block.{blockLine, restoredBit}
+use Rattle.interleaver.specs.Block.{rowWord, restoredBit}
 use Rattle.interleaver.specs.BlockLaws.{restored-bit}
 use borrow.Author.Needs.{needs}
 use Rattle.interleaver.proofs.block.restored_row.Statement.{statement}
@@ -17,7 +17,7 @@ abbrev μ-loop : tie.MeasureT-loop
 μ-loop b r acc₀ c₀ acc c = 16 - c
 
 pub restored-row-spec : {M : Type 1} → statement M
-unfolding blockLine
+unfolding rowWord
 restored-row-spec =
     tie.close
     (tie.spec

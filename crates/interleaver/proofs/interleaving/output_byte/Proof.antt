@@ -2,7 +2,7 @@
 -- Assumes nothing.
 use Prim.Native.Nat.{_-_}
 use Rattle.bits.specs.Gathering.{Gathering, gather}
-use Rattle.interleaver.specs.HalfLaws.{last-lt}
+use Rattle.interleaver.specs.NumberLaws.{last-lt}
 use Rattle.interleaver.specs.BlockBuffer.{partsBit}
 use Rattle.interleaver.specs.BlockBufferLaws.{parts-bit}
 use borrow.Author.Needs.{needs}

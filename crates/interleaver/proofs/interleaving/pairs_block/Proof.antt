@@ -2,7 +2,7 @@
 -- Assumes nothing.
 use Prim.Native.Nat.{_-_}
 use Rattle.bits.specs.Filling.{Filling, fill}
-use Rattle.interleaver.specs.Block.{blockLine, block}
+use Rattle.interleaver.specs.Block.{rowWord, block}
 use Rattle.interleaver.specs.BlockBuffer.{pairsPlace}
 use Rattle.interleaver.specs.BlockBufferLaws.{pairs-row}
 use borrow.Author.Needs.{needs}
@@ -12,7 +12,7 @@ use Rattle.interleaver.proofs.interleaving.pairs_block.Tie as tie
 ruleset kit = (needs, fill, pairs-row)
 
 abbrev Inv-loop : tie.InvT-loop
-Inv-loop pairs row block b₀ r₀ b r = Filling (blockLine (pairsPlace pairs row block)) 16 r b
+Inv-loop pairs row block b₀ r₀ b r = Filling (rowWord (pairsPlace pairs row block)) 16 r b
 
 abbrev μ-loop : tie.MeasureT-loop
 μ-loop pairs row block b₀ r₀ b r = 16 - r

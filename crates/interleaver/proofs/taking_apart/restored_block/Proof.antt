@@ -2,7 +2,7 @@
 -- Assumes nothing.
 use Prim.Native.Nat.{_-_}
 use Rattle.bits.specs.Filling.{Filling, fill}
-use Rattle.interleaver.specs.Block.{blockLine, block}
+use Rattle.interleaver.specs.Block.{rowWord, block}
 use Rattle.interleaver.specs.BlockBuffer.{linePlace}
 use Rattle.interleaver.specs.BlockBufferLaws.{restored-of}
 use borrow.Author.Needs.{needs}
@@ -12,7 +12,7 @@ use Rattle.interleaver.proofs.taking_apart.restored_block.Tie as tie
 ruleset kit = (needs, fill, restored-of)
 
 abbrev Inv-loop : tie.InvT-loop
-Inv-loop bits k block b₀ i₀ b i = Filling (blockLine (linePlace bits k block)) 16 i b
+Inv-loop bits k block b₀ i₀ b i = Filling (rowWord (linePlace bits k block)) 16 i b
 
 abbrev μ-loop : tie.MeasureT-loop
 μ-loop bits k block b₀ i₀ b i = 16 - i
