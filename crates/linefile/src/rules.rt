@@ -6,7 +6,7 @@ ghost use Prim.Native.Nat.{_+_, _*_, _^_, _<_, _≤_};
 ghost use lib.ListN.{length, getD};
 ghost use Rattle.linefile.specs.Header.{number as header·number, rulesHold, refused as header·refused, judged};
 
-// What a header says of its file: done with its numbers, or refused with zeros.
+// A header as it is judged: done, with its numbers, or refused, with zeros.
 pub struct Header {
     pub answer: Answer,
     pub superframes: u32,
@@ -54,6 +54,7 @@ fn rules_hold(n: usize, o: usize, f: usize, total: usize, size: usize) -> bool
     total == size
 }
 
+// A refused header: zeros for its numbers.
 pub fn refused(r: Refusal) -> Header
     ensures { λ h. ⌜ h ≡ header·refused r ⌝ }
 {
