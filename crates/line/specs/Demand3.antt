@@ -1,7 +1,6 @@
 -- Demand 3, entire: what is claimed of the four lists together. 01, "Whole runs".
 -- Assumes nothing.
 use mathlib.Core.Path.{_≡_}
-use mathlib.Core.List.{List}
 use Prim.Native.Nat.{ℕ, _*_, _/_, _<_}
 use Rattle.calls.specs.Answers.{Accepted, TurnedBack, valueOr}
 use Rattle.calls.specs.Sequences.{At, accepted}

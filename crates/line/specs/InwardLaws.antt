@@ -11,23 +11,23 @@ use Rattle.bits.specs.Lists.{tabulate}
 use Rattle.bits.specs.ListLaws.{length-tabulate, getD-tabulate}
 use Rattle.bits.specs.Bits.{bit}
 use Rattle.calls.specs.declared.Answer.the-variants.{Done}
-use Rattle.calls.specs.Answers.{refusalOf, valueOr, TurnedBack}
+use Rattle.calls.specs.Answers.{refusalOf}
 use Rattle.calls.specs.Sequences.{At, accepted}
 use Rattle.calls.specs.SequenceLaws.{At-lt}
 use Rattle.ofec.specs.Pairs.{pairBit}
-use Rattle.ofec.specs.Calls.{State, Encoding, Encodings, payloads, Receiving, receive, Receivings}
+use Rattle.ofec.specs.Calls.{State, Encoding, Encodings, payloads, Receivings}
 use Rattle.ofec.specs.CallLaws.{receive-refused, receive-keeps}
 use Rattle.ofec.specs.Promise.{Holds, Takes}
 use Rattle.ofec.specs.PromiseLaws.{promise}
 use Rattle.interleaver.specs.Interleaving.{pairsBit, apart}
 use Rattle.interleaver.specs.InterleavingLaws.{pairsBit-lt, bit-apart}
-use Rattle.interleaver.specs.Calls.{Apart, parted, deinterleave}
+use Rattle.interleaver.specs.Calls.{Apart, parted}
 use Rattle.interleaver.specs.CallLaws.{part-done}
 use Rattle.symbols.specs.Cells.{Legal, illegal, toBits}
 use Rattle.symbols.specs.CellLaws.{toBits-length}
-use Rattle.symbols.specs.Calls.{After, after, cellsToBits}
+use Rattle.symbols.specs.Calls.{After, after}
 use Rattle.symbols.specs.CallLaws.{demap-accepts}
-use Rattle.framing.specs.Frames.{isOverhead, payloadBefore, payloadCells, payloadStart, ownOverhead, unframed, differing, subFrameOf, cellOf}
+use Rattle.framing.specs.Frames.{payloadBefore, payloadStart, ownOverhead, unframed, differing, subFrameOf, cellOf}
 use Rattle.framing.specs.FrameLaws.{own-legal, unframed-at}
 use Rattle.framing.specs.PlaceLaws.{Located, located}
 use Rattle.framing.specs.CallLaws.{unframe-accepts}
@@ -36,7 +36,7 @@ use Rattle.line.specs.Line.{outputBit, lineByte, lineBit}
 use Rattle.line.specs.Outward.{Outward}
 use Rattle.line.specs.Inward.{Heard, unframing, heardByte, bufferCells, demapping, parting, pairsBack, receivedPair, Inward}
 use Rattle.line.specs.Demand3.{Comes}
-use Rattle.line.specs.LineLaws.{encoder-lt, cut-bit, OnLine, byte-lt, byte-cell, byte-half, cell-lt, line-bit}
+use Rattle.line.specs.LineLaws.{cut-bit, OnLine, byte-lt, byte-cell, byte-half, cell-lt, line-bit}
 
 module _ (n : ℕ) (h : Heard n) where
   -- ---- the calls, and the cells that they give

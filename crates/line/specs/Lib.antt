@@ -1,5 +1,7 @@
 -- The statement of demand 3, top down: Demand3 (the claims), Outward and Inward (what goes out and what comes in), Line (the bit that
--- the cells of a line give). The rest are laws.
+-- the cells of a line give), Sides. Theorem is its proof, over LineLaws, OutwardLaws and InwardLaws.
+-- Witness shows that it says something: Runs (what runs are made of), CallLists (calls one after the other, refused ones among them).
+-- BenchValues are those of 01 with a dagger, together.
 pub mod Sides
 pub mod Line
 pub mod Outward
@@ -11,7 +13,8 @@ pub mod InwardLaws
 pub mod Theorem
 pub mod CallLists
 pub mod CallListLaws
-pub mod Witnesses
+pub mod Runs
+pub mod RunLaws
 pub mod WrongLaws
 pub mod Witness
 pub mod BenchValues

@@ -3,7 +3,7 @@
 -- Assumes nothing.
 use mathlib.Core.Path.{_≡_, refl, sym, ap, ap₂, _∙_}
 use mathlib.Core.List.{List, []}
-use Prim.Native.Nat.{ℕ, zero, suc, _+_, _-_, _*_, _/_, _%_, _<_}
+use Prim.Native.Nat.{ℕ, zero, suc, _+_, _*_, _/_, _%_, _<_}
 use native.Mathlib.Nat.{le-of-suc-le-suc}
 use native.Mathlib.Omega.{arith}
 use lib.ListN.{length, getD}
@@ -11,7 +11,7 @@ use Rattle.bits.specs.Lists.{tabulate}
 use Rattle.bits.specs.ListLaws.{getD-tabulate}
 use Rattle.bits.specs.Bits.{bitOf, bit}
 use Rattle.ofec.specs.Pairs.{pairIndex, pairBit}
-use Rattle.interleaver.specs.Interleaving.{pairsBit, pairsOf, outputOf}
+use Rattle.interleaver.specs.Interleaving.{pairsBit, pairsOf}
 use Rattle.interleaver.specs.PositionLaws.{outputFor}
 use Rattle.interleaver.specs.InterleavingLaws.{pairsBit-lt, outputOf-lt, output-for}
 use Rattle.symbols.specs.Cells.{symbol, toBits}

@@ -3,22 +3,21 @@
 use mathlib.Core.Path.{_≡_, refl, sym, ap, ap₂, _∙_}
 use mathlib.Core.Bool.{false}
 use mathlib.Core.List.{List, []}
-use Prim.Native.Nat.{ℕ, _+_, _-_, _*_, _/_, _%_, _<_, _≤_}
+use Prim.Native.Nat.{ℕ, _+_, _*_, _/_, _%_, _<_, _≤_}
 use native.Mathlib.Omega.{arith}
 use borrow.Author.Tests.{lt-leb}
 use lib.ListN.{length, getD}
-use Rattle.bits.specs.Lists.{tabulate}
 use Rattle.bits.specs.ListLaws.{length-tabulate, getD-tabulate, tabulate-below}
 use Rattle.bits.specs.Bits.{bit}
 use Rattle.calls.specs.declared.Answer.the-variants.{Done}
-use Rattle.calls.specs.Answers.{refusalOf, valueOr, TurnedBack}
+use Rattle.calls.specs.Answers.{refusalOf}
 use Rattle.calls.specs.Sequences.{At, accepted}
 use Rattle.calls.specs.SequenceLaws.{At-find, At-map}
 use Rattle.ofec.specs.Pairs.{pairBit}
 use Rattle.ofec.specs.Calls.{State, Encoding, encode, Encodings}
 use Rattle.ofec.specs.CallLaws.{encode-refused, encode-keeps}
 use Rattle.ofec.specs.PromiseLaws.{coded-sent}
-use Rattle.interleaver.specs.Interleaving.{pairsBit, pairsOf, interleaved}
+use Rattle.interleaver.specs.Interleaving.{pairsBit, interleaved}
 use Rattle.interleaver.specs.InterleavingLaws.{length-interleaved, interleaved-below, bit-interleaved-for}
 use Rattle.interleaver.specs.Calls.{Interleaved, joined}
 use Rattle.interleaver.specs.CallLaws.{join-done}
@@ -30,11 +29,11 @@ use Rattle.framing.specs.Frames.{isOverhead, payloadBefore, payloadCells, paylo
 use Rattle.framing.specs.FrameLaws.{own-length, own-legal, framed-length, framed-payload, framed-legal}
 use Rattle.framing.specs.PlaceLaws.{payload-index-lt, Located, located}
 use Rattle.framing.specs.CallLaws.{frame-accepts}
-use Rattle.line.specs.Sides.{Side, side0, side1, encoder, buffers}
+use Rattle.line.specs.Sides.{Side, side0, side1, encoder}
 use Rattle.line.specs.Line.{outputBit, lineByte, lineBit}
 use Rattle.line.specs.Outward.{Outward, codedPairs, pairsOfBuffer, interleaving, mapping, payloadByte, framePayload, framing, frames}
 use Rattle.line.specs.Demand3.{Goes}
-use Rattle.line.specs.LineLaws.{length-buffers, getD-buffers, encoder-lt, pairsOf-side, outputBit-for, pairs-bit, OnLine, byte-lt, byte-cell, byte-half, byte-buffer, byte-place, cell-lt, line-bit}
+use Rattle.line.specs.LineLaws.{length-buffers, getD-buffers, encoder-lt, pairsOf-side, outputBit-for, pairs-bit, OnLine, byte-buffer, byte-place, cell-lt, line-bit}
 
 -- The coded pair of an accepted call stands at its number.
 coded-at : (cs : List Encoding) {P : ℕ} {c : Encoding} → At (accepted Encodings cs) P c → getD (codedPairs cs) P [] ≡ encode c .coded

@@ -3,117 +3,39 @@
 -- Assumes nothing.
 use mathlib.Core.Path.{_≡_, refl, sym, ap, ap₂, _∙_, subst}
 use mathlib.Core.List.{List, [], map}
-use mathlib.Core.Logic.{_≢_}
-use Prim.Native.Nat.{ℕ, suc, _+_, _-_, _*_, _/_, _%_, _<_, _≤_}
+use Prim.Native.Nat.{ℕ, _+_, _-_, _*_, _/_, _%_, _<_, _≤_}
 use native.Mathlib.Omega.{arith}
-use native.Mathlib.Decide.{decLt}
-use lib.ListN.{length, getD, length-map}
-use lib.Seq.{ext-getD}
+use lib.ListN.{length, getD}
 use Rattle.bits.specs.Bits.{bit}
 use Rattle.bits.specs.BitLaws.{pack-below, bits-equal}
-use Rattle.calls.specs.declared.Answer.the-variants.{Done, Refused}
-use Rattle.calls.specs.declared.Refusal.the-variants.{Misfit}
-use Rattle.calls.specs.Answers.{refusalOf, valueOr, Accepted, TurnedBack}
-use Rattle.calls.specs.Sequences.{At, Run, accepted}
+use Rattle.calls.specs.Answers.{TurnedBack}
+use Rattle.calls.specs.Sequences.{At, accepted}
 use Rattle.calls.specs.SequenceLaws.{At-lt, At-find, At-map, is-accepted}
-use Rattle.ofec.specs.Rows.{RowBits, wordOf, payloadIndex}
+use Rattle.ofec.specs.Rows.{payloadIndex}
 use Rattle.ofec.specs.RowLaws.{word-at, backPlace, backPlace-low, backPlace-lt}
 use Rattle.ofec.specs.Pairs.{laidOut, ownIndex, payloadOf}
-use Rattle.ofec.specs.PairLaws.{ownWord, ownPlace, Own, own-from, length-payloadOf}
-use Rattle.ofec.specs.History.{shift}
-use Rattle.ofec.specs.HistoryLaws.{length-fresh, length-shift}
-use Rattle.ofec.specs.Encoding.{encoded}
-use Rattle.ofec.specs.EncodingLaws.{length-encoded, payloadBit-own}
+use Rattle.ofec.specs.PairLaws.{ownWord, ownPlace, own-from, length-payloadOf}
+use Rattle.ofec.specs.EncodingLaws.{payloadBit-own}
 use Rattle.ofec.specs.SentLaws.{madeBits, sent-exists}
-use Rattle.ofec.specs.Receiving.{mendedWord, newestPair, payloadOut}
-use Rattle.ofec.specs.ReceivingLaws.{length-newest}
-use Rattle.ofec.specs.Calls.{State, state, start, Encoded, Encoding, encode, Encodings, Received, Receiving, receive, Receivings, payloads}
-use Rattle.ofec.specs.CallLaws.{EncodeFits, encode-payload, encode-accepted, encode-accepts, ReceiveFits, receive-coded, receive-accepted, receive-accepts}
+use Rattle.ofec.specs.Receiving.{mendedWord, payloadOut}
+use Rattle.ofec.specs.Calls.{start, Encoding, encode, Encodings, Received, Receiving, receive, Receivings, payloads}
+use Rattle.ofec.specs.CallLaws.{encode-accepted, receive-accepted}
 use Rattle.ofec.specs.Promise.{wrongBits, Limit, markOf, NotLost, AsSent}
-use Rattle.ofec.specs.PromiseLaws.{encoder-lent, mark-within, mark-some}
+use Rattle.ofec.specs.PromiseLaws.{mark-within, mark-some}
 use Rattle.symbols.specs.Cells.{Legal}
 use Rattle.line.specs.Sides.{Side}
 use Rattle.line.specs.Line.{lineBit}
-use Rattle.line.specs.Outward.{LentOut, Outward, frames}
-use Rattle.line.specs.Inward.{LentIn, Heard, receivedPair, Inward}
-use Rattle.line.specs.LineLaws.{length-buffers}
+use Rattle.line.specs.Outward.{Outward, frames}
+use Rattle.line.specs.Inward.{LentIn, Heard, Inward}
 use Rattle.line.specs.OutwardLaws.{goes, frames-many, frames-long, frames-legal}
-use Rattle.line.specs.InwardLaws.{length-received, length-payloads, takes, enough, comes}
-use Rattle.line.specs.CallLists.{Among, oneByOne, stateAfter}
-use Rattle.line.specs.CallListLaws.{among-run, among-accepted, among-none, length-oneByOne, made-at, oneByOne-run, oneByOne-accepted}
-use Rattle.line.specs.Witnesses.{Given, encodingOf, encodings, LentBack, receivingOf, receivings, AllBack, OneWrong}
+use Rattle.line.specs.InwardLaws.{length-payloads, takes, enough, comes}
+use Rattle.line.specs.CallLists.{Among, hedged, stateAfter}
+use Rattle.line.specs.CallListLaws.{among-run, among-accepted, among-hedged}
+use Rattle.line.specs.RunLaws.{encodings-run, encodings-accepted, length-encodings, encodings-payloads, within, receivings-run, receivings-accepted, length-receivings, receivings-order}
+use Rattle.line.specs.Runs.{Given, encodingOf, encodings, LentBack, receivingOf, receivings, AllBack, OneWrong}
 use Rattle.line.specs.WrongLaws.{none-wrong, one-wrong}
 
 -- ---- what goes out
-
--- Before call P: a history of the stated length, and pair number P.
-pub record Ready (P : ℕ) (s : State) : Type 0 where
-  pub history : length (s .history) ≡ 5120
-  pub pair : s .pair ≡ P
-
-ready-fresh : Ready 0 start
-ready-fresh = record { history = length-fresh 10; pair = refl }
-
--- There are refused calls of both kinds.
-pub refused-encoding : (c : Encoding) → length (c .payload) ≢ 444 → TurnedBack (encode c .answer)
-unfolding encode
-refused-encoding c n e =
-    omega (arith, ap (λ (a : Encoded). refusalOf (a .answer)) (encode-payload (c .payload) (c .coded) (c .history) (c .pair) n), e)
-
-pub refused-receiving : (c : Receiving) → length (c .coded) ≢ 512 → TurnedBack (receive c .answer)
-unfolding receive
-refused-receiving c n e =
-    omega (arith, ap (λ (a : Received). refusalOf (a .answer)) (receive-coded (c .coded) (c .payload) (c .marks) (c .history) (c .pair) n), e)
-
-module _ (g : Given) (e : Side) where
-  fits : (P : ℕ) (s : State) → P < 168 * g .superframes → Ready P s → EncodeFits (encodingOf g e P s)
-  fits P s l r =
-      record {
-        payload = g .long e P l;
-        coded = g .coded-long e P;
-        history = r .history;
-        pair = λ q. omega (arith, g .within, r .pair, q);
-      }
-
-  accepts : (P : ℕ) (s : State) → P < 168 * g .superframes → Ready P s → Accepted (encode (encodingOf g e P s) .answer)
-  accepts P s l r = encode-accepts (encodingOf g e P s) (fits P s l r)
-
-  leaves : (P : ℕ) (s : State) → P < 168 * g .superframes → Ready P s → Ready (suc P) (Encodings .left (encodingOf g e P s))
-  leaves P s l r =
-      let c = encodingOf g e P s in
-      let is = encode-accepted c (accepts P s l r) .1 in
-      let q = encoded (c .history) (c .pair) (c .payload) in
-      record {
-        history = ap (λ (a : Encoded). length (a .history)) is ∙ length-shift 10 (c .history) q (r .history) (length-encoded (c .history) (c .pair) (c .payload));
-        pair = ap (λ (a : Encoded). valueOr (a .answer) (c .pair)) is ∙ omega (arith, r .pair);
-      }
-
-  encodings-run : Run Encodings start (encodings g e) (stateAfter Encodings (encodingOf g e) (168 * g .superframes) 0 start)
-  unfolding encodings
-  encodings-run =
-      oneByOne-run Encodings (encodingOf g e) Ready (168 * g .superframes) accepts (λ P s. refl) leaves (168 * g .superframes) 0 start (omega arith) ready-fresh
-
-  encodings-accepted : accepted Encodings (encodings g e) ≡ encodings g e
-  unfolding encodings
-  encodings-accepted =
-      oneByOne-accepted Encodings (encodingOf g e) Ready (168 * g .superframes) accepts (λ P s. refl) leaves (168 * g .superframes) 0 start (omega arith) ready-fresh
-
-  length-encodings : length (encodings g e) ≡ 168 * g .superframes
-  unfolding encodings
-  length-encodings = length-oneByOne Encodings (encodingOf g e) (168 * g .superframes) 0 start
-
-  -- Their payloads are those given.
-  encodings-payloads : map (λ (c : Encoding). c .payload) (encodings g e) ≡ g .payloads e
-  unfolding encodings
-  encodings-payloads =
-      ext-getD [] (map (λ (c : Encoding). c .payload) (encodings g e)) (g .payloads e) (long ∙ sym (g .many e))
-      (λ P l.
-      let f = At-find (encodings g e) P (omega (arith, long, length-encodings)) in
-      let m = made-at Encodings (encodingOf g e) (168 * g .superframes) 0 start P (f .0) (f .1) in
-      At-map (λ (c : Encoding). c .payload) [] (f .1) ∙ ap (λ (c : Encoding). c .payload) (m .1) ∙ ap (λ k. getD (g .payloads e) k []) (omega arith))
-    where
-      long : length (map (λ (c : Encoding). c .payload) (encodings g e)) ≡ 168 * g .superframes
-      long = length-map (encodings g e) (λ (c : Encoding). c .payload) ∙ length-encodings
 
 -- For all payloads, and whatever refused calls stand before, between and after, there is a run of what goes out.
 pub goes-out : (g : Given) (calls : Side → List Encoding) → ((e : Side) → Among Encodings (encodings g e) (calls e))
@@ -142,60 +64,6 @@ goes-out g calls among = (
     taken e = among-accepted Encodings (among e) ∙ encodings-accepted g e
 
 -- ---- what comes in
-
--- The pair numbers of what goes out are below 4,294,967,295.
-within : (o : Outward) (e : Side) → 168 * o .superframes ≤ 4294967295
-within o e = go (decLt 4294967295 (168 * o .superframes))
-  where
-    go : Dec (4294967295 < 168 * o .superframes) → 168 * o .superframes ≤ 4294967295
-    go (yes l) =
-        let f = At-find (accepted Encodings (o .calls e)) 4294967295 (omega (arith, o .filled e)) in
-        let number = ap (λ (s : State). s .pair) (encoder-lent (o .calls e) (o .runs e) 4294967295 (f .0) (f .1)) in
-        absurd (encode-accepted (f .0) (is-accepted Encodings (o .calls e) (f .1)) .0 .pair number)
-    go (no l) = omega arith
-
-module _ (n : ℕ) (h : Heard n) (room : LentBack) (small : 168 * n ≤ 4294967295) (e : Side) where
-  fits-back : (P : ℕ) (s : State) → P < 168 * n → Ready P s → ReceiveFits (receivingOf n h room e P s)
-  fits-back P s l r =
-      record {
-        coded = length-received n h e P;
-        payload = room .payload-long e P;
-        marks = room .marks-long e P;
-        history = r .history;
-        pair = λ q. omega (arith, small, r .pair, q);
-      }
-
-  accepts-back : (P : ℕ) (s : State) → P < 168 * n → Ready P s → Accepted (receive (receivingOf n h room e P s) .answer)
-  accepts-back P s l r = receive-accepts (receivingOf n h room e P s) (fits-back P s l r)
-
-  leaves-back : (P : ℕ) (s : State) → P < 168 * n → Ready P s → Ready (suc P) (Receivings .left (receivingOf n h room e P s))
-  leaves-back P s l r =
-      let c = receivingOf n h room e P s in
-      let is = receive-accepted c (accepts-back P s l r) .1 in
-      let q = newestPair (c .history) (c .pair) (c .coded) in
-      record {
-        history = ap (λ (a : Received). length (a .history)) is ∙ length-shift 10 (c .history) q (r .history) (length-newest (c .history) (c .pair) (c .coded));
-        pair = ap (λ (a : Received). valueOr (a .answer) (c .pair)) is ∙ omega (arith, r .pair);
-      }
-
-  receivings-run : Run Receivings start (receivings n h room e) (stateAfter Receivings (receivingOf n h room e) (168 * n) 0 start)
-  unfolding receivings
-  receivings-run = oneByOne-run Receivings (receivingOf n h room e) Ready (168 * n) accepts-back (λ P s. refl) leaves-back (168 * n) 0 start (omega arith) ready-fresh
-
-  receivings-accepted : accepted Receivings (receivings n h room e) ≡ receivings n h room e
-  unfolding receivings
-  receivings-accepted =
-      oneByOne-accepted Receivings (receivingOf n h room e) Ready (168 * n) accepts-back (λ P s. refl) leaves-back (168 * n) 0 start (omega arith) ready-fresh
-
-  length-receivings : length (receivings n h room e) ≡ 168 * n
-  unfolding receivings
-  length-receivings = length-oneByOne Receivings (receivingOf n h room e) (168 * n) 0 start
-
-  receivings-order : (P : ℕ) (c : Receiving) → At (receivings n h room e) P c → c .coded ≡ receivedPair n h e P
-  unfolding receivings
-  receivings-order P c a =
-      let m = made-at Receivings (receivingOf n h room e) (168 * n) 0 start P c a in
-      ap (λ (d : Receiving). d .coded) (m .1) ∙ ap (receivedPair n h e) (omega arith)
 
 -- For all that goes out and every line within the limit, and whatever refused calls stand before, between and after, there are receiving
 -- calls that take all pairs of both encoders.
@@ -332,18 +200,25 @@ payload-whole o i back e P c a bytes =
     given-long =
         ap length (At-map (λ (d : Encoding). d .payload) [] (f .1)) ∙ encode-accepted (f .0) (is-accepted Encodings (o .calls e) (f .1)) .0 .payload
 
--- So for all payloads there are runs, there and back, that take all pairs and bring all payload back.
-pub there-and-back : (g : Given) → LentIn → LentBack
-    → (o : Outward) × (i : Inward o) × ((e : Side) → payloads (o .calls e) ≡ g .payloads e)
+-- So for all payloads there are runs, there and back, that take all pairs and bring all payload back, with any refused call before, between
+-- and after.
+pub there-and-back : (g : Given) → LentIn → LentBack → (x : Encoding) → TurnedBack (encode x .answer) → (y : Receiving) → TurnedBack (receive y .answer)
+    → (o : Outward) × (i : Inward o) × ((e : Side) → o .calls e ≡ hedged Encodings x (encodings g e)) × ((e : Side) → payloads (o .calls e) ≡ g .payloads e)
     × ((e : Side) → length (accepted Receivings (i .calls e)) ≡ 168 * o .superframes) × AllBack o i
-there-and-back g lent room =
-    let out = goes-out g (encodings g) (λ e. among-none Encodings (encodings g e)) in
+there-and-back g lent room x bad y worse =
+    let out = goes-out g (λ e. hedged Encodings x (encodings g e)) (λ e. among-hedged Encodings x bad (encodings g e)) in
     let o = out .0 in
     let h = unaltered o (o .overhead) (o .overhead-long) (o .overhead-legal) lent in
     let back =
-    comes-in o (h .0) (unaltered-limit o (h .0) (h .1)) room (receivings (o .superframes) (h .0) room)
-    (λ e. among-none Receivings (receivings (o .superframes) (h .0) room e)) in
-    (o, back .0, out .3, back .3, all-back o (back .0) (ap (λ (k : Heard (o .superframes)). k .frames) (back .1) ∙ h .1))
+    comes-in o (h .0) (unaltered-limit o (h .0) (h .1)) room (λ e. hedged Receivings y (receivings (o .superframes) (h .0) room e))
+    (λ e. among-hedged Receivings y worse (receivings (o .superframes) (h .0) room e)) in (
+      o,
+      back .0,
+      (λ e. ap (λ (c : Side → List Encoding). c e) (out .2)),
+      out .3,
+      back .3,
+      all-back o (back .0) (ap (λ (k : Heard (o .superframes)). k .frames) (back .1) ∙ h .1),
+    )
 
 -- ---- a line that alters one bit
 

@@ -1,6 +1,6 @@
 -- Laws of wrong bits: none in a line that alters nothing, and at most one in each word where one bit is altered.
 -- Assumes nothing.
-use mathlib.Core.Path.{_≡_, refl, sym, ap, ap₂, _∙_}
+use mathlib.Core.Path.{_≡_, sym, ap, ap₂, _∙_}
 use mathlib.Core.Logic.{_≢_}
 use Prim.Native.Nat.{ℕ, _+_, _-_, _*_, _/_, _%_, _<_, _≤_}
 use native.Mathlib.Omega.{arith}
@@ -11,7 +11,7 @@ use Rattle.bits.specs.Xor.{_⊕_}
 use Rattle.ofec.specs.Rows.{RowBits, frontBit, backBit, wordOf}
 use Rattle.ofec.specs.RowLaws.{xor-16, xor-back, other-pair, word-start, word-front, word-back, Place, zeros, before, own, place, backPlace, backPlace-lt, backPlace-of}
 use Rattle.ofec.specs.Promise.{wrongBits}
-use Rattle.line.specs.Witnesses.{OneWrong}
+use Rattle.line.specs.Runs.{OneWrong}
 
 -- Where all rows agree, no word has a wrong bit.
 pub none-wrong : (S W : RowBits) (n : ℕ) → ((Q C a c : ℕ) → Q < n → C < 8 → a < 16 → c < 16 → W Q C a c ≡ S Q C a c)

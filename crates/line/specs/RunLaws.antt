@@ -1,0 +1,155 @@
+-- Laws of the lists of Runs.antt: each is a run of accepted calls from fresh, with what it was given in order.
+-- Assumes nothing.
+use mathlib.Core.Path.{_≡_, refl, sym, ap, _∙_}
+use mathlib.Core.List.{[], map}
+use mathlib.Core.Logic.{_≢_}
+use Prim.Native.Nat.{ℕ, suc, _*_, _<_, _≤_}
+use native.Mathlib.Omega.{arith}
+use native.Mathlib.Decide.{decLt}
+use lib.ListN.{length, getD, length-map}
+use lib.Seq.{ext-getD}
+use Rattle.calls.specs.Answers.{refusalOf, valueOr, Accepted, TurnedBack}
+use Rattle.calls.specs.Sequences.{At, Run, accepted}
+use Rattle.calls.specs.SequenceLaws.{At-find, At-map, is-accepted}
+use Rattle.ofec.specs.HistoryLaws.{length-fresh, length-shift}
+use Rattle.ofec.specs.Encoding.{encoded}
+use Rattle.ofec.specs.EncodingLaws.{length-encoded}
+use Rattle.ofec.specs.Receiving.{newestPair}
+use Rattle.ofec.specs.ReceivingLaws.{length-newest}
+use Rattle.ofec.specs.Calls.{State, start, Encoded, Encoding, encode, Encodings, Received, Receiving, receive, Receivings, payloads}
+use Rattle.ofec.specs.CallLaws.{EncodeFits, encode-payload, encode-accepted, encode-accepts, ReceiveFits, receive-coded, receive-accepted, receive-accepts}
+use Rattle.ofec.specs.PromiseLaws.{encoder-lent}
+use Rattle.line.specs.Sides.{Side}
+use Rattle.line.specs.Outward.{Outward}
+use Rattle.line.specs.Inward.{Heard, receivedPair}
+use Rattle.line.specs.InwardLaws.{length-received}
+use Rattle.line.specs.CallLists.{stateAfter}
+use Rattle.line.specs.CallListLaws.{length-oneByOne, made-at, oneByOne-run, oneByOne-accepted}
+use Rattle.line.specs.Runs.{Given, encodingOf, encodings, LentBack, receivingOf, receivings}
+
+-- ---- encoding
+
+-- Before call P: a history of the stated length, and pair number P.
+pub record Ready (P : ℕ) (s : State) : Type 0 where
+  pub history : length (s .history) ≡ 5120
+  pub pair : s .pair ≡ P
+
+ready-fresh : Ready 0 start
+ready-fresh = record { history = length-fresh 10; pair = refl }
+
+-- There are refused calls of both kinds.
+pub refused-encoding : (c : Encoding) → length (c .payload) ≢ 444 → TurnedBack (encode c .answer)
+unfolding encode
+refused-encoding c n e =
+    omega (arith, ap (λ (a : Encoded). refusalOf (a .answer)) (encode-payload (c .payload) (c .coded) (c .history) (c .pair) n), e)
+
+pub refused-receiving : (c : Receiving) → length (c .coded) ≢ 512 → TurnedBack (receive c .answer)
+unfolding receive
+refused-receiving c n e =
+    omega (arith, ap (λ (a : Received). refusalOf (a .answer)) (receive-coded (c .coded) (c .payload) (c .marks) (c .history) (c .pair) n), e)
+
+module _ (g : Given) (e : Side) where
+  fits : (P : ℕ) (s : State) → P < 168 * g .superframes → Ready P s → EncodeFits (encodingOf g e P s)
+  fits P s l r =
+      record {
+        payload = g .long e P l;
+        coded = g .coded-long e P;
+        history = r .history;
+        pair = λ q. omega (arith, g .within, r .pair, q);
+      }
+
+  accepts : (P : ℕ) (s : State) → P < 168 * g .superframes → Ready P s → Accepted (encode (encodingOf g e P s) .answer)
+  accepts P s l r = encode-accepts (encodingOf g e P s) (fits P s l r)
+
+  leaves : (P : ℕ) (s : State) → P < 168 * g .superframes → Ready P s → Ready (suc P) (Encodings .left (encodingOf g e P s))
+  leaves P s l r =
+      let c = encodingOf g e P s in
+      let is = encode-accepted c (accepts P s l r) .1 in
+      let q = encoded (c .history) (c .pair) (c .payload) in
+      record {
+        history = ap (λ (a : Encoded). length (a .history)) is ∙ length-shift 10 (c .history) q (r .history) (length-encoded (c .history) (c .pair) (c .payload));
+        pair = ap (λ (a : Encoded). valueOr (a .answer) (c .pair)) is ∙ omega (arith, r .pair);
+      }
+
+  pub encodings-run : Run Encodings start (encodings g e) (stateAfter Encodings (encodingOf g e) (168 * g .superframes) 0 start)
+  unfolding encodings
+  encodings-run =
+      oneByOne-run Encodings (encodingOf g e) Ready (168 * g .superframes) accepts (λ P s. refl) leaves (168 * g .superframes) 0 start (omega arith) ready-fresh
+
+  pub encodings-accepted : accepted Encodings (encodings g e) ≡ encodings g e
+  unfolding encodings
+  encodings-accepted =
+      oneByOne-accepted Encodings (encodingOf g e) Ready (168 * g .superframes) accepts (λ P s. refl) leaves (168 * g .superframes) 0 start (omega arith) ready-fresh
+
+  pub length-encodings : length (encodings g e) ≡ 168 * g .superframes
+  unfolding encodings
+  length-encodings = length-oneByOne Encodings (encodingOf g e) (168 * g .superframes) 0 start
+
+  -- Their payloads are those given.
+  pub encodings-payloads : map (λ (c : Encoding). c .payload) (encodings g e) ≡ g .payloads e
+  unfolding encodings
+  encodings-payloads =
+      ext-getD [] (map (λ (c : Encoding). c .payload) (encodings g e)) (g .payloads e) (long ∙ sym (g .many e))
+      (λ P l.
+      let f = At-find (encodings g e) P (omega (arith, long, length-encodings)) in
+      let m = made-at Encodings (encodingOf g e) (168 * g .superframes) 0 start P (f .0) (f .1) in
+      At-map (λ (c : Encoding). c .payload) [] (f .1) ∙ ap (λ (c : Encoding). c .payload) (m .1) ∙ ap (λ k. getD (g .payloads e) k []) (omega arith))
+    where
+      long : length (map (λ (c : Encoding). c .payload) (encodings g e)) ≡ 168 * g .superframes
+      long = length-map (encodings g e) (λ (c : Encoding). c .payload) ∙ length-encodings
+
+-- ---- receiving
+
+-- The pair numbers of what goes out are below 4,294,967,295.
+pub within : (o : Outward) (e : Side) → 168 * o .superframes ≤ 4294967295
+within o e = go (decLt 4294967295 (168 * o .superframes))
+  where
+    go : Dec (4294967295 < 168 * o .superframes) → 168 * o .superframes ≤ 4294967295
+    go (yes l) =
+        let f = At-find (accepted Encodings (o .calls e)) 4294967295 (omega (arith, o .filled e)) in
+        let number = ap (λ (s : State). s .pair) (encoder-lent (o .calls e) (o .runs e) 4294967295 (f .0) (f .1)) in
+        absurd (encode-accepted (f .0) (is-accepted Encodings (o .calls e) (f .1)) .0 .pair number)
+    go (no l) = omega arith
+
+module _ (n : ℕ) (h : Heard n) (room : LentBack) (small : 168 * n ≤ 4294967295) (e : Side) where
+  fits-back : (P : ℕ) (s : State) → P < 168 * n → Ready P s → ReceiveFits (receivingOf n h room e P s)
+  fits-back P s l r =
+      record {
+        coded = length-received n h e P;
+        payload = room .payload-long e P;
+        marks = room .marks-long e P;
+        history = r .history;
+        pair = λ q. omega (arith, small, r .pair, q);
+      }
+
+  accepts-back : (P : ℕ) (s : State) → P < 168 * n → Ready P s → Accepted (receive (receivingOf n h room e P s) .answer)
+  accepts-back P s l r = receive-accepts (receivingOf n h room e P s) (fits-back P s l r)
+
+  leaves-back : (P : ℕ) (s : State) → P < 168 * n → Ready P s → Ready (suc P) (Receivings .left (receivingOf n h room e P s))
+  leaves-back P s l r =
+      let c = receivingOf n h room e P s in
+      let is = receive-accepted c (accepts-back P s l r) .1 in
+      let q = newestPair (c .history) (c .pair) (c .coded) in
+      record {
+        history = ap (λ (a : Received). length (a .history)) is ∙ length-shift 10 (c .history) q (r .history) (length-newest (c .history) (c .pair) (c .coded));
+        pair = ap (λ (a : Received). valueOr (a .answer) (c .pair)) is ∙ omega (arith, r .pair);
+      }
+
+  pub receivings-run : Run Receivings start (receivings n h room e) (stateAfter Receivings (receivingOf n h room e) (168 * n) 0 start)
+  unfolding receivings
+  receivings-run = oneByOne-run Receivings (receivingOf n h room e) Ready (168 * n) accepts-back (λ P s. refl) leaves-back (168 * n) 0 start (omega arith) ready-fresh
+
+  pub receivings-accepted : accepted Receivings (receivings n h room e) ≡ receivings n h room e
+  unfolding receivings
+  receivings-accepted =
+      oneByOne-accepted Receivings (receivingOf n h room e) Ready (168 * n) accepts-back (λ P s. refl) leaves-back (168 * n) 0 start (omega arith) ready-fresh
+
+  pub length-receivings : length (receivings n h room e) ≡ 168 * n
+  unfolding receivings
+  length-receivings = length-oneByOne Receivings (receivingOf n h room e) (168 * n) 0 start
+
+  pub receivings-order : (P : ℕ) (c : Receiving) → At (receivings n h room e) P c → c .coded ≡ receivedPair n h e P
+  unfolding receivings
+  receivings-order P c a =
+      let m = made-at Receivings (receivingOf n h room e) (168 * n) 0 start P c a in
+      ap (λ (d : Receiving). d .coded) (m .1) ∙ ap (receivedPair n h e) (omega arith)
