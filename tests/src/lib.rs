@@ -3,6 +3,7 @@
 
 pub mod bits;
 pub mod cells;
+pub mod chain;
 pub mod compare;
 pub mod ffi;
 pub mod frames;

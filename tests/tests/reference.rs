@@ -1,11 +1,13 @@
 //! The reference by itself.
 
 use ofec_tests::cells;
+use ofec_tests::chain::places::{self, in_back, in_front, on_line, words_of, Name};
+use ofec_tests::chain::SUPERFRAME_PAIRS;
 use ofec_tests::frames::{self, SUBFRAMES, SUBFRAME_CELLS};
 use ofec_tests::interleaver::{source, BUFFER_BITS};
 use ofec_tests::random::Random;
-use ofec_tests::rows::{self, BIT_ROWS};
-use ofec_tests::word::{self, Trial, Word, FREE_BITS, GENERATOR, WORD_BITS};
+use ofec_tests::rows::{self, Place, BIT_ROWS, FIRST_FULL_ROW};
+use ofec_tests::word::{self, Trial, Word, BACK, FREE_BITS, GENERATOR, WORD_BITS};
 
 #[test]
 fn generator_is_the_product_of_its_two_factors() {
@@ -144,4 +146,71 @@ fn cells_of_a_super_frame_are_as_many_as_stated() {
         payload += SUBFRAME_CELLS - own;
     }
     assert_eq!((overhead, payload), (6_144, 172_032));
+}
+
+#[test]
+fn output_bit_of_a_place_is_the_one_that_comes_from_it() {
+    for n in 0..BUFFER_BITS {
+        let from = source(n);
+        let place = Place {
+            row: 0,
+            block: from.block,
+            bit_row: from.bit_row,
+            column: from.column,
+        };
+        assert_eq!(places::output_bit(from.encoder, from.row, place), n);
+    }
+}
+
+#[test]
+fn bits_of_a_super_frame_fill_its_payload_cells() {
+    let mut seen = vec![0_u8; SUBFRAMES as usize * SUBFRAME_CELLS];
+    for word in places::words(SUPERFRAME_PAIRS) {
+        for place in (BACK..WORD_BITS).map(|k| word.bit(k)) {
+            for encoder in [0, 1] {
+                let at = on_line(encoder, place);
+                assert_eq!(seen[at.cell] >> at.bit & 1, 0);
+                seen[at.cell] |= 1 << at.bit;
+                // The same in the super-frame after the next.
+                let later = Place {
+                    row: place.row + 4 * SUPERFRAME_PAIRS as i64,
+                    ..place
+                };
+                let then = on_line(encoder, later);
+                assert_eq!(then.cell, at.cell + 2 * seen.len());
+                assert_eq!(then.bit, at.bit);
+            }
+        }
+    }
+    for (cell, &bits) in seen.iter().enumerate() {
+        let number = (cell / SUBFRAME_CELLS) as u32;
+        let overhead = frames::is_overhead(number, cell % SUBFRAME_CELLS);
+        assert_eq!(bits, if overhead { 0 } else { 255 });
+    }
+}
+
+#[test]
+fn words_that_hold_a_bit() {
+    for word in (0..30).flat_map(words_of) {
+        for k in BACK..WORD_BITS {
+            assert_eq!(in_back(word.bit(k)), word);
+        }
+        for k in 0..BACK {
+            if word.row >= FIRST_FULL_ROW {
+                assert_eq!(in_front(word.bit(k)), Some(word));
+            }
+        }
+    }
+    let v = |row, block, bit_row, column| Place {
+        row,
+        block,
+        bit_row,
+        column,
+    };
+    let word = Name { row: 21, r: 5 };
+    assert_eq!(in_front(v(14, 7, 2, 5)), Some(word));
+    assert_eq!(word.bit(119), v(14, 7, 2, 5));
+    for (bit_row, column) in (0..256).map(|both| (both / 16, both % 16)) {
+        assert_eq!(in_front(v(13, 7, bit_row, column)), None);
+    }
 }

@@ -1,0 +1,181 @@
+//! From payload to frames: two lists of encoding calls, interleaving, cells, framing.
+
+use crate::cells::CELLS_BYTES;
+use crate::chain::calls::Calls;
+use crate::chain::refused::{refused_framing, refused_misfit, refused_pair};
+use crate::chain::{difference, Difference, SUPERFRAME_BUFFERS, SUPERFRAME_BYTES};
+use crate::frames::{payload_bytes, FRAME_BYTES, SUBFRAMES};
+use crate::interleaver::{BUFFER_BYTES, PAIRS_BYTES};
+use crate::outcome::{Outcome, MISFIT};
+use crate::random::Random;
+use crate::rows::{HISTORY_BYTES, PAIR_BYTES, PAYLOAD_BYTES};
+
+/// What one side made of two streams of payload, stage by stage.
+pub struct Sent {
+    /// The coded pairs of each encoder.
+    pub coded: [Vec<u8>; 2],
+    /// The history that each accepted call of an encoder returned.
+    pub histories: [Vec<u8>; 2],
+    pub bits: Vec<u8>,
+    pub cells: Vec<u8>,
+    pub frames: Vec<u8>,
+}
+
+impl Sent {
+    pub fn difference(&self, other: &Sent) -> Option<Difference> {
+        let coded = [0, 1].map(|e| [&self.coded[e][..], &other.coded[e]]);
+        let histories = [0, 1].map(|e| [&self.histories[e][..], &other.histories[e]]);
+        [
+            ("coded pairs of encoder 0", coded[0]),
+            ("coded pairs of encoder 1", coded[1]),
+            ("histories of encoder 0", histories[0]),
+            ("histories of encoder 1", histories[1]),
+            ("bits", [&self.bits, &other.bits]),
+            ("cells", [&self.cells, &other.cells]),
+            ("frames", [&self.frames, &other.frames]),
+        ]
+        .into_iter()
+        .find_map(|(stage, [own, other])| difference(stage, own, other))
+    }
+}
+
+/// Sends both payloads, whole super-frames of equal number. What is lent for writing, the refused calls
+/// and the order of the two lists' calls are random.
+pub fn send(calls: &Calls, payloads: [&[u8]; 2], overhead: &[u8], random: &mut Random) -> Sent {
+    let pairs = payloads.map(|payload| payload.len() / PAYLOAD_BYTES);
+    let mut coded = pairs.map(|pairs| random.bytes(PAIR_BYTES * pairs));
+    let mut histories = [Vec::new(), Vec::new()];
+    let mut lists = [List::fresh(), List::fresh()];
+    for encoder in order(pairs, random) {
+        let list = &mut lists[encoder];
+        let pair = list.pair as usize;
+        let payload = &payloads[encoder][PAYLOAD_BYTES * pair..][..PAYLOAD_BYTES];
+        let place = &mut coded[encoder][PAIR_BYTES * pair..][..PAIR_BYTES];
+        list.refused_encoding(calls, payload, place, random);
+        let outcome = (calls.encode_pair)(payload, place, &mut list.history, list.pair);
+        list.accept(outcome);
+        histories[encoder].extend(&list.history);
+    }
+    for list in &mut lists {
+        let (payload, mut place) = (random.bytes(PAYLOAD_BYTES), random.bytes(PAIR_BYTES));
+        list.refused_encoding(calls, &payload, &mut place, random);
+    }
+    let bits = interleave(calls, &coded, random);
+    let cells = bits_to_cells(calls, &bits, random);
+    let frames = frame(calls, &cells, overhead, random);
+    Sent {
+        coded,
+        histories,
+        bits,
+        cells,
+        frames,
+    }
+}
+
+/// The history and pair number of one list of calls.
+pub struct List {
+    pub history: Vec<u8>,
+    pub pair: u32,
+}
+
+impl List {
+    pub fn fresh() -> Self {
+        List {
+            history: vec![0; HISTORY_BYTES],
+            pair: 0,
+        }
+    }
+
+    pub fn accept(&mut self, outcome: Outcome) {
+        assert_eq!(outcome, Outcome::accepted(self.pair + 1));
+        self.pair = outcome.value;
+    }
+
+    /// None, one or several.
+    fn refused_encoding(
+        &mut self,
+        calls: &Calls,
+        payload: &[u8],
+        coded: &mut [u8],
+        random: &mut Random,
+    ) {
+        while random.between(0, 4) == 0 {
+            let own = [&mut payload.to_vec(), &mut *coded, &mut self.history];
+            refused_pair(
+                self.pair,
+                own,
+                random,
+                |[payload, coded, history], number| {
+                    (calls.encode_pair)(payload, coded, history, number)
+                },
+            );
+        }
+    }
+}
+
+/// So many calls of each of two lists, in any order.
+pub fn order(mut calls: [usize; 2], random: &mut Random) -> Vec<usize> {
+    let mut order = Vec::new();
+    while calls != [0, 0] {
+        let list = usize::from(random.between(0, calls[0] + calls[1]) >= calls[0]);
+        calls[list] -= 1;
+        order.push(list);
+    }
+    order
+}
+
+fn interleave(calls: &Calls, coded: &[Vec<u8>; 2], random: &mut Random) -> Vec<u8> {
+    let buffers = coded[0].len() / PAIRS_BYTES;
+    let mut bits = random.bytes(BUFFER_BYTES * buffers);
+    for (buffer, place) in bits.chunks_mut(BUFFER_BYTES).enumerate() {
+        let [pairs0, pairs1] = [0, 1].map(|e| &coded[e][PAIRS_BYTES * buffer..][..PAIRS_BYTES]);
+        if random.bit() {
+            let own = [&mut pairs0.to_vec(), &mut pairs1.to_vec(), &mut *place];
+            let expected = Outcome::refused(MISFIT);
+            refused_misfit(expected, own, random, |[pairs0, pairs1, bits]| {
+                (calls.interleave)(pairs0, pairs1, bits)
+            });
+        }
+        let outcome = (calls.interleave)(pairs0, pairs1, place);
+        assert_eq!(outcome, Outcome::accepted(0));
+    }
+    bits
+}
+
+fn bits_to_cells(calls: &Calls, bits: &[u8], random: &mut Random) -> Vec<u8> {
+    let mut cells = random.bytes(2 * bits.len());
+    for (bits, place) in bits.chunks(BUFFER_BYTES).zip(cells.chunks_mut(CELLS_BYTES)) {
+        if random.bit() {
+            let own = [&mut bits.to_vec(), &mut *place];
+            let expected = Outcome::refused(MISFIT);
+            refused_misfit(expected, own, random, |[bits, cells]| {
+                (calls.bits_to_cells)(bits, cells)
+            });
+        }
+        let outcome = (calls.bits_to_cells)(bits, place);
+        assert_eq!(outcome, Outcome::accepted(0));
+    }
+    cells
+}
+
+fn frame(calls: &Calls, cells: &[u8], overhead: &[u8], random: &mut Random) -> Vec<u8> {
+    let superframes = cells.len() / (SUPERFRAME_BUFFERS * CELLS_BYTES);
+    let mut frames = random.bytes(SUPERFRAME_BYTES * superframes);
+    let mut rest = cells;
+    for (number, place) in numbered(superframes).zip(frames.chunks_mut(FRAME_BYTES)) {
+        let own;
+        (own, rest) = rest.split_at(payload_bytes(number));
+        if random.bit() {
+            refused_framing(calls.frame, number, [own, overhead], place, random);
+        }
+        let outcome = (calls.frame)(number, own, overhead, place);
+        assert_eq!(outcome, Outcome::accepted(0));
+    }
+    assert!(rest.is_empty());
+    frames
+}
+
+/// The numbers of the sub-frames, one super-frame after another.
+pub fn numbered(superframes: usize) -> impl Iterator<Item = u32> {
+    (0..superframes).flat_map(|_| 0..SUBFRAMES)
+}
