@@ -3,7 +3,7 @@
 use mathlib.Core.Bool.{true}
 use Rattle.bch.specs.BenchValues.{only-238, two-flips-mark, two-flips-word, three-flips}
 use Rattle.ofec.specs.Bench.{word-20-0-first, word-20-0-last, word-21-5-119, in-no-front, payload-index-3087, payload-index-3551, payload-index-3552}
-use Rattle.interleaver.specs.BenchValues.{bench-1, bench-16, bench-32, bench-172031}
+use Rattle.interleaver.specs.BenchValues as Output
 use Rattle.symbols.specs.BenchValues.{bench-cells}
 use Rattle.line.specs.BenchValues.{BenchValues}
 
@@ -21,9 +21,9 @@ bench-values =
       payload-3087 = payload-index-3087;
       payload-3551 = payload-index-3551;
       payload-3552 = payload-index-3552;
-      output-1 = bench-1;
-      output-16 = bench-16;
-      output-32 = bench-32;
-      output-172031 = bench-172031;
+      output-1 = Output.bench-values .0;
+      output-16 = Output.bench-values .1;
+      output-32 = Output.bench-values .2;
+      output-172031 = Output.bench-values .3;
       cells = bench-cells;
     }

@@ -9,7 +9,7 @@ use Rattle.bch.specs.Repair.{repaired, mark, repair}
 use Rattle.bch.specs.declared.Repair.the-variants.{Lost}
 use Rattle.bch.specs.BenchValues.{setAt}
 use Rattle.ofec.specs.Rows.{RowBits, wordOf, payloadIndex}
-use Rattle.interleaver.specs.BenchValues.{At}
+use Rattle.interleaver.specs.BenchValues.{ComesFrom}
 use Rattle.symbols.specs.Cells.{toCells}
 
 pub record BenchValues : Type 0 where
@@ -34,10 +34,10 @@ pub record BenchValues : Type 0 where
   pub payload-3551 : payloadIndex 1 15 110 ≡ 3551
   pub payload-3552 : payloadIndex 2 0 0 ≡ 3552
   -- "Output bits: n=1 is encoder 0, R=0, C=0, (14,15); n=16 is encoder 0, R=21, (0,0); n=32 is (15,7); n=172031 is encoder 1, R=41,
-  -- C=7, (0,15)." In `At n e R C r c` output bit n is bit (R, C, r, c) of encoder e.
-  pub output-1 : At 1 0 0 0 14 15
-  pub output-16 : At 16 0 21 0 0 0
-  pub output-32 : At 32 0 0 0 15 7
-  pub output-172031 : At 172031 1 41 7 0 15
+  -- C=7, (0,15)." In `ComesFrom n e R C r c` output bit n is bit (R, C, r, c) of encoder e.
+  pub output-1 : ComesFrom 1 0 0 0 14 15
+  pub output-16 : ComesFrom 16 0 21 0 0 0
+  pub output-32 : ComesFrom 32 0 0 0 15 7
+  pub output-172031 : ComesFrom 172031 1 41 7 0 15
   -- "Bytes to cells: 255 gives 10, 10; 128 gives 12, 0; 8 gives 3, 0; 1 gives 0, 1."
   pub cells : toCells (255 ∷ 128 ∷ 8 ∷ 1 ∷ []) ≡ 10 ∷ 10 ∷ 12 ∷ 0 ∷ 3 ∷ 0 ∷ 0 ∷ 1 ∷ []
