@@ -609,8 +609,13 @@ fn senders_with_a_fault_of_their_own() {
 }
 
 #[test]
-fn wrong_number_of_differing_cells() {
-    let calls = Calls {
+fn takers_with_a_fault_of_their_own() {
+    let taken_by = |calls: Calls| {
+        let mut random = Random::new(20_700);
+        take(&calls, &SOUND.frames, &SOUND.overhead, &mut random)
+    };
+    let sound = taken_by(LIBRARY);
+    let wrong_number = Calls {
         unframe: |number, frame, overhead, payload| {
             let outcome = (LIBRARY.unframe)(number, frame, overhead, payload);
             let wrong = u32::from(outcome.refusal == 0 && number == 17);
@@ -621,15 +626,40 @@ fn wrong_number_of_differing_cells() {
         },
         ..LIBRARY
     };
-    let [sound, faulty] = [LIBRARY, calls].map(|calls| {
-        let mut random = Random::new(20_700);
-        take(&calls, &SOUND.frames, &SOUND.overhead, &mut random)
-    });
-    let expected = Difference {
-        stage: "differing cells",
-        index: 17,
+    let wrong_cell = Calls {
+        unframe: |number, frame, overhead, payload| {
+            let outcome = (LIBRARY.unframe)(number, frame, overhead, payload);
+            if outcome.refusal == 0 && number == 1 {
+                payload[9] ^= 1;
+            }
+            outcome
+        },
+        ..LIBRARY
     };
-    assert_eq!(faulty.difference(&sound), Some(expected));
+    let bits_reversed = Calls {
+        cells_to_bits: |cells, bits| {
+            let outcome = (LIBRARY.cells_to_bits)(cells, bits);
+            if outcome.refusal == 0 {
+                bits.iter_mut().for_each(|byte| *byte = byte.reverse_bits());
+            }
+            outcome
+        },
+        ..LIBRARY
+    };
+    let encoders_crossed = Calls {
+        deinterleave: |bits, pairs0, pairs1| (LIBRARY.deinterleave)(bits, pairs1, pairs0),
+        ..LIBRARY
+    };
+    for (calls, stage, index) in [
+        (wrong_number, "differing cells", Some(17)),
+        (wrong_cell, "payload cells", Some(6_980 + 9)),
+        (bits_reversed, "bits taken", None),
+        (encoders_crossed, "received pairs of encoder 0", None),
+    ] {
+        let found = taken_by(calls).difference(&sound).expect("a difference");
+        assert_eq!(found.stage, stage);
+        assert_eq!(found.index, index.unwrap_or(found.index));
+    }
 }
 
 #[test]
