@@ -24,6 +24,12 @@ unfolding count
 count-mono zero f g h = omega arith
 count-mono (suc n) f g h = omega (arith, count-mono n f g (λ k l. h k (omega arith)), h n (omega arith))
 
+-- A count of 0s and 1s is at most the number of places.
+pub count-le : (n : ℕ) (f : ℕ → ℕ) → ((k : ℕ) → f k ≤ 1) → count n f ≤ n
+unfolding count
+count-le zero f h = omega arith
+count-le (suc n) f h = omega (arith, count-le n f h, h n)
+
 pub count-add : (n : ℕ) (f g : ℕ → ℕ) → count n (λ k. f k + g k) ≡ count n f + count n g
 unfolding count
 count-add zero f g = refl

@@ -9,6 +9,9 @@ pub mod Xor
 pub mod XorLaws
 pub mod FlipLaws
 pub mod Tests
+pub mod TestLaws
+pub mod Least
+pub mod LeastLaws
 pub mod Filling
 pub mod Gathering
 pub mod Seeking

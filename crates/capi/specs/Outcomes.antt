@@ -7,8 +7,8 @@ use borrow.Author.Tests.{eq-eqb, ne-eqb}
 use lib.Dec.{eqb}
 use Rattle.calls.specs.declared.Answer.{Answer}
 use Rattle.calls.specs.Answers.{refusalOf, indexOf, valueOr}
-use Rattle.linefile.specs.declared.rules.Header.{Header}
-use Rattle.linefile.specs.Reading.{startOf}
+use Rattle.lineformat.specs.declared.Header.{Header}
+use Rattle.lineformat.specs.Reading.{startOf}
 use Rattle.capi.specs.declared.Outcome.{Outcome}
 use Rattle.capi.specs.declared.Line.{Line}
 

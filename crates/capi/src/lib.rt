@@ -3,12 +3,12 @@ use calls::Answer;
 ghost use mathlib.Core.Path.{_≡_};
 ghost use Rattle.checkword.specs.Calls.{repairCall};
 ghost use Rattle.ofec.specs.Calls.{encodeCall, receiveCall};
-ghost use Rattle.interleaver.specs.Calls.{interleave, deinterleave};
-ghost use Rattle.symbols.specs.Calls.{bitsToCells, cellsToBits};
-ghost use Rattle.framing.specs.Calls.{frameCall, unframeCall};
-ghost use Rattle.linefile.specs.Opening.{headerOf};
-ghost use Rattle.linefile.specs.Reading.{readAnswer};
-ghost use Rattle.linefile.specs.Writing.{writeCall};
+ghost use Rattle.interleaving.specs.Calls.{interleave, deinterleave};
+ghost use Rattle.cells.specs.Calls.{bitsToCells, cellsToBits};
+ghost use Rattle.frames.specs.Calls.{frameCall, unframeCall};
+ghost use Rattle.lineformat.specs.Opening.{headerOf};
+ghost use Rattle.lineformat.specs.Reading.{readAnswer};
+ghost use Rattle.lineformat.specs.Writing.{writeCall};
 ghost use Rattle.capi.specs.Outcomes.{outcomeOf, flag, lineOf, stretchOf};
 
 // What an exported call answers: the refusal's number or 0, the call's own number, and the index of refusal 5.

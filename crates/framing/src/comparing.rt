@@ -4,7 +4,7 @@ use crate::layout::gap;
 ghost use mathlib.Core.Path.{_≡_};
 ghost use Prim.Native.Nat.{_+_, _*_, _<_};
 ghost use lib.ListN.{length};
-ghost use Rattle.framing.specs.Frames.{overheadCells, cellDiffers, overheadDiffers, differing};
+ghost use Rattle.frames.specs.Frames.{overheadCells, cellDiffers, overheadDiffers, differing};
 
 // 1 where cell i of one buffer and cell k of another differ, and 0 otherwise.
 fn cell_differs(a: &[u8], i: usize, b: &[u8], k: usize) -> u32

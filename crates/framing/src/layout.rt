@@ -2,8 +2,8 @@
 ghost use mathlib.Core.Path.{_≡_};
 ghost use Prim.Native.Nat.{_+_, _*_, _<_, _≤_};
 ghost use lib.ListN.{length};
-ghost use Rattle.framing.specs.Frames.{overheadCells, payloadCells, overheadStart, ownOverhead};
-ghost use Rattle.framing.specs.Layout.{edge, gap};
+ghost use Rattle.frames.specs.Frames.{overheadCells, payloadCells, overheadStart, ownOverhead};
+ghost use Rattle.frames.specs.Layout.{edge, gap};
 
 // The training cells are those below this one; in sub-frame 0 the overhead runs on.
 const TRAINING: usize = 11;

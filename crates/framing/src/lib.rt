@@ -6,8 +6,8 @@ mod placing;
 use calls::Answer;
 use calls::Refusal;
 ghost use mathlib.Core.Path.{_≡_};
-ghost use Rattle.symbols.specs.Calls.{after};
-ghost use Rattle.framing.specs.Calls.{frameCall, unframeCall};
+ghost use Rattle.cells.specs.Calls.{after};
+ghost use Rattle.frames.specs.Calls.{frameCall, unframeCall};
 
 // The bytes of the overhead list: 6,144 cells.
 const OVERHEAD: usize = 12288;

@@ -4,7 +4,7 @@ use crate::layout::gap;
 ghost use mathlib.Core.Path.{_≡_};
 ghost use Prim.Native.Nat.{_+_, _*_, _/_, _%_, _<_};
 ghost use lib.ListN.{length};
-ghost use Rattle.framing.specs.Frames.{overheadCells, payloadCells, frameByte, framed, payloadAt, unframed};
+ghost use Rattle.frames.specs.Frames.{overheadCells, payloadCells, frameByte, framed, payloadAt, unframed};
 
 // Byte h of cell m of a sub-frame.
 fn frame_byte(number: u32, payload: &[u8], own: &[u8], m: usize, h: usize) -> u8

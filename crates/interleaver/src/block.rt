@@ -1,8 +1,8 @@
 // A block of sixteen 16-bit rows, by value: reordered and restored.
 ghost use mathlib.Core.Path.{_≡_};
 ghost use Prim.Native.Nat.{_<_};
-ghost use Rattle.interleaver.specs.Block.{bitAt, rowWord, reorderedBit, reordered, restoredBit, restored};
-use crate::rows::BitRow;
+ghost use Rattle.interleaving.specs.Block.{bitAt, rowWord, reorderedBit, reordered, restoredBit, restored};
+use interleaving::BitRow;
 
 // The bit at bit row i, column j.
 fn bit_at(b: &[u16; 16], i: BitRow, j: usize) -> u16

@@ -1,9 +1,9 @@
 // The 672 blocks of a buffer, 8 to a block row.
 ghost use mathlib.Core.Path.{_≡_};
 ghost use Prim.Native.Nat.{_<_};
-ghost use Rattle.interleaver.specs.BlockBuffer.{heldRow};
-use crate::rows::BitRow;
-use crate::rows::BlockRow;
+ghost use Rattle.interleaving.specs.BlockBuffer.{heldRow};
+use interleaving::BitRow;
+use interleaving::BlockRow;
 
 // Bit row i of block C of a block row.
 pub fn held_row(blocks: &[[u16; 16]; 672], k: BlockRow, block: usize, i: BitRow) -> u16

@@ -1,10 +1,10 @@
 // The interleaver: 21 pairs of each encoder to the bits of a buffer, and back.
 ghost use mathlib.Core.Path.{_≡_};
-ghost use Rattle.interleaver.specs.Calls.{joined, interleave, parted, deinterleave};
+ghost use Rattle.interleaving.specs.Calls.{joined, interleave, parted, deinterleave};
 
 pub mod block;
 mod buffer;
-mod interleaving;
+mod joining;
 pub mod rows;
 mod taking_apart;
 
@@ -24,8 +24,8 @@ pub fn interleave(pairs0: &[u8], pairs1: &[u8], bits: &mut [u8]) -> Answer
     if bits.len() != 21504 {
         return Answer::Refused(Refusal::Misfit);
     }
-    let blocks = interleaving::reordered_blocks(pairs0, pairs1);
-    interleaving::write_bits(&blocks, bits);
+    let blocks = joining::reordered_blocks(pairs0, pairs1);
+    joining::write_bits(&blocks, bits);
     Answer::Done(0)
 }
 

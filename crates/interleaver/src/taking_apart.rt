@@ -3,12 +3,12 @@ ghost use mathlib.Core.Path.{_≡_};
 ghost use Prim.Native.Nat.{_<_};
 ghost use lib.ListN.{length};
 ghost use Rattle.bits.specs.Bits.{pack};
-ghost use Rattle.interleaver.specs.Block.{rowWord, restored};
-ghost use Rattle.interleaver.specs.BlockBuffer.{Held, linePlace, lineBlock, restoredBlock, heldBit};
+ghost use Rattle.interleaving.specs.Block.{rowWord, restored};
+ghost use Rattle.interleaving.specs.BlockBuffer.{Held, linePlace, lineBlock, restoredBlock, heldBit};
 use crate::block::restore;
 use crate::buffer::held_row;
-use crate::rows::BitRow;
-use crate::rows::BlockRow;
+use interleaving::BitRow;
+use interleaving::BlockRow;
 
 // Bit row i of block C of a block row, as the bits have it: bit row q of a subset, t = q div 8 and b = q mod 8.
 fn line_row(bits: &[u8], k: BlockRow, block: usize, i: BitRow) -> u16

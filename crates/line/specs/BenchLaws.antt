@@ -3,8 +3,8 @@
 use mathlib.Core.Bool.{true}
 use Rattle.bch.specs.BenchValues.{only-238, two-flips-mark, two-flips-word, three-flips}
 use Rattle.ofec.specs.Bench.{word-20-0-first, word-20-0-last, word-21-5-119, in-no-front, payload-index-3087, payload-index-3551, payload-index-3552}
-use Rattle.interleaver.specs.BenchValues as Output
-use Rattle.symbols.specs.BenchValues.{bench-cells}
+use Rattle.interleaving.specs.BenchValues as Output
+use Rattle.cells.specs.BenchValues.{bench-cells}
 use Rattle.line.specs.BenchValues.{BenchValues}
 
 pub bench-values : BenchValues

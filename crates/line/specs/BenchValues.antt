@@ -9,8 +9,8 @@ use Rattle.bch.specs.Repair.{repaired, mark, repair}
 use Rattle.bch.specs.declared.Repair.the-variants.{Lost}
 use Rattle.bch.specs.BenchValues.{setAt}
 use Rattle.ofec.specs.Rows.{RowBits, wordOf, payloadIndex}
-use Rattle.interleaver.specs.BenchValues.{ComesFrom}
-use Rattle.symbols.specs.Cells.{toCells}
+use Rattle.interleaving.specs.BenchValues.{ComesFrom}
+use Rattle.cells.specs.Cells.{toCells}
 
 pub record BenchValues : Type 0 where
   -- "Only bit 238 set among 0 to 238: parity bits set are 240, 241, 243, 244, 245, 246, 248, 249, 253, 254, 255."

@@ -9,11 +9,11 @@ use Rattle.bits.specs.Lists.{tabulate}
 use Rattle.calls.specs.Sequences.{At, Run, accepted}
 use Rattle.ofec.specs.Calls.{Receiving, Receivings, State, start}
 use Rattle.ofec.specs.Promise.{Limit}
-use Rattle.interleaver.specs.Calls.{Apart, deinterleave}
-use Rattle.symbols.specs.Cells.{Legal}
-use Rattle.symbols.specs.Calls.{After, cellsToBits}
-use Rattle.framing.specs.Frames.{payloadCells, payloadStart, subFrameOf}
-use Rattle.framing.specs.Calls.{unframeCall}
+use Rattle.interleaving.specs.Calls.{Apart, deinterleave}
+use Rattle.cells.specs.Cells.{Legal}
+use Rattle.cells.specs.Calls.{After, cellsToBits}
+use Rattle.frames.specs.Frames.{payloadCells, payloadStart, subFrameOf}
+use Rattle.frames.specs.Calls.{unframeCall}
 use Rattle.line.specs.Sides.{Side, side0, side1}
 use Rattle.line.specs.Line.{lineBit}
 use Rattle.line.specs.Outward.{Outward}

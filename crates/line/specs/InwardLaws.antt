@@ -19,18 +19,18 @@ use Rattle.ofec.specs.Calls.{State, Encoding, Encodings, payloads, Receivings}
 use Rattle.ofec.specs.CallLaws.{receive-refused, receive-keeps}
 use Rattle.ofec.specs.Promise.{Holds, Takes}
 use Rattle.ofec.specs.PromiseLaws.{promise}
-use Rattle.interleaver.specs.Interleaving.{pairsBit, apart}
-use Rattle.interleaver.specs.InterleavingLaws.{pairsBit-lt, bit-apart}
-use Rattle.interleaver.specs.Calls.{Apart, parted}
-use Rattle.interleaver.specs.CallLaws.{part-done}
-use Rattle.symbols.specs.Cells.{Legal, illegal, toBits}
-use Rattle.symbols.specs.CellLaws.{toBits-length}
-use Rattle.symbols.specs.Calls.{After, after}
-use Rattle.symbols.specs.CallLaws.{demap-accepts}
-use Rattle.framing.specs.Frames.{payloadBefore, payloadStart, ownOverhead, unframed, differing, subFrameOf, cellOf}
-use Rattle.framing.specs.FrameLaws.{own-legal, unframed-at}
-use Rattle.framing.specs.PlaceLaws.{Located, located}
-use Rattle.framing.specs.CallLaws.{unframe-accepts}
+use Rattle.interleaving.specs.Interleaving.{pairsBit, apart}
+use Rattle.interleaving.specs.InterleavingLaws.{pairsBit-lt, bit-apart}
+use Rattle.interleaving.specs.Calls.{Apart, parted}
+use Rattle.interleaving.specs.CallLaws.{part-done}
+use Rattle.cells.specs.Cells.{Legal, illegal, toBits}
+use Rattle.cells.specs.CellLaws.{toBits-length}
+use Rattle.cells.specs.Calls.{After, after}
+use Rattle.cells.specs.CallLaws.{demap-accepts}
+use Rattle.frames.specs.Frames.{payloadBefore, payloadStart, ownOverhead, unframed, differing, subFrameOf, cellOf}
+use Rattle.frames.specs.FrameLaws.{own-legal, unframed-at}
+use Rattle.frames.specs.PlaceLaws.{Located, located}
+use Rattle.frames.specs.CallLaws.{unframe-accepts}
 use Rattle.line.specs.Sides.{Side, side0, side1, encoder}
 use Rattle.line.specs.Line.{outputBit, lineByte, lineBit}
 use Rattle.line.specs.Outward.{Outward}

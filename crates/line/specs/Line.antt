@@ -5,9 +5,9 @@ use mathlib.Core.List.{List, []}
 use Prim.Native.Nat.{ℕ, _+_, _*_, _/_, _%_}
 use lib.ListN.{getD}
 use Rattle.ofec.specs.Rows.{RowBits}
-use Rattle.interleaver.specs.Interleaving.{pairsBit, outputOf}
-use Rattle.symbols.specs.Cells.{symbol}
-use Rattle.framing.specs.Frames.{subFrameOf, cellOf}
+use Rattle.interleaving.specs.Interleaving.{pairsBit, outputOf}
+use Rattle.cells.specs.Cells.{symbol}
+use Rattle.frames.specs.Frames.{subFrameOf, cellOf}
 use Rattle.line.specs.Sides.{Side, encoder}
 
 -- "A buffer takes 21 pairs" of each encoder: row R is in buffer R div 42, and there row R mod 42. Its bit (C, r, c) is this output bit.

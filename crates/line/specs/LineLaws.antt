@@ -11,11 +11,11 @@ use Rattle.bits.specs.Lists.{tabulate}
 use Rattle.bits.specs.ListLaws.{getD-tabulate}
 use Rattle.bits.specs.Bits.{bitOf, bit}
 use Rattle.ofec.specs.Pairs.{pairIndex, pairBit}
-use Rattle.interleaver.specs.Interleaving.{pairsBit, pairsOf}
-use Rattle.interleaver.specs.PositionLaws.{outputFor}
-use Rattle.interleaver.specs.InterleavingLaws.{pairsBit-lt, outputOf-lt, output-for}
-use Rattle.symbols.specs.Cells.{symbol, toBits}
-use Rattle.symbols.specs.CellLaws.{toBits-bit}
+use Rattle.interleaving.specs.Interleaving.{pairsBit, pairsOf}
+use Rattle.interleaving.specs.PositionLaws.{outputFor}
+use Rattle.interleaving.specs.InterleavingLaws.{pairsBit-lt, outputOf-lt, output-for}
+use Rattle.cells.specs.Cells.{symbol, toBits}
+use Rattle.cells.specs.CellLaws.{toBits-bit}
 use Rattle.line.specs.Sides.{Side, side0, side1, encoder, buffers}
 use Rattle.line.specs.Line.{outputBit, payloadCellOf, lineByte, lineBit}
 use Rattle.line.specs.Outward.{pairsOfBuffer}

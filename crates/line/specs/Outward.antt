@@ -10,11 +10,11 @@ use Rattle.calls.specs.Sequences.{Run, accepted}
 use Rattle.ofec.specs.Rows.{RowBits}
 use Rattle.ofec.specs.Sent.{Sent}
 use Rattle.ofec.specs.Calls.{Encoding, encode, Encodings, State, start, payloads}
-use Rattle.interleaver.specs.Calls.{Interleaved, interleave}
-use Rattle.symbols.specs.Cells.{Legal}
-use Rattle.symbols.specs.Calls.{After, bitsToCells}
-use Rattle.framing.specs.Frames.{payloadCells, payloadStart}
-use Rattle.framing.specs.Calls.{frameCall}
+use Rattle.interleaving.specs.Calls.{Interleaved, interleave}
+use Rattle.cells.specs.Cells.{Legal}
+use Rattle.cells.specs.Calls.{After, bitsToCells}
+use Rattle.frames.specs.Frames.{payloadCells, payloadStart}
+use Rattle.frames.specs.Calls.{frameCall}
 use Rattle.line.specs.Sides.{Side, side0, side1, buffers}
 
 -- Output buffers lent to the line calls, of any content and the stated length: bits and cells for each buffer b, a frame for each

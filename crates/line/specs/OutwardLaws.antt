@@ -17,18 +17,18 @@ use Rattle.ofec.specs.Pairs.{pairBit}
 use Rattle.ofec.specs.Calls.{State, Encoding, encode, Encodings}
 use Rattle.ofec.specs.CallLaws.{encode-refused, encode-keeps}
 use Rattle.ofec.specs.PromiseLaws.{coded-sent}
-use Rattle.interleaver.specs.Interleaving.{pairsBit, interleaved}
-use Rattle.interleaver.specs.InterleavingLaws.{length-interleaved, interleaved-below, bit-interleaved-for}
-use Rattle.interleaver.specs.Calls.{Interleaved, joined}
-use Rattle.interleaver.specs.CallLaws.{join-done}
-use Rattle.symbols.specs.Cells.{Legal, toCells, toBits}
-use Rattle.symbols.specs.CellLaws.{toCells-length, toCells-below, bits-back}
-use Rattle.symbols.specs.Calls.{After, after, bitsToCells}
-use Rattle.symbols.specs.CallLaws.{map-accepts}
-use Rattle.framing.specs.Frames.{isOverhead, payloadBefore, payloadCells, payloadStart, ownOverhead, framed, subFrameOf, cellOf}
-use Rattle.framing.specs.FrameLaws.{own-length, own-legal, framed-length, framed-payload, framed-legal}
-use Rattle.framing.specs.PlaceLaws.{payload-index-lt, Located, located}
-use Rattle.framing.specs.CallLaws.{frame-accepts}
+use Rattle.interleaving.specs.Interleaving.{pairsBit, interleaved}
+use Rattle.interleaving.specs.InterleavingLaws.{length-interleaved, interleaved-below, bit-interleaved-for}
+use Rattle.interleaving.specs.Calls.{Interleaved, joined}
+use Rattle.interleaving.specs.CallLaws.{join-done}
+use Rattle.cells.specs.Cells.{Legal, toCells, toBits}
+use Rattle.cells.specs.CellLaws.{toCells-length, toCells-below, bits-back}
+use Rattle.cells.specs.Calls.{After, after, bitsToCells}
+use Rattle.cells.specs.CallLaws.{map-accepts}
+use Rattle.frames.specs.Frames.{isOverhead, payloadBefore, payloadCells, payloadStart, ownOverhead, framed, subFrameOf, cellOf}
+use Rattle.frames.specs.FrameLaws.{own-length, own-legal, framed-length, framed-payload, framed-legal}
+use Rattle.frames.specs.PlaceLaws.{payload-index-lt, Located, located}
+use Rattle.frames.specs.CallLaws.{frame-accepts}
 use Rattle.line.specs.Sides.{Side, side0, side1, encoder}
 use Rattle.line.specs.Line.{outputBit, lineByte, lineBit}
 use Rattle.line.specs.Outward.{Outward, codedPairs, pairsOfBuffer, interleaving, mapping, payloadByte, framePayload, framing, frames}

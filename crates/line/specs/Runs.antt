@@ -9,7 +9,7 @@ use Rattle.bits.specs.Bits.{bit}
 use Rattle.calls.specs.Sequences.{At, accepted}
 use Rattle.ofec.specs.Rows.{RowBits}
 use Rattle.ofec.specs.Calls.{State, start, Encoding, Encodings, Receiving, Receivings, receive, payloads}
-use Rattle.symbols.specs.Cells.{Legal}
+use Rattle.cells.specs.Cells.{Legal}
 use Rattle.line.specs.Sides.{Side}
 use Rattle.line.specs.Outward.{LentOut, Outward}
 use Rattle.line.specs.Inward.{Heard, receivedPair, Inward}

@@ -22,7 +22,7 @@ use Rattle.ofec.specs.Calls.{start, Encoding, encode, Encodings, Received, Rece
 use Rattle.ofec.specs.CallLaws.{encode-accepted, receive-accepted}
 use Rattle.ofec.specs.Promise.{wrongBits, Limit, markOf, NotLost, AsSent}
 use Rattle.ofec.specs.PromiseLaws.{mark-within, mark-some}
-use Rattle.symbols.specs.Cells.{Legal}
+use Rattle.cells.specs.Cells.{Legal}
 use Rattle.line.specs.Sides.{Side}
 use Rattle.line.specs.Line.{lineBit}
 use Rattle.line.specs.Outward.{Outward, frames}

@@ -15,6 +15,6 @@ pub use opening::open_part;
 pub use reading::read_answer_at;
 pub use reading::read_at;
 pub use reading::start;
-pub use rules::Header;
+pub use lineformat::Header;
 pub use rules::judge;
 pub use writing::write_header;

@@ -6,8 +6,8 @@ use crate::reading::read_answer_at;
 use crate::reading::read_at;
 use calls::Answer;
 ghost use mathlib.Core.Path.{_≡_};
-ghost use Rattle.linefile.specs.Opening.{openFile, openCall};
-ghost use Rattle.linefile.specs.Reading.{readAnswerIn, readPartIn};
+ghost use Rattle.lineformat.specs.Opening.{openFile, openCall};
+ghost use Rattle.lineformat.specs.Reading.{readAnswerIn, readPartIn};
 
 pub struct LineFile<'a> {
     pub file: &'a [u8],

@@ -1,11 +1,11 @@
 // Opening a lent file: its header, the refusal, and the part that an open file holds.
-use crate::rules::Header;
 use crate::rules::judge;
 use crate::rules::refused;
 use calls::Answer;
 use calls::Refusal;
+use lineformat::Header;
 ghost use mathlib.Core.Path.{_≡_};
-ghost use Rattle.linefile.specs.Opening.{headerOf, openAnswer, openPart};
+ghost use Rattle.lineformat.specs.Opening.{headerOf, openAnswer, openPart};
 
 // What opening finds: the header's numbers, or the refusal with zeros.
 pub fn open_header(file: &[u8]) -> Header

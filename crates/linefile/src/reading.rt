@@ -5,7 +5,7 @@ use calls::Refusal;
 ghost use mathlib.Core.Path.{_≡_};
 ghost use Prim.Native.Nat.{_+_, _≤_};
 ghost use lib.ListN.{length, take, drop};
-ghost use Rattle.linefile.specs.Reading.{startOf, readAnswer, readPart};
+ghost use Rattle.lineformat.specs.Reading.{startOf, readAnswer, readPart};
 
 // Where a sub-frame's stretch of the file starts.
 pub fn start(frames: u32, superframe: u32, subframe: u32) -> usize

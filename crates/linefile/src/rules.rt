@@ -1,19 +1,11 @@
 // The rules of the header, in one worker over the first sixteen bytes and the length of a file.
 use calls::Answer;
 use calls::Refusal;
+use lineformat::Header;
 ghost use mathlib.Core.Path.{_≡_};
 ghost use Prim.Native.Nat.{_+_, _*_, _^_, _<_, _≤_};
 ghost use lib.ListN.{length, getD};
-ghost use Rattle.linefile.specs.Header.{number as header·number, rulesHold, refused as header·refused, judged};
-
-// A header as it is judged: done, with its numbers, or refused, with zeros.
-pub struct Header {
-    pub answer: Answer,
-    pub superframes: u32,
-    pub overhead: u32,
-    pub frames: u32,
-    pub total: u32,
-}
+ghost use Rattle.lineformat.specs.Header.{number as header·number, rulesHold, refused as header·refused, judged};
 
 // The two bytes from i on as a number.
 fn two_bytes(first: &[u8], i: usize) -> usize

@@ -4,7 +4,7 @@ use calls::Refusal;
 ghost use mathlib.Core.Path.{_≡_};
 ghost use mathlib.Core.List.{[], _∷_};
 ghost use lib.ListN.{length};
-ghost use Rattle.linefile.specs.Writing.{headerBytes, written, writeCall};
+ghost use Rattle.lineformat.specs.Writing.{headerBytes, written, writeCall};
 
 // Writes the numbers n, o, f and total as a header.
 fn put_numbers(n: u32, o: u32, f: u32, total: u32, header: &mut [u8])

@@ -1,6 +1,6 @@
 // Legal cells (01: "A byte of 16 or more is illegal").
 ghost use mathlib.Core.Path.{_≡_};
-ghost use Rattle.symbols.specs.Cells.{firstIllegal};
+ghost use Rattle.cells.specs.Cells.{firstIllegal};
 
 // The index of the first illegal byte, or the number of bytes where all are legal.
 pub fn first_illegal(cells: &[u8]) -> usize

@@ -6,7 +6,7 @@ mod mapping;
 use calls::Answer;
 use calls::Refusal;
 ghost use mathlib.Core.Path.{_≡_};
-ghost use Rattle.symbols.specs.Calls.{after, bitsToCells, cellsToBits};
+ghost use Rattle.cells.specs.Calls.{after, bitsToCells, cellsToBits};
 
 // A buffer of bits: 172,032 of them, 21,504 symbols.
 const BITS: usize = 21504;

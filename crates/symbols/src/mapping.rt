@@ -5,8 +5,8 @@ use crate::levels::pair;
 ghost use mathlib.Core.Path.{_≡_};
 ghost use Prim.Native.Nat.{_+_, _*_, _<_};
 ghost use lib.ListN.{length};
-ghost use Rattle.symbols.specs.Levels.{level, levelAt, firstBit, secondBit};
-ghost use Rattle.symbols.specs.Cells.{rails, cellByte, byteOfCell, Legal, toCells, toBits};
+ghost use Rattle.cells.specs.Levels.{level, levelAt, firstBit, secondBit};
+ghost use Rattle.cells.specs.Cells.{rails, cellByte, byteOfCell, Legal, toCells, toBits};
 
 // The byte 4×(I+3)/2 + (Q+3)/2 of the bit pairs (a, b) of I and (c, d) of Q.
 fn rails(a: u8, b: u8, c: u8, d: u8) -> u8

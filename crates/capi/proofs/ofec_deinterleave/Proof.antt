@@ -1,7 +1,7 @@
 -- `capi::ofec_deinterleave` meets its contract: the answer of the library in numbers, and its buffers.
 -- Assumes nothing.
 use mathlib.Core.Path.{ap, _∙_}
-use Rattle.interleaver.specs.Calls.{Apart}
+use Rattle.interleaving.specs.Calls.{Apart}
 use Rattle.capi.specs.Outcomes.{outcomeOf}
 use borrow.Author.Needs.{needs}
 use Rattle.capi.proofs.ofec_deinterleave.Statement.{statement}

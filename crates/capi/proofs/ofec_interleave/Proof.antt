@@ -1,7 +1,7 @@
 -- `capi::ofec_interleave` meets its contract: the answer of the library in numbers, and its buffers.
 -- Assumes nothing.
 use mathlib.Core.Path.{ap, _∙_}
-use Rattle.interleaver.specs.Calls.{Interleaved}
+use Rattle.interleaving.specs.Calls.{Interleaved}
 use Rattle.capi.specs.Outcomes.{outcomeOf}
 use borrow.Author.Needs.{needs}
 use Rattle.capi.proofs.ofec_interleave.Statement.{statement}

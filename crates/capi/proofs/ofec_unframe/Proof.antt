@@ -1,7 +1,7 @@
 -- `capi::ofec_unframe` meets its contract: the answer of the library in numbers, and its buffers.
 -- Assumes nothing.
 use mathlib.Core.Path.{ap, _∙_}
-use Rattle.symbols.specs.Calls.{After}
+use Rattle.cells.specs.Calls.{After}
 use Rattle.capi.specs.Outcomes.{outcomeOf}
 use borrow.Author.Needs.{needs}
 use Rattle.capi.proofs.ofec_unframe.Statement.{statement}

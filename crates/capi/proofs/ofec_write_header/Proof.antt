@@ -1,7 +1,7 @@
 -- `capi::ofec_write_header` meets its contract: the answer of the library in numbers, and its buffers.
 -- Assumes nothing.
 use mathlib.Core.Path.{ap, _∙_}
-use Rattle.linefile.specs.Writing.{Written}
+use Rattle.lineformat.specs.Writing.{Written}
 use Rattle.capi.specs.Outcomes.{outcomeOf}
 use borrow.Author.Needs.{needs}
 use Rattle.capi.proofs.ofec_write_header.Statement.{statement}

@@ -1,7 +1,7 @@
 -- `framing::frame` meets its contract: one law for each case of its definition.
 -- Assumes nothing.
 use borrow.Author.Needs.{needs}
-use Rattle.framing.specs.CallLaws.{sub-frame-cases, frame-done}
+use Rattle.frames.specs.CallLaws.{sub-frame-cases, frame-done}
 use Rattle.framing.proofs.frame.Statement.{statement}
 use Rattle.framing.proofs.frame.Tie as tie
 

@@ -1,7 +1,7 @@
 -- `framing::unframe` meets its contract: one law for each case of its definition.
 -- Assumes nothing.
 use borrow.Author.Needs.{needs}
-use Rattle.framing.specs.CallLaws.{sub-frame-cases, unframe-done}
+use Rattle.frames.specs.CallLaws.{sub-frame-cases, unframe-done}
 use Rattle.framing.proofs.unframe.Statement.{statement}
 use Rattle.framing.proofs.unframe.Tie as tie
 

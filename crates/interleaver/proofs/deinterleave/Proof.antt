@@ -1,7 +1,7 @@
 -- `interleaver::deinterleave` meets its contract: one law for each case.
 -- Assumes nothing.
-use Rattle.interleaver.specs.BlockBufferLaws.{apart-blocks}
-use Rattle.interleaver.specs.CallLaws.{parting}
+use Rattle.interleaving.specs.BlockBufferLaws.{apart-blocks}
+use Rattle.interleaving.specs.CallLaws.{parting}
 use borrow.Author.Needs.{needs}
 use Rattle.interleaver.proofs.deinterleave.Statement.{statement}
 use Rattle.interleaver.proofs.deinterleave.Tie as tie

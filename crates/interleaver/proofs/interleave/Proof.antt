@@ -1,7 +1,7 @@
 -- `interleaver::interleave` meets its contract: one law for each case.
 -- Assumes nothing.
-use Rattle.interleaver.specs.BlockBufferLaws.{interleaved-blocks}
-use Rattle.interleaver.specs.CallLaws.{joining}
+use Rattle.interleaving.specs.BlockBufferLaws.{interleaved-blocks}
+use Rattle.interleaving.specs.CallLaws.{joining}
 use borrow.Author.Needs.{needs}
 use Rattle.interleaver.proofs.interleave.Statement.{statement}
 use Rattle.interleaver.proofs.interleave.Tie as tie

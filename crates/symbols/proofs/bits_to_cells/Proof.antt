@@ -1,7 +1,7 @@
 -- `symbols::bits_to_cells` meets its contract: one law for each case of its definition.
 -- Assumes nothing.
 use borrow.Author.Needs.{needs}
-use Rattle.symbols.specs.CallLaws.{map-cases}
+use Rattle.cells.specs.CallLaws.{map-cases}
 use Rattle.symbols.proofs.bits_to_cells.Statement.{statement}
 use Rattle.symbols.proofs.bits_to_cells.Tie as tie
 

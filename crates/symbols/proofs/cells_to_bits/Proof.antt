@@ -1,7 +1,7 @@
 -- `symbols::cells_to_bits` meets its contract: one law for each case of its definition.
 -- Assumes nothing.
 use borrow.Author.Needs.{needs}
-use Rattle.symbols.specs.CallLaws.{demap-cases}
+use Rattle.cells.specs.CallLaws.{demap-cases}
 use Rattle.symbols.proofs.cells_to_bits.Statement.{statement}
 use Rattle.symbols.proofs.cells_to_bits.Tie as tie
 

@@ -1,6 +1,6 @@
 -- `framing::comparing::cell_differs` meets its contract: one law for each answer.
 -- Assumes nothing.
-use Rattle.framing.specs.ByteLaws.{cell-by-cell}
+use Rattle.frames.specs.ByteLaws.{cell-by-cell}
 use borrow.Author.Needs.{needs}
 use Rattle.framing.proofs.comparing.cell_differs.Statement.{statement}
 use Rattle.framing.proofs.comparing.cell_differs.Tie as tie

@@ -2,8 +2,8 @@
 -- Assumes nothing.
 use Prim.Native.Nat.{_-_}
 use Rattle.bits.specs.Summing.{Counting, counting}
-use Rattle.framing.specs.Frames.{overheadDiffers, differing}
-use Rattle.framing.specs.ByteLaws.{tally-fits}
+use Rattle.frames.specs.Frames.{overheadDiffers, differing}
+use Rattle.frames.specs.ByteLaws.{tally-fits}
 use borrow.Author.Needs.{needs}
 use Rattle.framing.proofs.comparing.differing.Statement.{statement}
 use Rattle.framing.proofs.comparing.differing.Tie as tie

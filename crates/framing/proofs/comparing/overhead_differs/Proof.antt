@@ -1,6 +1,6 @@
 -- `framing::comparing::overhead_differs` meets its contract: one law for each of the three kinds of cells.
 -- Assumes nothing.
-use Rattle.framing.specs.ByteLaws.{overhead-differs}
+use Rattle.frames.specs.ByteLaws.{overhead-differs}
 use borrow.Author.Needs.{needs}
 use Rattle.framing.proofs.comparing.overhead_differs.Statement.{statement}
 use Rattle.framing.proofs.comparing.overhead_differs.Tie as tie

@@ -1,7 +1,7 @@
 -- `framing::layout::overhead_start` meets its contract: the closed form of the count.
 -- Assumes nothing.
 use native.Mathlib.Omega.{arith}
-use Rattle.framing.specs.LayoutLaws.{start-zeroth, start-other, own-within}
+use Rattle.frames.specs.LayoutLaws.{start-zeroth, start-other, own-within}
 use borrow.Author.Needs.{needs}
 use Rattle.framing.proofs.layout.overhead_start.Statement.{statement}
 use Rattle.framing.proofs.layout.overhead_start.Tie as tie

@@ -1,6 +1,6 @@
 -- `framing::layout::own_overhead` meets its contract: the part that it lends is the definition's.
 -- Assumes nothing.
-use Rattle.framing.specs.ByteLaws.{own-part}
+use Rattle.frames.specs.ByteLaws.{own-part}
 use denote.Ref.{now}
 use borrow.Author.Needs.{needs}
 use Rattle.framing.proofs.layout.own_overhead.Statement.{statement}

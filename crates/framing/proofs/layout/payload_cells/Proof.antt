@@ -1,7 +1,7 @@
 -- `framing::layout::payload_cells` meets its contract: the numbers of sub-frame 0 and of the others.
 -- Assumes nothing.
 use native.Mathlib.Omega.{arith}
-use Rattle.framing.specs.LayoutLaws.{sizes-zeroth, sizes-other}
+use Rattle.frames.specs.LayoutLaws.{sizes-zeroth, sizes-other}
 use Rattle.framing.proofs.layout.payload_cells.Statement.{statement}
 use Rattle.framing.proofs.layout.payload_cells.Tie as tie
 

@@ -3,8 +3,8 @@
 use Prim.Native.Nat.{_-_}
 use lib.ListN.{length}
 use Rattle.bits.specs.Filling.{Filling, fill}
-use Rattle.framing.specs.Frames.{payloadAt}
-use Rattle.framing.specs.ByteLaws.{payload-filled}
+use Rattle.frames.specs.Frames.{payloadAt}
+use Rattle.frames.specs.ByteLaws.{payload-filled}
 use borrow.Author.Needs.{needs}
 use Rattle.framing.proofs.placing.extract.Statement.{statement}
 use Rattle.framing.proofs.placing.extract.Tie as tie

@@ -1,6 +1,6 @@
 -- `framing::placing::frame_byte` meets its contract: one law for each of the three kinds of cells.
 -- Assumes nothing.
-use Rattle.framing.specs.ByteLaws.{frame-bytes}
+use Rattle.frames.specs.ByteLaws.{frame-bytes}
 use borrow.Author.Needs.{needs}
 use Rattle.framing.proofs.placing.frame_byte.Statement.{statement}
 use Rattle.framing.proofs.placing.frame_byte.Tie as tie

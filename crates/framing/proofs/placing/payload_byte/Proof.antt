@@ -1,6 +1,6 @@
 -- `framing::placing::payload_byte` meets its contract: the closed form of the cell that carries a payload cell.
 -- Assumes nothing.
-use Rattle.framing.specs.ByteLaws.{payload-read}
+use Rattle.frames.specs.ByteLaws.{payload-read}
 use borrow.Author.Needs.{needs}
 use Rattle.framing.proofs.placing.payload_byte.Statement.{statement}
 use Rattle.framing.proofs.placing.payload_byte.Tie as tie

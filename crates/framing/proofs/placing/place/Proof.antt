@@ -2,7 +2,7 @@
 -- Assumes nothing.
 use Prim.Native.Nat.{_-_}
 use Rattle.bits.specs.Filling.{Filling, fill}
-use Rattle.framing.specs.Frames.{frameAt, framed}
+use Rattle.frames.specs.Frames.{frameAt, framed}
 use borrow.Author.Needs.{needs}
 use Rattle.framing.proofs.placing.place.Statement.{statement}
 use Rattle.framing.proofs.placing.place.Tie as tie

@@ -1,7 +1,7 @@
 -- `interleaver::block::bit_at` meets its contract: the shift and the remainder are the definition of a bit.
 -- Assumes nothing.
 use Rattle.bits.specs.Bits.{bitOf}
-use Rattle.interleaver.specs.Block.{bitAt}
+use Rattle.interleaving.specs.Block.{bitAt}
 use borrow.Author.Needs.{needs}
 use Rattle.interleaver.proofs.block.bit_at.Statement.{statement}
 use Rattle.interleaver.proofs.block.bit_at.Tie as tie

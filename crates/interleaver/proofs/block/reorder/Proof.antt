@@ -2,7 +2,7 @@
 -- Assumes nothing.
 use Prim.Native.Nat.{_-_}
 use Rattle.bits.specs.Filling.{Filling, fill}
-use Rattle.interleaver.specs.Block.{rowWord, block, reorderedBit}
+use Rattle.interleaving.specs.Block.{rowWord, block, reorderedBit}
 use borrow.Author.Needs.{needs}
 use Rattle.interleaver.proofs.block.reorder.Statement.{statement}
 use Rattle.interleaver.proofs.block.reorder.Tie as tie

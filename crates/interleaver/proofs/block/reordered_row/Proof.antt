@@ -2,8 +2,8 @@
 -- Assumes nothing.
 use Prim.Native.Nat.{_-_}
 use Rattle.bits.specs.Gathering.{Gathering, gather}
-use Rattle.interleaver.specs.Block.{rowWord, reorderedBit}
-use Rattle.interleaver.specs.BlockLaws.{reordered-bit}
+use Rattle.interleaving.specs.Block.{rowWord, reorderedBit}
+use Rattle.interleaving.specs.BlockLaws.{reordered-bit}
 use borrow.Author.Needs.{needs}
 use Rattle.interleaver.proofs.block.reordered_row.Statement.{statement}
 use Rattle.interleaver.proofs.block.reordered_row.Tie as tie

@@ -2,7 +2,7 @@
 -- Assumes nothing.
 use Prim.Native.Nat.{_-_}
 use Rattle.bits.specs.Filling.{Filling, fill}
-use Rattle.interleaver.specs.Block.{rowWord, block, restoredBit}
+use Rattle.interleaving.specs.Block.{rowWord, block, restoredBit}
 use borrow.Author.Needs.{needs}
 use Rattle.interleaver.proofs.block.restore.Statement.{statement}
 use Rattle.interleaver.proofs.block.restore.Tie as tie

@@ -2,8 +2,8 @@
 -- Assumes nothing.
 use Prim.Native.Nat.{_-_}
 use Rattle.bits.specs.Gathering.{Gathering, gather}
-use Rattle.interleaver.specs.Block.{rowWord, restoredBit}
-use Rattle.interleaver.specs.BlockLaws.{restored-bit}
+use Rattle.interleaving.specs.Block.{rowWord, restoredBit}
+use Rattle.interleaving.specs.BlockLaws.{restored-bit}
 use borrow.Author.Needs.{needs}
 use Rattle.interleaver.proofs.block.restored_row.Statement.{statement}
 use Rattle.interleaver.proofs.block.restored_row.Tie as tie

@@ -1,6 +1,6 @@
 -- `interleaver::buffer::held_row` meets its contract: the element of the block with that number.
 -- Assumes nothing.
-use Rattle.interleaver.specs.BlockBuffer.{heldRow}
+use Rattle.interleaving.specs.BlockBuffer.{heldRow}
 use borrow.Author.Needs.{needs}
 use Rattle.interleaver.proofs.buffer.held_row.Statement.{statement}
 use Rattle.interleaver.proofs.buffer.held_row.Tie as tie

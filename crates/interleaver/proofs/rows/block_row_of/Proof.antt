@@ -1,6 +1,6 @@
 -- `interleaver::rows::block_row_of` meets its contract: the first block row of the subset, and every second from it.
 -- Assumes nothing.
-use Rattle.interleaver.specs.SubsetLaws.{row-of}
+use Rattle.interleaving.specs.SubsetLaws.{row-of}
 use borrow.Author.Needs.{needs}
 use Rattle.interleaver.proofs.rows.block_row_of.Statement.{statement}
 use Rattle.interleaver.proofs.rows.block_row_of.Tie as tie

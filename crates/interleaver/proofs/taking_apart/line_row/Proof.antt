@@ -2,8 +2,8 @@
 -- Assumes nothing.
 use Prim.Native.Nat.{_-_}
 use Rattle.bits.specs.Gathering.{Gathering, gather}
-use Rattle.interleaver.specs.BlockBuffer.{lineColumn}
-use Rattle.interleaver.specs.BlockBufferLaws.{line-bit, line-row}
+use Rattle.interleaving.specs.BlockBuffer.{lineColumn}
+use Rattle.interleaving.specs.BlockBufferLaws.{line-bit, line-row}
 use borrow.Author.Needs.{needs}
 use Rattle.interleaver.proofs.taking_apart.line_row.Statement.{statement}
 use Rattle.interleaver.proofs.taking_apart.line_row.Tie as tie

@@ -2,9 +2,9 @@
 -- Assumes nothing.
 use Prim.Native.Nat.{_-_}
 use Rattle.bits.specs.Filling.{Filling, fill}
-use Rattle.interleaver.specs.Block.{rowWord, block}
-use Rattle.interleaver.specs.BlockBuffer.{linePlace}
-use Rattle.interleaver.specs.BlockBufferLaws.{restored-of}
+use Rattle.interleaving.specs.Block.{rowWord, block}
+use Rattle.interleaving.specs.BlockBuffer.{linePlace}
+use Rattle.interleaving.specs.BlockBufferLaws.{restored-of}
 use borrow.Author.Needs.{needs}
 use Rattle.interleaver.proofs.taking_apart.restored_block.Statement.{statement}
 use Rattle.interleaver.proofs.taking_apart.restored_block.Tie as tie

@@ -1,8 +1,8 @@
 -- `interleaver::taking_apart::restored_blocks` meets its contract: the blocks are made one by one.
 -- Assumes nothing.
 use Prim.Native.Nat.{_-_}
-use Rattle.interleaver.specs.BlockBuffer.{restoredBlock, Held}
-use Rattle.interleaver.specs.BlockBufferLaws.{hold, restored-block}
+use Rattle.interleaving.specs.BlockBuffer.{restoredBlock, Held}
+use Rattle.interleaving.specs.BlockBufferLaws.{hold, restored-block}
 use borrow.Author.Needs.{needs}
 use Rattle.interleaver.proofs.taking_apart.restored_blocks.Statement.{statement}
 use Rattle.interleaver.proofs.taking_apart.restored_blocks.Tie as tie

@@ -3,8 +3,8 @@
 use Prim.Native.Nat.{_-_}
 use Rattle.bits.specs.Filling.{Filling, fill}
 use Rattle.bits.specs.Bits.{byteOf, pack}
-use Rattle.interleaver.specs.BlockBuffer.{heldBit}
-use Rattle.interleaver.specs.BlockBufferLaws.{pairs-byte}
+use Rattle.interleaving.specs.BlockBuffer.{heldBit}
+use Rattle.interleaving.specs.BlockBufferLaws.{pairs-byte}
 use borrow.Author.Needs.{needs}
 use Rattle.interleaver.proofs.taking_apart.write_pairs.Statement.{statement}
 use Rattle.interleaver.proofs.taking_apart.write_pairs.Tie as tie

@@ -46,11 +46,11 @@ use Rattle.linefile.proofs.line_file.open.Key.{name as #linefile·open}
 use Rattle.linefile.proofs.line_file.open as it
 use Rattle.linefile.proofs.line_file.open.Statement as stated
 use Rattle.linefile.proofs.line_file.open.Code as code
-use Rattle.linefile.specs.declared.rules.Header.{Header}
-use Rattle.linefile.specs.Opening.{headerOf, openPart}
-use Rattle.linefile.specs.OpeningLaws.{put-together}
-use Rattle.linefile.proofs.rules.Header as S
-use Rattle.linefile.proofs.rules.Header.Laws as S′
+use Rattle.lineformat.specs.declared.Header.{Header}
+use Rattle.lineformat.specs.Opening.{headerOf, openPart}
+use Rattle.lineformat.specs.OpeningLaws.{put-together}
+use Rattle.lineformat.proofs.Header as S
+use Rattle.lineformat.proofs.Header.Laws as S′
 use Rattle.linefile.proofs.opening.open_header as head
 use Rattle.linefile.proofs.opening.open_header.Symbol as head-def
 use Rattle.linefile.proofs.opening.open_header.Symbol.{name as #linefile·open-header}

@@ -48,8 +48,8 @@ use Rattle.linefile.proofs.line_file.read.Key.{name as #linefile·read}
 use Rattle.linefile.proofs.line_file.read as it
 use Rattle.linefile.proofs.line_file.read.Statement as stated
 use Rattle.linefile.proofs.line_file.read.Code as code
-use Rattle.linefile.specs.Opening.{openFile}
-use Rattle.linefile.specs.Reading.{readPartIn}
+use Rattle.lineformat.specs.Opening.{openFile}
+use Rattle.lineformat.specs.Reading.{readPartIn}
 use Rattle.linefile.proofs.reading.read_at as step
 use Rattle.linefile.proofs.reading.read_at.Symbol as step-def
 use Rattle.linefile.proofs.reading.read_at.Symbol.{name as #linefile·read-at}

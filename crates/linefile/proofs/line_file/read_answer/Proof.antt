@@ -49,8 +49,8 @@ use Rattle.linefile.proofs.line_file.read_answer.Key.{name as #linefile
 use Rattle.linefile.proofs.line_file.read_answer as it
 use Rattle.linefile.proofs.line_file.read_answer.Statement as stated
 use Rattle.linefile.proofs.line_file.read_answer.Code as code
-use Rattle.linefile.specs.Opening.{openFile}
-use Rattle.linefile.specs.Reading.{readAnswerIn}
+use Rattle.lineformat.specs.Opening.{openFile}
+use Rattle.lineformat.specs.Reading.{readAnswerIn}
 use Rattle.calls.specs.declared.Answer.{Answer}
 use Rattle.calls.proofs.Answer as Sr
 use Rattle.calls.proofs.Answer.Laws as Sr′

@@ -1,6 +1,6 @@
 -- `linefile::open_answer` meets its contract: the answer of the header.
 -- Assumes nothing.
-use Rattle.linefile.specs.OpeningLaws.{answer-of}
+use Rattle.lineformat.specs.OpeningLaws.{answer-of}
 use borrow.Author.Needs.{needs}
 use Rattle.linefile.proofs.opening.open_answer.Statement.{statement}
 use Rattle.linefile.proofs.opening.open_answer.Tie as tie

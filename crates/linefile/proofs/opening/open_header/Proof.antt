@@ -1,6 +1,6 @@
 -- `linefile::open_header` meets its contract: the judgement of the file.
 -- Assumes nothing.
-use Rattle.linefile.specs.HeaderLaws.{judging}
+use Rattle.lineformat.specs.HeaderLaws.{judging}
 use borrow.Author.Needs.{needs}
 use Rattle.linefile.proofs.opening.open_header.Statement.{statement}
 use Rattle.linefile.proofs.opening.open_header.Tie as tie

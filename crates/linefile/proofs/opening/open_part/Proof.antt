@@ -1,6 +1,6 @@
 -- `linefile::open_part` meets its contract: the whole or nothing.
 -- Assumes nothing.
-use Rattle.linefile.specs.OpeningLaws.{parts}
+use Rattle.lineformat.specs.OpeningLaws.{parts}
 use borrow.Author.Needs.{needs}
 use Rattle.linefile.proofs.opening.open_part.Statement.{statement}
 use Rattle.linefile.proofs.opening.open_part.Tie as tie

@@ -1,6 +1,6 @@
 -- `linefile::read_answer_at` meets its contract: the cases of the companion.
 -- Assumes nothing.
-use Rattle.linefile.specs.ReadingLaws.{read-cases}
+use Rattle.lineformat.specs.ReadingLaws.{read-cases}
 use borrow.Author.Needs.{needs}
 use Rattle.linefile.proofs.reading.read_answer_at.Statement.{statement}
 use Rattle.linefile.proofs.reading.read_answer_at.Tie as tie

@@ -1,6 +1,6 @@
 -- `linefile::read_at` meets its contract: the stretch lies within the file.
 -- Assumes nothing.
-use Rattle.linefile.specs.ReadingLaws.{part-cases}
+use Rattle.lineformat.specs.ReadingLaws.{part-cases}
 use borrow.Author.Needs.{needs}
 use Rattle.linefile.proofs.reading.read_at.Statement.{statement}
 use Rattle.linefile.proofs.reading.read_at.Tie as tie

@@ -1,6 +1,6 @@
 -- `linefile::stretch` meets its contract: the part has 7,424 bytes.
 -- Assumes nothing.
-use Rattle.linefile.specs.ReadingLaws.{from-there}
+use Rattle.lineformat.specs.ReadingLaws.{from-there}
 use borrow.Author.Needs.{needs}
 use Rattle.linefile.proofs.reading.stretch.Statement.{statement}
 use Rattle.linefile.proofs.reading.stretch.Tie as tie

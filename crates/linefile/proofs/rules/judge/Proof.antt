@@ -1,6 +1,6 @@
 -- `linefile::judge` meets its contract: the three cases of the judgement.
 -- Assumes nothing.
-use Rattle.linefile.specs.HeaderLaws.{judging}
+use Rattle.lineformat.specs.HeaderLaws.{judging}
 use borrow.Author.Needs.{needs}
 use Rattle.linefile.proofs.rules.judge.Statement.{statement}
 use Rattle.linefile.proofs.rules.judge.Tie as tie

@@ -1,6 +1,6 @@
 -- `linefile::number` meets its contract: two halves are one number.
 -- Assumes nothing.
-use Rattle.linefile.specs.HeaderLaws.{by-halves}
+use Rattle.lineformat.specs.HeaderLaws.{by-halves}
 use borrow.Author.Needs.{needs}
 use Rattle.linefile.proofs.rules.number.Statement.{statement}
 use Rattle.linefile.proofs.rules.number.Tie as tie

@@ -1,6 +1,6 @@
 -- `linefile::rules_hold` meets its contract: each rule by itself.
 -- Assumes nothing.
-use Rattle.linefile.specs.HeaderLaws.{one-by-one}
+use Rattle.lineformat.specs.HeaderLaws.{one-by-one}
 use borrow.Author.Needs.{needs}
 use Rattle.linefile.proofs.rules.rules_hold.Statement.{statement}
 use Rattle.linefile.proofs.rules.rules_hold.Tie as tie

@@ -4,7 +4,7 @@ use Prim.Native.Nat.{_-_, _/_, _%_}
 use mathlib.Core.List.{[], _∷_}
 use lib.ListN.{getD}
 use Rattle.bits.specs.Filling.{Filling, fill}
-use Rattle.linefile.specs.Writing.{byteOf, headerBytes}
+use Rattle.lineformat.specs.Writing.{byteOf, headerBytes}
 use borrow.Author.Needs.{needs}
 use Rattle.linefile.proofs.writing.put_numbers.Statement.{statement}
 use Rattle.linefile.proofs.writing.put_numbers.Tie as tie

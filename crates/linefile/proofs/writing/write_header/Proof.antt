@@ -1,6 +1,6 @@
 -- `linefile::write_header` meets its contract: the cases of the call.
 -- Assumes nothing.
-use Rattle.linefile.specs.WritingLaws.{write-cases}
+use Rattle.lineformat.specs.WritingLaws.{write-cases}
 use borrow.Author.Needs.{needs}
 use Rattle.linefile.proofs.writing.write_header.Statement.{statement}
 use Rattle.linefile.proofs.writing.write_header.Tie as tie

@@ -4,7 +4,7 @@ use Prim.Native.Nat.{_-_}
 use lib.ListN.{length}
 use borrow.Author.Tests.{le-leb, lt-leb}
 use Rattle.bits.specs.Seeking.{Seeking, seek}
-use Rattle.symbols.specs.Cells.{illegal, firstIllegal}
+use Rattle.cells.specs.Cells.{illegal, firstIllegal}
 use borrow.Author.Needs.{needs}
 use Rattle.symbols.proofs.legal.first_illegal.Statement.{statement}
 use Rattle.symbols.proofs.legal.first_illegal.Tie as tie

@@ -1,7 +1,7 @@
 -- `symbols::levels::level` meets its contract: the table's rule, `level-read`.
 -- Assumes nothing.
 use borrow.Author.Needs.{needs}
-use Rattle.symbols.specs.LevelLaws.{level-read}
+use Rattle.cells.specs.LevelLaws.{level-read}
 use Rattle.symbols.proofs.levels.level.Statement.{statement}
 use Rattle.symbols.proofs.levels.level.Tie as tie
 

@@ -1,8 +1,8 @@
 -- `symbols::levels::ordinal` meets its contract: the arithmetic of (l + 3) / 2 at the four levels.
 -- Assumes nothing.
 use borrow.Author.Needs.{needs}
-use Rattle.symbols.specs.Levels.{ordinal}
-use Rattle.symbols.specs.LevelLaws.{by-level}
+use Rattle.cells.specs.Levels.{ordinal}
+use Rattle.cells.specs.LevelLaws.{by-level}
 use Rattle.symbols.proofs.levels.ordinal.Statement.{statement}
 use Rattle.symbols.proofs.levels.ordinal.Tie as tie
 

@@ -1,7 +1,7 @@
 -- `symbols::levels::pair` meets its contract: the table's rule, `pair-read`.
 -- Assumes nothing.
 use borrow.Author.Needs.{needs}
-use Rattle.symbols.specs.LevelLaws.{pair-read}
+use Rattle.cells.specs.LevelLaws.{pair-read}
 use Rattle.symbols.proofs.levels.pair.Statement.{statement}
 use Rattle.symbols.proofs.levels.pair.Tie as tie
 

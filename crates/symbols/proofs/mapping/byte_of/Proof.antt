@@ -1,7 +1,7 @@
 -- `symbols::mapping::byte_of` meets its contract: the four bits of I and the four of Q, in their places.
 -- Assumes nothing.
 use borrow.Author.Needs.{needs}
-use Rattle.symbols.specs.CellLaws.{byte-woven}
+use Rattle.cells.specs.CellLaws.{byte-woven}
 use Rattle.symbols.proofs.mapping.byte_of.Statement.{statement}
 use Rattle.symbols.proofs.mapping.byte_of.Tie as tie
 

@@ -1,6 +1,6 @@
 -- `symbols::mapping::cell_byte` meets its contract: one law for X and one for Y.
 -- Assumes nothing.
-use Rattle.symbols.specs.CellLaws.{halves}
+use Rattle.cells.specs.CellLaws.{halves}
 use borrow.Author.Needs.{needs}
 use Rattle.symbols.proofs.mapping.cell_byte.Statement.{statement}
 use Rattle.symbols.proofs.mapping.cell_byte.Tie as tie

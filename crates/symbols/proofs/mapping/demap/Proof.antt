@@ -3,8 +3,8 @@
 use Prim.Native.Nat.{_-_}
 use lib.ListN.{length}
 use Rattle.bits.specs.Filling.{Filling, fill}
-use Rattle.symbols.specs.Cells.{byteAt}
-use Rattle.symbols.specs.CellLaws.{bits-filled, legal}
+use Rattle.cells.specs.Cells.{byteAt}
+use Rattle.cells.specs.CellLaws.{bits-filled, legal}
 use borrow.Author.Needs.{needs}
 use Rattle.symbols.proofs.mapping.demap.Statement.{statement}
 use Rattle.symbols.proofs.mapping.demap.Tie as tie

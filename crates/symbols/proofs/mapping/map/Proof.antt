@@ -3,8 +3,8 @@
 use Prim.Native.Nat.{_-_}
 use lib.ListN.{length}
 use Rattle.bits.specs.Filling.{Filling, fill}
-use Rattle.symbols.specs.Cells.{cellsAt}
-use Rattle.symbols.specs.CellLaws.{cells-filled}
+use Rattle.cells.specs.Cells.{cellsAt}
+use Rattle.cells.specs.CellLaws.{cells-filled}
 use borrow.Author.Needs.{needs}
 use Rattle.symbols.proofs.mapping.map.Statement.{statement}
 use Rattle.symbols.proofs.mapping.map.Tie as tie

@@ -1,6 +1,6 @@
 -- `symbols::mapping::rails` meets its contract: the definition, from what `level` and `ordinal` ensure.
 -- Assumes nothing.
-use Rattle.symbols.specs.CellLaws.{rails-is}
+use Rattle.cells.specs.CellLaws.{rails-is}
 use borrow.Author.Needs.{needs}
 use Rattle.symbols.proofs.mapping.rails.Statement.{statement}
 use Rattle.symbols.proofs.mapping.rails.Tie as tie

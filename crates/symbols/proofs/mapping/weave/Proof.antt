@@ -1,7 +1,7 @@
 -- `symbols::mapping::weave` meets its contract: `weave-is`, from what `pair` ensures.
 -- Assumes nothing.
 use borrow.Author.Needs.{needs}
-use Rattle.symbols.specs.CellLaws.{weave-is}
+use Rattle.cells.specs.CellLaws.{weave-is}
 use Rattle.symbols.proofs.mapping.weave.Statement.{statement}
 use Rattle.symbols.proofs.mapping.weave.Tie as tie
 

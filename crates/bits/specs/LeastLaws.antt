@@ -1,0 +1,52 @@
+-- Laws of the least number that passes a test.
+-- Assumes nothing.
+use mathlib.Core.Path.{_≡_, refl, ap}
+use mathlib.Core.Bool.{Bool, true, false}
+use Prim.Native.Nat.{ℕ, zero, suc, _<_}
+use native.Mathlib.Nat.{not-suc-le-zero, le-of-suc-le-suc}
+use native.Mathlib.Omega.{arith}
+use borrow.Author.Tests.{eq-eqb, eqb-true}
+use lib.Dec.{eqb}
+use Rattle.bits.specs.Tests.{both}
+use Rattle.bits.specs.Least.{least}
+
+-- A number that passes, and none below it does.
+pub least-is : (n : ℕ) (p : ℕ → Bool) (i : ℕ) → i < n → p i ≡ true → ((k : ℕ) → k < i → p k ≡ false) → least n p ≡ i
+unfolding least
+least-is zero p i l e none = absurd (not-suc-le-zero l)
+least-is (suc n) p zero l e none = simp e
+least-is (suc n) p (suc i) l e none =
+    let z : p 0 ≡ false = none 0 (omega arith) in
+    simp z (ap suc (least-is n (λ k. p (suc k)) i (le-of-suc-le-suc l) e (λ k lk. none (suc k) (omega arith))))
+
+-- The only number below n that passes.
+pub least-only : (n : ℕ) (p : ℕ → Bool) (k : ℕ) → k < n → p k ≡ true → ((j : ℕ) → j < n → p j ≡ true → j ≡ k) → least n p ≡ k
+least-only n p k l e only = least-is n p k l e (λ j lj. fails j lj (p j) refl)
+  where
+    fails : (j : ℕ) → j < k → (t : Bool) → p j ≡ t → p j ≡ false
+    fails j lj true h = absurd (let s : j ≡ k = only j (omega arith) h in omega arith)
+    fails j lj false h = h
+
+-- Two tests of equality passed are two equations.
+both-equal : (a b c d : ℕ) → a ≡ b → c ≡ d → both (eqb a b) (eqb c d) ≡ true
+both-equal a b c d p q = rw (eq-eqb a b p) (eq-eqb c d q)
+
+equal-left : (a b c d : ℕ) → both (eqb a b) (eqb c d) ≡ true → a ≡ b
+equal-left a b c d h = go (eqb a b) refl h
+  where
+    go : (t : Bool) → eqb a b ≡ t → both t (eqb c d) ≡ true → a ≡ b
+    go true e q = eqb-true a b e
+    go false e q = absurd (let z : _≡_ {A = Bool} false true = q in lies z)
+      where
+        lies : false ≡ true → ⊥
+        lies z = let n : _≡_ {A = ℕ} 0 1 = cc in omega arith
+
+equal-right : (a b c d : ℕ) → both (eqb a b) (eqb c d) ≡ true → c ≡ d
+equal-right a b c d h = eqb-true c d (rw (eq-eqb a b (equal-left a b c d h)) at h)
+
+-- The only number below n at which two functions have given values.
+pub least-pair : (n : ℕ) (f g : ℕ → ℕ) (a b k : ℕ) → k < n → f k ≡ a → g k ≡ b → ((j : ℕ) → j < n → f j ≡ a → g j ≡ b → j ≡ k)
+    → least n (λ j. both (eqb (f j) a) (eqb (g j) b)) ≡ k
+least-pair n f g a b k l p q only =
+    least-only n (λ j. both (eqb (f j) a) (eqb (g j) b)) k l (both-equal (f k) a (g k) b p q)
+    (λ j lj h. only j lj (equal-left (f j) a (g j) b h) (equal-right (f j) a (g j) b h))

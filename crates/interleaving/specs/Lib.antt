@@ -1,0 +1,15 @@
+-- Definitions first; the laws about each stand in the file below it.
+pub mod NumberLaws
+pub mod Rows
+pub mod SubsetLaws
+pub mod Block
+pub mod BlockLaws
+pub mod Positions
+pub mod PositionLaws
+pub mod BenchValues
+pub mod Interleaving
+pub mod InterleavingLaws
+pub mod Calls
+pub mod CallLaws
+pub mod BlockBuffer
+pub mod BlockBufferLaws

@@ -1,0 +1,176 @@
+-- Laws of the header.
+-- Assumes nothing.
+use mathlib.Core.Path.{_≡_, refl, sym, ap, _∙_}
+use mathlib.Core.List.{List}
+use mathlib.Core.Bool.{Bool, true, false}
+use Prim.Native.Nat.{ℕ, _+_, _*_, _^_, _<_, _≤_}
+use native.Mathlib.Omega.{arith}
+use borrow.Author.Tests.{lt-ltb, le-ltb, le-leb, eq-eqb, leb-true, eqb-true, ltb-true, ltb-false}
+use mathlib.Core.Logic.{_⊎_, inl, inr, ⊎-elim}
+use lib.Dec.{eqb, ltb}
+use lib.ListN.{getD, take}
+use lib.Seq.{getD-take}
+use Rattle.bits.specs.Tests.{both}
+use Rattle.calls.specs.declared.Answer.the-variants.{Done, Refused}
+use Rattle.calls.specs.declared.Refusal.{Refusal}
+use Rattle.calls.specs.declared.Refusal.the-variants.{Misfit, BadHeader}
+use Rattle.lineformat.specs.declared.Header.{Header}
+use Rattle.lineformat.specs.Header.{number, rulesHold, good, refused, judged}
+
+-- ---- the numbers
+
+-- A number of four bytes is one of 32 bits.
+pub number-below : (bytes : List ℕ) (k : ℕ) → ((i : ℕ) → getD bytes i 0 < 256) → number bytes k < 2 ^ 32
+unfolding number
+number-below bytes k small = omega (arith, small (4 * k), small (4 * k + 1), small (4 * k + 2), small (4 * k + 3))
+
+-- A number by halves, as a worker gathers it.
+pub by-halves : (bytes : List ℕ) (k a b : ℕ) → a ≡ getD bytes (4 * k) 0 * 256 + getD bytes (4 * k + 1) 0
+    → b ≡ getD bytes (4 * k + 2) 0 * 256 + getD bytes (4 * k + 2 + 1) 0 → a * 65536 + b ≡ number bytes k
+unfolding number
+by-halves bytes k a b ea eb = let e : 4 * k + 2 + 1 ≡ 4 * k + 3 = omega arith in omega (arith, ea, eb, ap (λ (i : ℕ). getD bytes i 0) e)
+
+-- A header's numbers lie in its first sixteen bytes.
+pub number-first : (bytes more : List ℕ) (k : ℕ) → k < 4 → take 16 bytes ≡ take 16 more → number bytes k ≡ number more k
+unfolding number
+number-first bytes more k l e = rw (same (4 * k) (omega arith), same (4 * k + 1) (omega arith), same (4 * k + 2) (omega arith), same (4 * k + 3) (omega arith))
+  where
+    same : (i : ℕ) → i < 16 → getD bytes i 0 ≡ getD more i 0
+    same i h = sym (getD-take 16 bytes i 0 h) ∙ ap (λ (x : List ℕ). getD x i 0) e ∙ getD-take 16 more i 0 h
+
+-- ---- the rules
+
+-- The numbers of a header keep the rules in a file of so many bytes.
+pub record Rules (n o f total size : ℕ) : Type 0 where
+  pub one : 1 ≤ n
+  pub most : n ≤ 64
+  pub after-header : 16 ≤ o
+  pub after-list : o + 12288 ≤ f
+  pub sum : total ≡ f + 356352 * n
+  pub whole : total ≡ size
+
+pub both-true : (a b : Bool) → both a b ≡ true → (a ≡ true) × (b ≡ true)
+both-true true b e = (refl, e)
+both-true false b e = let z : _≡_ {A = ℕ} 0 1 = cc in absurd (omega arith)
+
+module _ (n o f total size : ℕ) where
+  pub rules-true : Rules n o f total size → rulesHold n o f total size ≡ true
+  unfolding rulesHold
+  rules-true r = simp (le-leb _ _ (r .one), le-leb _ _ (r .most), le-leb _ _ (r .after-header), le-leb _ _ (r .after-list), eq-eqb _ _ (r .sum), eq-eqb _ _ (r .whole))
+
+  pub rules-are : rulesHold n o f total size ≡ true → Rules n o f total size
+  unfolding rulesHold
+  rules-are e =
+      let e1 = both-true _ _ e in
+      let e2 = both-true _ _ (e1 .1) in
+      let e3 = both-true _ _ (e2 .1) in
+      let e4 = both-true _ _ (e3 .1) in
+      let e5 = both-true _ _ (e4 .1) in
+      record {
+        one = leb-true _ _ (e1 .0);
+        most = leb-true _ _ (e2 .0);
+        after-header = leb-true _ _ (e3 .0);
+        after-list = leb-true _ _ (e4 .0);
+        sum = eqb-true _ _ (e5 .0);
+        whole = eqb-true _ _ (e5 .1);
+      }
+
+  pub rules-false : (Rules n o f total size → ⊥) → rulesHold n o f total size ≡ false
+  rules-false h = go (rulesHold n o f total size) refl
+    where
+      go : (b : Bool) → rulesHold n o f total size ≡ b → b ≡ false
+      go true e = absurd (h (rules-are e))
+      go false e = refl
+
+  -- Each rule by itself, broken.
+  pub none : n < 1 → false ≡ rulesHold n o f total size
+  none h = sym (rules-false (λ r. omega arith))
+
+  pub too-many : 64 < n → false ≡ rulesHold n o f total size
+  too-many h = sym (rules-false (λ r. omega arith))
+
+  pub list-early : o < 16 → false ≡ rulesHold n o f total size
+  list-early h = sym (rules-false (λ r. omega arith))
+
+  pub frames-early : f < o + 12288 → false ≡ rulesHold n o f total size
+  frames-early h = sym (rules-false (λ r. omega arith))
+
+  pub other-sum : (total ≡ f + 356352 * n → ⊥) → false ≡ rulesHold n o f total size
+  other-sum h = sym (rules-false (λ r. h (r .sum)))
+
+  -- Where the others hold, the last rule decides.
+  pub last-rule : 1 ≤ n → n ≤ 64 → 16 ≤ o → o + 12288 ≤ f → total ≡ f + 356352 * n → eqb total size ≡ rulesHold n o f total size
+  unfolding rulesHold
+  last-rule a b c d e = simp (le-leb _ _ a, le-leb _ _ b, le-leb _ _ c, le-leb _ _ d, eq-eqb _ _ e)
+
+pub ruleset one-by-one = (none, too-many, list-early, frames-early, other-sum, last-rule)
+
+-- ---- the judgement, case by case
+
+-- The numbers in these bytes keep the rules in a file of so many bytes.
+abbrev pub RulesOf : List ℕ → ℕ → Type 0
+RulesOf bytes size = Rules (number bytes 0) (number bytes 1) (number bytes 2) (number bytes 3) size
+
+-- The header in these bytes is that of a file of so many bytes.
+pub record Sound (bytes : List ℕ) (size : ℕ) : Type 0 where
+  pub long : 16 ≤ size
+  pub rules : RulesOf bytes size
+  pub is : judged bytes size ≡ good (number bytes 0) (number bytes 1) (number bytes 2) (number bytes 3)
+
+module _ (bytes : List ℕ) (size : ℕ) where
+  pub judged-short : size < 16 → judged bytes size ≡ refused Misfit
+  unfolding judged
+  judged-short l = simp (lt-ltb _ _ l)
+
+  pub judged-broken : 16 ≤ size → (RulesOf bytes size → ⊥) → judged bytes size ≡ refused BadHeader
+  unfolding judged
+  judged-broken l h = simp (le-ltb _ _ l, rules-false _ _ _ _ _ h)
+
+  pub judged-good : 16 ≤ size → RulesOf bytes size → Sound bytes size
+  unfolding judged
+  judged-good l r = record { long = l; rules = r; is = simp (le-ltb _ _ l, rules-true _ _ _ _ _ r) }
+
+  -- There is no fourth case.
+  pub verdict : ((r : Refusal) × (judged bytes size ≡ refused r)) ⊎ Sound bytes size
+  verdict = go (ltb size 16) refl (rulesHold (number bytes 0) (number bytes 1) (number bytes 2) (number bytes 3) size) refl
+    where
+      go : (b : Bool) → ltb size 16 ≡ b → (c : Bool) → rulesHold (number bytes 0) (number bytes 1) (number bytes 2) (number bytes 3) size ≡ c
+          → ((r : Refusal) × (judged bytes size ≡ refused r)) ⊎ Sound bytes size
+      go true p c q = inl (Misfit, judged-short (ltb-true _ _ p))
+      go false p true q = inr (judged-good (ltb-false _ _ p) (rules-are _ _ _ _ _ q))
+      go false p false q =
+          inl (BadHeader, judged-broken (ltb-false _ _ p) (λ r. let z : _≡_ {A = ℕ} 0 1 = cc (rules-true _ _ _ _ _ r) in omega arith))
+
+  -- A header that is not refused keeps the rules, and its numbers are those of the bytes.
+  pub judged-done : (v : ℕ) → judged bytes size .answer ≡ Done v → Sound bytes size
+  judged-done v e =
+      ⊎-elim (λ w. let z : _≡_ {A = ℕ} 0 1 = cc (ap (λ (x : Header). x .answer) (w .1)) in absurd (omega arith)) (λ w. w) verdict
+
+  -- A refused header has zeros.
+  pub judged-refused : (r : Refusal) → judged bytes size .answer ≡ Refused r → judged bytes size ≡ refused r
+  judged-refused r e =
+      ⊎-elim (λ w. w .1 ∙ ap refused (inner (w .0) (sym (ap (λ (x : Header). x .answer) (w .1)) ∙ e)))
+      (λ w. let z : _≡_ {A = ℕ} 0 1 = cc (ap (λ (x : Header). x .answer) (w .is)) in absurd (omega arith)) verdict
+    where
+      inner : (a : Refusal) → Refused a ≡ Refused r → a ≡ r
+      inner a p = cc
+
+  -- The numbers are below 2^32, so a count of the file's bytes may stop there: a longer file is refused whatever follows.
+  pub judged-long : ((i : ℕ) → getD bytes i 0 < 256) → 2 ^ 32 ≤ size → judged bytes size ≡ refused BadHeader
+  judged-long small l = judged-broken (omega arith) (λ r. omega (arith, number-below bytes 3 small, r .whole))
+
+  -- The same as a worker meets them: it has the numbers, and whether the rules hold.
+  pub case-short : (h : Header) → h ≡ refused Misfit → size < 16 → h ≡ judged bytes size
+  case-short h e l = e ∙ sym (judged-short l)
+
+  module _ (n o f total : ℕ) (hold : Bool) (en : n ≡ number bytes 0) (eo : o ≡ number bytes 1) (ef : f ≡ number bytes 2) (et : total ≡ number bytes 3)
+      (e : hold ≡ rulesHold n o f total size) (l : 16 ≤ size) where
+    pub case-good : hold ≡ true → good n o f total ≡ judged bytes size
+    unfolding judged
+    case-good t = rw (en, eo, ef, et) (simp (le-ltb _ _ l, (rw (en, eo, ef, et) at (sym e ∙ t))))
+
+    pub case-broken : (h : Header) → h ≡ refused BadHeader → hold ≡ false → h ≡ judged bytes size
+    unfolding judged
+    case-broken h q t = q ∙ simp (le-ltb _ _ l, (rw (en, eo, ef, et) at (sym e ∙ t)))
+
+pub ruleset judging = (case-short, case-good, case-broken)

@@ -1,0 +1,48 @@
+-- Reading a sub-frame of a line file.
+-- Assumes nothing.
+use mathlib.Core.List.{List}
+use mathlib.Core.Bool.{cond}
+use Prim.Native.Nat.{ℕ, _+_, _*_}
+use lib.Dec.{ltb, leb, eqb}
+use lib.ListN.{take, drop}
+use Rattle.bits.specs.Tests.{both}
+use Rattle.calls.specs.declared.Answer.{Answer}
+use Rattle.calls.specs.declared.Answer.the-variants.{Done, Refused}
+use Rattle.calls.specs.declared.Refusal.the-variants.{BadHeader, NoSuchFrame}
+use Rattle.lineformat.specs.Header.{number}
+use Rattle.lineformat.specs.Opening.{openAnswer, partWhen, OpenFile}
+
+-- No. 2: "An open file whose numbers differ from those in its bytes".
+unfoldable pub sameAnswer : List ℕ → ℕ → ℕ → ℕ → Answer
+sameAnswer file n o f =
+    cond (both (eqb n (number file 0)) (both (eqb o (number file 1)) (eqb f (number file 2)))) (Done 0) (Refused BadHeader)
+
+-- No. 4: "sub-frame above 47, or super-frame not below n".
+unfoldable pub frameAnswer : ℕ → ℕ → ℕ → Answer
+frameAnswer n q s = cond (both (leb s 47) (ltb q n)) (Done 0) (Refused NoSuchFrame)
+
+-- A refusal stands; where there is none, what follows decides.
+abbrev pub andThen : Answer → Answer → Answer
+andThen (Done v) next = next
+andThen (Refused r) next = Refused r
+
+-- What the reader's companion answers, in the order of 01's table: the bytes are refused as the opening of them would be, then
+-- the numbers, then the frame.
+unfoldable pub readAnswer : List ℕ → ℕ → ℕ → ℕ → ℕ → ℕ → Answer
+readAnswer file n o f q s = andThen (openAnswer file) (andThen (sameAnswer file n o f) (frameAnswer n q s))
+
+-- "7,424 bytes from f + 356,352×q + 7,424×s".
+abbrev pub startOf : ℕ → ℕ → ℕ → ℕ
+startOf f q s = f + 356352 * q + 7424 * s
+
+-- "For super-frame q and sub-frame s the reader hands back that sub-frame's own stretch of the file", "and a refused reader
+-- hands back the empty part".
+unfoldable pub readPart : List ℕ → ℕ → ℕ → ℕ → ℕ → ℕ → List ℕ
+readPart file n o f q s = partWhen (readAnswer file n o f q s) (take 7424 (drop (startOf f q s) file))
+
+-- The same of an open file.
+abbrev pub readAnswerIn : OpenFile → ℕ → ℕ → Answer
+readAnswerIn d q s = readAnswer (d .file) (d .superframes) (d .overhead) (d .frames) q s
+
+abbrev pub readPartIn : OpenFile → ℕ → ℕ → List ℕ
+readPartIn d q s = readPart (d .file) (d .superframes) (d .overhead) (d .frames) q s

@@ -1,0 +1,133 @@
+-- Laws of writing a header.
+-- Assumes nothing.
+use mathlib.Core.Path.{_≡_, refl, sym, ap, _∙_}
+use mathlib.Core.List.{List}
+use mathlib.Core.Bool.{Bool, true, false, cond}
+use Prim.Native.Nat.{ℕ, _+_, _*_, _/_, _%_, _^_, _<_, _≤_}
+use native.Mathlib.Nat.{add-zero, div-one, div-div-eq-div-mul, div-add-mod', mod-eq-of-lt}
+use native.Mathlib.Omega.{arith}
+use borrow.Author.Tests.{le-leb, lt-leb, eq-eqb, ne-eqb}
+use lib.Dec.{leb, eqb}
+use lib.ListN.{length, getD, take}
+use lib.Seq.{take-all}
+use Rattle.bits.specs.ListLaws.{length-tabulate, getD-tabulate}
+use Rattle.bits.specs.Tests.{both}
+use Rattle.calls.specs.declared.Answer.the-variants.{Done, Refused}
+use Rattle.calls.specs.declared.Refusal.the-variants.{Misfit, BadHeader}
+use Rattle.calls.specs.Answers.{refusalOf, Accepted, TurnedBack}
+use Rattle.lineformat.specs.Header.{number}
+use Rattle.lineformat.specs.HeaderLaws.{Sound, judged-good, number-first}
+use Rattle.lineformat.specs.Opening.{openFile, openCall}
+use Rattle.lineformat.specs.OpeningLaws.{open-done}
+use Rattle.lineformat.specs.Writing.{byteOf, headerBytes, numbersFor, Written, written, writeCall}
+
+-- ---- a written number is read back
+
+-- The four bytes of a number make it up again.
+number-again : (x : ℕ) → x < 2 ^ 32 → ((byteOf x 0 * 256 + byteOf x 1) * 256 + byteOf x 2) * 256 + byteOf x 3 ≡ x
+unfolding byteOf
+number-again x l =
+    let two : x / 256 / 256 ≡ x / 65536 = div-div-eq-div-mul x 256 256 in
+    let three : x / 65536 / 256 ≡ x / 16777216 = div-div-eq-div-mul x 65536 256 in
+    let top : x / 16777216 < 256 = omega arith in
+    let x0 : x / 256 * 256 + x % 256 ≡ x = div-add-mod' x 256 in
+    let x1 : x / 65536 * 256 + x / 256 % 256 ≡ x / 256 = ap (λ (q : ℕ). q * 256 + x / 256 % 256) (sym two) ∙ div-add-mod' (x / 256) 256 in
+    let x2 : x / 16777216 * 256 + x / 65536 % 256 ≡ x / 65536 = ap (λ (q : ℕ). q * 256 + x / 65536 % 256) (sym three) ∙ div-add-mod' (x / 65536) 256 in
+    let x3 : x / 16777216 % 256 ≡ x / 16777216 = mod-eq-of-lt top in
+    rw (div-one x, x3) (omega arith)
+
+pub headerBytes-length : (numbers : List ℕ) → length (headerBytes numbers) ≡ 16
+unfolding headerBytes
+headerBytes-length numbers = length-tabulate 16 (λ i. byteOf (getD numbers (i / 4) 0) (i % 4))
+
+module _ (numbers : List ℕ) (k : ℕ) (l : k < 4) where
+  byte-at : (j : ℕ) → j < 4 → getD (headerBytes numbers) (4 * k + j) 0 ≡ byteOf (getD numbers k 0) j
+  unfolding headerBytes
+  byte-at j h =
+      let a : (4 * k + j) / 4 ≡ k = omega arith in
+      let b : (4 * k + j) % 4 ≡ j = omega arith in
+      getD-tabulate 16 (λ i. byteOf (getD numbers (i / 4) 0) (i % 4)) (4 * k + j) (omega arith) ∙ rw (a, b)
+
+  byte-at-first : getD (headerBytes numbers) (4 * k) 0 ≡ byteOf (getD numbers k 0) 0
+  byte-at-first = ap (λ (i : ℕ). getD (headerBytes numbers) i 0) (sym (add-zero (4 * k))) ∙ byte-at 0 (omega arith)
+
+  pub number-written : getD numbers k 0 < 2 ^ 32 → number (headerBytes numbers) k ≡ getD numbers k 0
+  unfolding number
+  number-written small =
+      rw (byte-at-first, byte-at 1 (omega arith), byte-at 2 (omega arith), byte-at 3 (omega arith)) (number-again (getD numbers k 0) small)
+
+-- ---- the call, case by case
+
+module _ (n : ℕ) (header : List ℕ) where
+  pub write-misfit : (length header ≡ 16 → ⊥) → written (Refused Misfit) header ≡ writeCall n header
+  unfolding writeCall
+  write-misfit h = simp (ne-eqb _ _ h)
+
+  pub write-none : length header ≡ 16 → n < 1 → written (Refused BadHeader) header ≡ writeCall n header
+  unfolding writeCall
+  write-none e l = simp (eq-eqb _ _ e, lt-leb _ _ l)
+
+  pub write-too-many : length header ≡ 16 → 64 < n → written (Refused BadHeader) header ≡ writeCall n header
+  unfolding writeCall
+  write-too-many e l = let one : 1 ≤ n = omega arith in simp (eq-eqb _ _ e, le-leb _ _ one, lt-leb _ _ l)
+
+  pub write-done : (h : List ℕ) → length header ≡ 16 → 1 ≤ n → n ≤ 64 → h ≡ headerBytes (numbersFor n) → written (Done 0) h ≡ writeCall n header
+  unfolding writeCall
+  write-done h e a b q = rw q (simp (eq-eqb _ _ e, le-leb _ _ a, le-leb _ _ b))
+
+pub ruleset write-cases = (write-misfit, write-none, write-too-many, write-done)
+
+-- ---- what callers may lean on
+
+module _ (n : ℕ) (header : List ℕ) where
+  -- A refused call leaves the buffer as it was.
+  pub refused-keeps : TurnedBack (writeCall n header .answer) → writeCall n header .header ≡ header
+  unfolding writeCall
+  refused-keeps t = go (eqb (length header) 16) (both (leb 1 n) (leb n 64)) t
+    where
+      choice : Bool → Bool → Written
+      choice a b = cond a (cond b (written (Done 0) (headerBytes (numbersFor n))) (written (Refused BadHeader) header)) (written (Refused Misfit) header)
+
+      go : (a b : Bool) → TurnedBack (choice a b .answer) → choice a b .header ≡ header
+      go true true h = absurd (h refl)
+      go true false h = refl
+      go false b h = refl
+
+  -- One with a buffer of 16 bytes and n from 1 to 64 is accepted.
+  pub write-accepted : length header ≡ 16 → 1 ≤ n → n ≤ 64 → Accepted (writeCall n header .answer)
+  write-accepted e a b = ap (λ (w : Written). refusalOf (w .answer)) (sym (write-done n header (headerBytes (numbersFor n)) e a b refl))
+
+-- A file of the right length that starts with the written header opens, with n, o = 16 and f = 12,304.
+module _ (n : ℕ) (file : List ℕ) (one : 1 ≤ n) (most : n ≤ 64) (starts : take 16 file ≡ headerBytes (numbersFor n)) (long : length file ≡ 12304 + 356352 * n) where
+  reads-back : (k : ℕ) → k < 4 → getD (numbersFor n) k 0 < 2 ^ 32 → number file k ≡ getD (numbersFor n) k 0
+  reads-back k l small =
+      number-first file (headerBytes (numbersFor n)) k l (starts ∙ sym (take-all 16 (headerBytes (numbersFor n)) (omega (arith, headerBytes-length (numbersFor n)))))
+      ∙ number-written (numbersFor n) k l small
+
+  pub written-sound : Sound file (length file)
+  written-sound =
+      judged-good file (length file) (omega arith)
+      (record {
+        one = omega (arith, e0);
+        most = omega (arith, e0);
+        after-header = omega (arith, e1);
+        after-list = omega (arith, e1, e2);
+        sum = omega (arith, e0, e2, e3);
+        whole = omega (arith, e3);
+      })
+    where
+      e0 : number file 0 ≡ n
+      e0 = reads-back 0 (omega arith) (omega arith)
+
+      e1 : number file 1 ≡ 16
+      e1 = reads-back 1 (omega arith) (omega arith)
+
+      e2 : number file 2 ≡ 12304
+      e2 = reads-back 2 (omega arith) (omega arith)
+
+      e3 : number file 3 ≡ 12304 + 356352 * n
+      e3 = reads-back 3 (omega arith) (omega arith)
+
+  pub written-opens : openCall file ≡ openFile file n 16 12304
+  written-opens =
+      open-done file written-sound ∙ rw (reads-back 0 (omega arith) (omega arith), reads-back 1 (omega arith) (omega arith), reads-back 2 (omega arith) (omega arith))
