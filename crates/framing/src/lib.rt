@@ -1,10 +1,10 @@
 // Framing and unframing by sub-frame (01, "Super-frame"): the two calls, over workers that take the sub-frame's own parts.
-mod comparing;
-mod layout;
-mod placing;
-
 use calls::Answer;
 use calls::Refusal;
+use mapper::legal::first_illegal;
+use subframe::comparing;
+use subframe::layout;
+use subframe::placing;
 ghost use mathlib.Core.Path.{_≡_};
 ghost use Rattle.cells.specs.Calls.{after};
 ghost use Rattle.frames.specs.Calls.{frameCall, unframeCall};
@@ -36,11 +36,11 @@ pub fn frame(number: u32, payload: &[u8], overhead: &[u8], frame: &mut [u8]) -> 
         return Answer::Refused(Refusal::Misfit);
     }
     let own = layout::own_overhead(number, overhead);
-    let at = symbols::legal::first_illegal(own);
+    let at = first_illegal(own);
     if at < own.len() {
         return Answer::Refused(Refusal::OffGrid(layout::overhead_start(number) * 2 + at));
     }
-    let in_payload = symbols::legal::first_illegal(payload);
+    let in_payload = first_illegal(payload);
     if in_payload < payload.len() {
         return Answer::Refused(Refusal::OffGrid(in_payload));
     }
@@ -66,11 +66,11 @@ pub fn unframe(number: u32, frame: &[u8], overhead: &[u8], payload: &mut [u8]) -
         return Answer::Refused(Refusal::Misfit);
     }
     let own = layout::own_overhead(number, overhead);
-    let at = symbols::legal::first_illegal(own);
+    let at = first_illegal(own);
     if at < own.len() {
         return Answer::Refused(Refusal::OffGrid(layout::overhead_start(number) * 2 + at));
     }
-    let in_frame = symbols::legal::first_illegal(frame);
+    let in_frame = first_illegal(frame);
     if in_frame < frame.len() {
         return Answer::Refused(Refusal::OffGrid(in_frame));
     }

@@ -2,12 +2,10 @@
 ghost use mathlib.Core.Path.{_≡_};
 ghost use Rattle.interleaving.specs.Calls.{joined, interleave, parted, deinterleave};
 
-pub mod block;
-mod buffer;
-mod joining;
-pub mod rows;
-mod taking_apart;
-
+use blocks::joining::reordered_blocks;
+use blocks::joining::write_bits;
+use blocks::taking_apart::restored_blocks;
+use blocks::taking_apart::write_pairs;
 use calls::Answer;
 use calls::Refusal;
 
@@ -24,8 +22,8 @@ pub fn interleave(pairs0: &[u8], pairs1: &[u8], bits: &mut [u8]) -> Answer
     if bits.len() != 21504 {
         return Answer::Refused(Refusal::Misfit);
     }
-    let blocks = joining::reordered_blocks(pairs0, pairs1);
-    joining::write_bits(&blocks, bits);
+    let blocks = reordered_blocks(pairs0, pairs1);
+    write_bits(&blocks, bits);
     Answer::Done(0)
 }
 
@@ -42,8 +40,8 @@ pub fn deinterleave(bits: &[u8], pairs0: &mut [u8], pairs1: &mut [u8]) -> Answer
     if pairs1.len() != 10752 {
         return Answer::Refused(Refusal::Misfit);
     }
-    let blocks = taking_apart::restored_blocks(bits);
-    taking_apart::write_pairs(&blocks, 0, pairs0);
-    taking_apart::write_pairs(&blocks, 1, pairs1);
+    let blocks = restored_blocks(bits);
+    write_pairs(&blocks, 0, pairs0);
+    write_pairs(&blocks, 1, pairs1);
     Answer::Done(0)
 }

@@ -1,8 +1,7 @@
-// The line file: its header, opening it, reading its sub-frames, writing a header.
+// The line file: opening it, reading its sub-frames, writing a header.
 mod line_file;
 mod opening;
 mod reading;
-mod rules;
 mod writing;
 
 pub use line_file::LineFile;
@@ -15,6 +14,4 @@ pub use opening::open_part;
 pub use reading::read_answer_at;
 pub use reading::read_at;
 pub use reading::start;
-pub use lineformat::Header;
-pub use rules::judge;
 pub use writing::write_header;

@@ -1,21 +1,9 @@
 // Writing a header.
 use calls::Answer;
 use calls::Refusal;
+use lineheader::writing::put_numbers;
 ghost use mathlib.Core.Path.{_≡_};
-ghost use mathlib.Core.List.{[], _∷_};
-ghost use lib.ListN.{length};
-ghost use Rattle.lineformat.specs.Writing.{headerBytes, written, writeCall};
-
-// Writes the numbers n, o, f and total as a header.
-fn put_numbers(n: u32, o: u32, f: u32, total: u32, header: &mut [u8])
-    requires { ⌜ length (now header) ≡ 16 ⌝ }
-    ensures { λ _. ⌜ now (header .exit) ≡ headerBytes (n ∷ o ∷ f ∷ total ∷ []) ⌝ }
-{
-    let numbers = [n, o, f, total];
-    for i in 0..16 {
-        header[i] = ((numbers[i / 4] >> (24 - 8 * (i % 4))) % 256) as u8;
-    }
-}
+ghost use Rattle.lineformat.specs.Writing.{written, writeCall};
 
 // Writes the header of a file of so many super-frames, with no gaps.
 pub fn write_header(superframes: u32, header: &mut [u8]) -> Answer

@@ -3,7 +3,7 @@
 use calls::Answer;
 use libc::STDIN_FILENO;
 use libc::STDOUT_FILENO;
-use linefile::Header;
+use lineformat::Header;
 ghost use Prim.Native.Nat.{_≤_};
 
 // Reads a block and answers how many bytes it had: none at the end of the input, or where the read fails.
@@ -54,5 +54,5 @@ fn main() {
     if size == 16 {
         size = count_on(size);
     }
-    print_header(linefile::judge(&first, size));
+    print_header(lineheader::rules::judge(&first, size));
 }

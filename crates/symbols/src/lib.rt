@@ -1,10 +1,8 @@
 // Bits to cells and cells to bits (01, "Cells"): the two calls, each over a worker that takes any number of symbols.
-pub mod legal;
-mod levels;
-mod mapping;
-
 use calls::Answer;
 use calls::Refusal;
+use mapper::legal::first_illegal;
+use mapper::mapping;
 ghost use mathlib.Core.Path.{_≡_};
 ghost use Rattle.cells.specs.Calls.{after, bitsToCells, cellsToBits};
 
@@ -38,7 +36,7 @@ pub fn cells_to_bits(cells: &[u8], bits: &mut [u8]) -> Answer
     if bits.len() != BITS {
         return Answer::Refused(Refusal::Misfit);
     }
-    let at = legal::first_illegal(cells);
+    let at = first_illegal(cells);
     if at < cells.len() {
         return Answer::Refused(Refusal::OffGrid(at));
     }

@@ -1,0 +1,19 @@
+-- `blocks::joining::reordered_block` meets its contract: one law for each encoder.
+-- Assumes nothing.
+use Rattle.interleaving.specs.BlockBufferLaws.{sent-0, sent-1}
+use borrow.Author.Needs.{needs}
+use Rattle.blocks.proofs.joining.reordered_block.Statement.{statement}
+use Rattle.blocks.proofs.joining.reordered_block.Tie as tie
+
+ruleset kit = (needs, sent-0, sent-1)
+
+pub reordered-block-spec : {M : Type 1} → statement M
+reordered-block-spec =
+    tie.close
+    (tie.spec
+    (λ c κs. search kit)  -- pairs-block-requires
+    (λ c κs. search kit)  -- reorder-requires
+    (λ c. search kit)  -- returns
+    (λ c κs. search kit)  -- pairs-block-requires-2
+    (λ c κs. search kit)  -- reorder-requires-2
+    (λ c. search kit))  -- returns-2

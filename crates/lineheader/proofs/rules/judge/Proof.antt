@@ -1,0 +1,27 @@
+-- `lineheader::judge` meets its contract: the three cases of the judgement.
+-- Assumes nothing.
+use Rattle.lineformat.specs.HeaderLaws.{judging}
+use borrow.Author.Needs.{needs}
+use Rattle.lineheader.proofs.rules.judge.Statement.{statement}
+use Rattle.lineheader.proofs.rules.judge.Tie as tie
+
+ruleset kit = (needs, judging)
+
+pub judge-spec : {M : Type 1} → statement M
+judge-spec =
+    tie.close
+    (tie.spec
+    (λ c κs. search kit)  -- refused-requires
+    (λ c. search kit)  -- returns
+    (λ c κs. search kit)  -- number-requires
+    (λ c κs. search kit)  -- number-requires-2
+    (λ c κs. search kit)  -- number-requires-3
+    (λ c κs. search kit)  -- number-requires-4
+    (λ c κs. search kit)  -- rules-hold-requires
+    (λ c. search kit)  -- cast-t11
+    (λ c. search kit)  -- cast-t12
+    (λ c. search kit)  -- cast-t13
+    (λ c. search kit)  -- cast-t14
+    (λ c. search kit)  -- returns-2
+    (λ c κs. search kit)  -- refused-requires-2
+    (λ c. search kit))  -- returns-3

@@ -1,0 +1,39 @@
+-- `mapper::mapping::demap` meets its contract: the bytes are filled from the front.
+-- Assumes nothing.
+use Prim.Native.Nat.{_-_}
+use lib.ListN.{length}
+use Rattle.bits.specs.Filling.{Filling, fill}
+use Rattle.cells.specs.Cells.{byteAt}
+use Rattle.cells.specs.CellLaws.{bits-filled, legal}
+use borrow.Author.Needs.{needs}
+use Rattle.mapper.proofs.mapping.demap.Statement.{statement}
+use Rattle.mapper.proofs.mapping.demap.Tie as tie
+
+ruleset kit = (needs, fill, bits-filled, legal)
+
+abbrev Inv-loop : tie.InvT-loop
+Inv-loop cells bits₀ i₀ i-end bits i = Filling (byteAt cells) (length bits₀) i bits
+
+abbrev μ-loop : tie.MeasureT-loop
+μ-loop cells bits₀ i₀ i-end bits i = length bits₀ - i
+
+pub demap-spec : {M : Type 1} → statement M
+unfolding byteAt
+demap-spec =
+    tie.close
+    (tie.spec
+    Inv-loop
+    μ-loop
+    (λ c. search kit)  -- loop-holds
+    (λ c. search kit)  -- mul-byte-of
+    (λ c. search kit)  -- shared-slice-read-byte-of
+    (λ c. search kit)  -- mul-byte-of-2
+    (λ c. search kit)  -- add-byte-of
+    (λ c. search kit)  -- shared-slice-read-byte-of-2
+    (λ c κs. search kit)  -- byte-of-requires
+    (λ c. search kit)  -- slice-write-bits
+    (λ c. search kit)  -- add-i
+    (λ c. search kit)  -- loop-less
+    (λ c. search kit)  -- loop-again
+    (λ c. search kit)  -- same-length
+    (λ c. search kit))  -- returns
