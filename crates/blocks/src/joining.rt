@@ -7,9 +7,9 @@ ghost use Rattle.interleaving.specs.Block.{reordered};
 ghost use Rattle.interleaving.specs.BlockBuffer.{Held, pairsBlock, sentBlock, reorderedBlock, partsBit, outputBit};
 use crate::block::reorder;
 use crate::buffer::held_row;
+use crate::rows::block_row_of;
 use interleaving::BitRow;
 use interleaving::BlockRow;
-use crate::rows::block_row_of;
 
 // Block C of an encoder's row R.
 fn pairs_block(pairs: &[u8], row: usize, block: usize) -> [u16; 16]

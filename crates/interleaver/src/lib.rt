@@ -1,7 +1,6 @@
 // The interleaver: 21 pairs of each encoder to the bits of a buffer, and back.
 ghost use mathlib.Core.Path.{_≡_};
 ghost use Rattle.interleaving.specs.Calls.{joined, interleave, parted, deinterleave};
-
 use blocks::joining::reordered_blocks;
 use blocks::joining::write_bits;
 use blocks::taking_apart::restored_blocks;
