@@ -1,4 +1,4 @@
-//! The check word: 256 bits, bit 0 first, of which two code words differ in at least 6.
+//! The check word: 256 bits, bit 0 first. Two code words differ in at least 6 of them.
 
 use crate::{Refusal, capi};
 

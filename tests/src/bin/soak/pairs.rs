@@ -126,9 +126,10 @@ fn any_state(random: &mut Random) -> List {
     } else {
         vec![0; HISTORY_BYTES]
     };
-    let pair = match random.between(0, 4) {
+    let pair = match random.between(0, 5) {
         0 => random.between(0, 24) as u32,
-        1 => SPENT - random.between(0, 2) as u32,
+        1 => SPENT - 1,
+        2 => SPENT,
         _ => any_number(random),
     };
     List { history, pair }
