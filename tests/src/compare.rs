@@ -15,6 +15,15 @@ pub fn compare<const N: usize, A: Debug + PartialEq>(
     library: impl FnOnce([&mut [u8]; N]) -> A,
     reference: impl FnOnce([&mut [u8]; N]) -> A,
 ) -> (A, [Vec<u8>; N]) {
+    agreed(lent, library, reference).unwrap_or_else(|difference| panic!("{difference}"))
+}
+
+/// As `compare`, or what differs.
+pub fn agreed<const N: usize, A: Debug + PartialEq>(
+    lent: [&[u8]; N],
+    library: impl FnOnce([&mut [u8]; N]) -> A,
+    reference: impl FnOnce([&mut [u8]; N]) -> A,
+) -> Result<(A, [Vec<u8>; N]), String> {
     let lengths = lent.map(<[u8]>::len);
     let mut expected = lent.map(<[u8]>::to_vec);
     let answer = reference(expected.each_mut().map(|buffer| &mut buffer[..]));
@@ -24,16 +33,22 @@ pub fn compare<const N: usize, A: Debug + PartialEq>(
         let end = buffer.len() - GUARD.len();
         &mut buffer[GUARD.len()..end]
     }));
-    assert_eq!(given, answer, "lengths {lengths:?}");
+    if given != answer {
+        return Err(format!(
+            "lengths {lengths:?}: {given:?}, expected {answer:?}"
+        ));
+    }
     for (number, (given, expected)) in black_box(guarded).iter().zip(&expected).enumerate() {
         let expected = [&GUARD, &expected[..], &GUARD].concat();
         if *given != expected {
             let differs = (0..expected.len()).find(|&i| given[i] != expected[i]);
             let at = differs.map(|i| i as i64 - GUARD.len() as i64);
-            panic!("lengths {lengths:?}, {answer:?}: buffer {number} differs at byte {at:?}");
+            return Err(format!(
+                "lengths {lengths:?}, {answer:?}: buffer {number} differs at byte {at:?}"
+            ));
         }
     }
-    (answer, expected)
+    Ok((answer, expected))
 }
 
 /// As `compare`, of a call that must be refused with this answer and leave every buffer as it was.

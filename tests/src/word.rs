@@ -1,7 +1,10 @@
 //! The check word (002, 7.2.1): a code word is told by long division and parity, and a repair is
 //! found by trying every flip.
 
+use std::sync::LazyLock;
+
 use crate::bits::{pack, unpack};
+use crate::outcome::{Outcome, MISFIT};
 
 pub const WORD_BITS: usize = 256;
 pub const WORD_BYTES: usize = 32;
@@ -135,6 +138,17 @@ impl Trial {
             None => (LOST, *bytes),
         }
     }
+}
+
+/// As `ofec_repair_word`.
+pub fn repair_word(word: &mut [u8], front: u32) -> Outcome {
+    static TRIAL: LazyLock<Trial> = LazyLock::new(Trial::default);
+    let Ok(bytes) = <&mut [u8; WORD_BYTES]>::try_from(word) else {
+        return Outcome::refused(MISFIT);
+    };
+    let (number, repaired) = TRIAL.repair(bytes, front != 0);
+    *bytes = repaired;
+    Outcome::accepted(number)
 }
 
 /// Remainder and parity as one number: 0 exactly for a code word.

@@ -73,6 +73,7 @@ pub fn send(calls: &Calls, payloads: [&[u8]; 2], overhead: &[u8], random: &mut R
 }
 
 /// The history and pair number of one list of calls.
+#[derive(Clone)]
 pub struct List {
     pub history: Vec<u8>,
     pub pair: u32,

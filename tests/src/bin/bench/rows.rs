@@ -1,45 +1,71 @@
 //! Encoding and receiving the pairs of a super-frame.
 
+use ofec_tests::bits;
+use ofec_tests::chain::calls::{Encode, Receive};
 use ofec_tests::ffi;
-use ofec_tests::outcome::Outcome;
 use ofec_tests::random::Random;
 use ofec_tests::rows::{self, HISTORY_BYTES, MARKS, PAIR_BYTES, PAYLOAD_BYTES};
+use ofec_tests::word::LOST;
 
-use crate::report;
+use crate::same_structure;
+use crate::table::three;
 
 /// Pairs of a super-frame: 21 of each encoder in each of eight buffers.
-const PAIRS: usize = 336;
+pub const PAIRS: usize = 336;
 
-type Encode = fn(&[u8], &mut [u8], &mut [u8], u32) -> Outcome;
-type Receive = fn(&[u8], &mut [u8], &mut [u8], &mut [u8], u32) -> Outcome;
-
-pub fn run() {
-    let mut random = Random::new(1);
+/// Gives a line about the damage.
+pub fn run(random: &mut Random) -> String {
     let payloads = random.bytes(PAIRS * PAYLOAD_BYTES);
     let mut coded = vec![0; PAIRS * PAIR_BYTES];
     encode_all(rows::encode_pair, &payloads, &mut coded);
 
-    let mut out = [vec![0; coded.len()], vec![0; coded.len()]];
-    let [library, reference] = &mut out;
-    report(
+    let mut out = [0; 3].map(|_| vec![0; coded.len()]);
+    let [library, apart, same] = &mut out;
+    three(
         "encode 336 pairs",
         || encode_all(ffi::rows::encode_pair, &payloads, library),
-        || encode_all(rows::encode_pair, &payloads, reference),
+        || encode_all(rows::encode_pair, &payloads, apart),
+        || encode_all(same_structure::encode_pair, &payloads, same),
     );
     assert!(out.iter().all(|out| *out == coded));
 
-    let mut out = [vec![0; payloads.len()], vec![0; payloads.len()]];
-    let [library, reference] = &mut out;
-    report(
-        "receive 336 clean pairs",
-        || receive_all(ffi::rows::receive_pair, &coded, library),
-        || receive_all(rows::receive_pair, &coded, reference),
+    receive("clean", &coded);
+    let [one, four] = [1, 4].map(|in_a_thousand| {
+        let damage = format!("{in_a_thousand} in 1000 bits wrong");
+        receive(&damage, &damaged(&coded, in_a_thousand, random))
+    });
+    format!("Of 10,752 words, {one}; {four}.")
+}
+
+/// Says how many words were flawed.
+fn receive(damage: &str, coded: &[u8]) -> String {
+    let mut out = [0; 3].map(|_| Received::default());
+    let [library, apart, same] = &mut out;
+    three(
+        &format!("receive 336 pairs, {damage}"),
+        || *library = receive_all(ffi::rows::receive_pair, coded),
+        || *apart = receive_all(rows::receive_pair, coded),
+        || *same = receive_all(same_structure::receive_pair, coded),
     );
-    assert!(out.iter().all(|out| *out == payloads));
+    assert!(out[0] == out[1] && out[0] == out[2]);
+    let count = |mark| out[0].marks.iter().filter(|&&m| m == mark).count();
+    let (mended, lost) = (count(1) + count(2), count(LOST as u8));
+    format!("with {damage}, {mended} were repaired and {lost} lost")
+}
+
+/// Each bit is wrong with this probability.
+fn damaged(coded: &[u8], in_a_thousand: usize, random: &mut Random) -> Vec<u8> {
+    let mut damaged = coded.to_vec();
+    for index in 0..8 * coded.len() {
+        if random.between(0, 1000) < in_a_thousand {
+            bits::flip(&mut damaged, index);
+        }
+    }
+    damaged
 }
 
 /// The pairs of one encoder from fresh.
-fn encode_all(encode: Encode, payloads: &[u8], coded: &mut [u8]) {
+pub fn encode_all(encode: Encode, payloads: &[u8], coded: &mut [u8]) {
     let mut history = [0; HISTORY_BYTES];
     let mut pair = 0;
     let pairs = payloads
@@ -48,20 +74,31 @@ fn encode_all(encode: Encode, payloads: &[u8], coded: &mut [u8]) {
     for (payload, coded) in pairs {
         pair = encode(payload, coded, &mut history, pair).value;
     }
-    assert_eq!(pair as usize, PAIRS);
+    assert_eq!(pair as usize, payloads.len() / PAYLOAD_BYTES);
+}
+
+#[derive(Default, PartialEq)]
+pub struct Received {
+    pub payloads: Vec<u8>,
+    pub marks: Vec<u8>,
 }
 
 /// The pairs of one receiver from fresh.
-fn receive_all(receive: Receive, coded: &[u8], payloads: &mut [u8]) {
+pub fn receive_all(receive: Receive, coded: &[u8]) -> Received {
+    let pairs = coded.len() / PAIR_BYTES;
+    let mut received = Received {
+        payloads: vec![0; pairs * PAYLOAD_BYTES],
+        marks: vec![0; pairs * MARKS],
+    };
     let mut history = [0; HISTORY_BYTES];
-    let mut marks = [0; MARKS];
     let mut pair = 0;
-    let pairs = coded
-        .chunks(PAIR_BYTES)
-        .zip(payloads.chunks_mut(PAYLOAD_BYTES));
-    for (coded, payload) in pairs {
-        pair = receive(coded, payload, &mut marks, &mut history, pair).value;
-        assert_eq!(marks, [0; MARKS]);
+    let places = received
+        .payloads
+        .chunks_mut(PAYLOAD_BYTES)
+        .zip(received.marks.chunks_mut(MARKS));
+    for (coded, (payload, marks)) in coded.chunks(PAIR_BYTES).zip(places) {
+        pair = receive(coded, payload, marks, &mut history, pair).value;
     }
-    assert_eq!(pair as usize, PAIRS);
+    assert_eq!(pair as usize, pairs);
+    received
 }

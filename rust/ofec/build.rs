@@ -1,0 +1,21 @@
+//! Links the verified library, as `rt staticlib capi` leaves it.
+
+use std::path::Path;
+use std::process::exit;
+
+fn main() {
+    let root = std::env::var("CARGO_MANIFEST_DIR").expect("set by cargo");
+    let folder = Path::new(&root).join("../../target/staticlib");
+    let archive = folder.join("libcapi.a");
+    println!("cargo:rerun-if-changed=build.rs");
+    println!("cargo:rerun-if-changed={}", archive.display());
+    if !archive.is_file() {
+        eprintln!(
+            "{} is missing: run `rt staticlib capi` first",
+            archive.display()
+        );
+        exit(1);
+    }
+    println!("cargo:rustc-link-search=native={}", folder.display());
+    println!("cargo:rustc-link-lib=static=capi");
+}

@@ -1,0 +1,99 @@
+//! The super-frame: 48 sub-frames of 3,712 cells, in which overhead stands among the payload. The
+//! payload of a super-frame is the cells of eight buffers, one after the other.
+
+use crate::{Refusal, capi};
+
+/// Sub-frames of a super-frame, numbered from 0.
+pub const SUBFRAMES: u32 = 48;
+/// Bytes of a sub-frame.
+pub const FRAME_BYTES: usize = 7_424;
+/// Bytes of a super-frame.
+pub const SUPERFRAME_BYTES: usize = SUBFRAMES as usize * FRAME_BYTES;
+/// Bytes of the overhead list of a super-frame.
+pub const OVERHEAD_BYTES: usize = 12_288;
+
+/// Bytes of the payload cells of sub-frame `number`, or nothing where there is no such sub-frame.
+///
+/// ```
+/// use ofec::cells::CELLS_BYTES;
+/// use ofec::frame::payload_bytes;
+///
+/// assert_eq!([0, 1, 47, 48].map(payload_bytes), [Some(6_980), Some(7_172), Some(7_172), None]);
+/// assert_eq!((0..).map_while(payload_bytes).sum::<usize>(), 8 * CELLS_BYTES);
+/// ```
+pub fn payload_bytes(number: u32) -> Option<usize> {
+    match number {
+        0 => Some(6_980),
+        1..SUBFRAMES => Some(7_172),
+        _ => None,
+    }
+}
+
+/// Frames sub-frame `number`: `payload` of [`payload_bytes`] and its part of the `overhead` list of
+/// [`OVERHEAD_BYTES`] to `frame` of [`FRAME_BYTES`].
+///
+/// Refusals: [`Refusal::Misfit`], [`Refusal::NoSuchFrame`], [`Refusal::OffGrid`] with the index in
+/// `overhead` or, if that is legal, in `payload`.
+///
+/// A super-frame of eight buffers' cells:
+///
+/// ```
+/// use ofec::cells::CELLS_BYTES;
+/// use ofec::frame::*;
+///
+/// let overhead = [5; OVERHEAD_BYTES];
+/// let cells: Vec<u8> = (0..8 * CELLS_BYTES).map(|i| (i % 16) as u8).collect();
+///
+/// let mut superframe = vec![0; SUPERFRAME_BYTES];
+/// let mut rest = &cells[..];
+/// for (number, place) in (0..).zip(superframe.chunks_mut(FRAME_BYTES)) {
+///     let (payload, after) = rest.split_at(payload_bytes(number).unwrap());
+///     frame(number, payload, &overhead, place)?;
+///     rest = after;
+/// }
+/// assert!(rest.is_empty());
+/// // Cells 0 to 109 of sub-frame 0 are overhead, then comes payload, and cell 128 is a pilot.
+/// assert_eq!(superframe[2 * 109..2 * 112], [5, 5, 0, 1, 2, 3]);
+/// assert_eq!(superframe[2 * 128..2 * 129], [5, 5]);
+/// # Ok::<(), ofec::Refusal>(())
+/// ```
+pub fn frame(
+    number: u32,
+    payload: &[u8],
+    overhead: &[u8],
+    frame: &mut [u8],
+) -> Result<(), Refusal> {
+    capi::frame(number, payload, overhead, frame).map(|_| ())
+}
+
+/// Unframes sub-frame `number`: the buffers are those of [`frame`](frame()), the payload written.
+/// Gives the number of overhead cells that differ from the list.
+///
+/// Refusals: as in [`frame`](frame()), but that the second index is one in `frame`.
+///
+/// ```
+/// use ofec::frame::*;
+///
+/// let overhead = [5; OVERHEAD_BYTES];
+/// let payload = [9; 7_172];
+/// let mut line = [0; FRAME_BYTES];
+/// frame(47, &payload, &overhead, &mut line)?;
+///
+/// line[2 * 10] = 6; // the last training cell
+/// line[2 * 64 + 1] = 4; // a pilot
+/// line[2 * 65] = 8; // a payload cell
+///
+/// let mut received = [0; 7_172];
+/// assert_eq!(unframe(47, &line, &overhead, &mut received)?, 2);
+/// let wrong: Vec<usize> = (0..received.len()).filter(|&i| received[i] != 9).collect();
+/// assert_eq!(wrong, [2 * (65 - 11 - 2)]); // 11 training cells and pilots 32 and 64 before it
+/// # Ok::<(), ofec::Refusal>(())
+/// ```
+pub fn unframe(
+    number: u32,
+    frame: &[u8],
+    overhead: &[u8],
+    payload: &mut [u8],
+) -> Result<u32, Refusal> {
+    capi::unframe(number, frame, overhead, payload).map(|done| done.value)
+}

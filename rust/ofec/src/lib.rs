@@ -1,0 +1,55 @@
+//! The oFEC line reference (16-QAM) for Rust: safe functions and types over the verified library.
+//!
+//! Every function of that library is proved to meet its contract. This crate has slices where the
+//! library has pointers and a [`Refusal`] where it has a number, and types that carry a history or
+//! an open file. It has no dependency.
+//!
+//! | module | holds |
+//! |---|---|
+//! | [`word`] | repair of a check word |
+//! | [`pair`] | [`Encoder`] and [`Receiver`]: pairs of rows over the ten pairs before |
+//! | [`interleaver`] | 21 pairs of each of two encoders to the bits of a buffer, and back |
+//! | [`cells`] | a buffer's bits to cells, and back |
+//! | [`frame`] | payload and overhead cells to the sub-frames of a super-frame, and back |
+//! | [`line_file`] | [`LineFile`] and the header of a line file |
+//! | [`refusal`] | why a call is refused |
+//!
+//! Each module names the lengths of its buffers. A buffer of another length is refused with
+//! [`Refusal::Misfit`]; a refused call leaves every buffer and every state as it was.
+//!
+//! A pair over a line that flips two bits of one word:
+//!
+//! ```
+//! use ofec::pair::{CODED_BYTES, PAYLOAD_BYTES};
+//! use ofec::{Encoder, Mark, Receiver};
+//!
+//! let payload: Vec<u8> = (0..PAYLOAD_BYTES).map(|i| (i * i) as u8).collect();
+//! let mut line = [0; CODED_BYTES];
+//! Encoder::new().encode(&payload, &mut line)?;
+//!
+//! line[0] ^= 0b0110_0000; // two bits of word 0
+//!
+//! let mut received = [0; PAYLOAD_BYTES];
+//! let marks = Receiver::new().receive(&line, &mut received)?;
+//! assert_eq!(marks[0], Mark::TwoFlips);
+//! assert!(marks[1..].iter().all(|&mark| mark == Mark::Sound));
+//! assert_eq!(received[..], payload[..]);
+//! # Ok::<(), ofec::Refusal>(())
+//! ```
+
+#![deny(missing_docs)]
+#![deny(unsafe_code)]
+
+mod capi;
+pub mod cells;
+pub mod frame;
+pub mod interleaver;
+pub mod line_file;
+pub mod pair;
+pub mod refusal;
+pub mod word;
+
+pub use line_file::LineFile;
+pub use pair::{Encoder, Receiver};
+pub use refusal::Refusal;
+pub use word::Mark;

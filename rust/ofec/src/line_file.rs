@@ -1,0 +1,85 @@
+//! The line file: a header, the overhead list, and the frames of 1 to 64 super-frames.
+
+use crate::frame::OVERHEAD_BYTES;
+use crate::{Refusal, capi};
+
+/// Bytes of the header.
+pub const HEADER_BYTES: usize = 16;
+
+/// Writes the header of a line file of so many super-frames, 1 to 64, without gaps: the overhead
+/// list is to follow at byte 16 and the frames at byte 12,304.
+///
+/// Refusals: [`Refusal::Misfit`] where `header` has not [`HEADER_BYTES`], [`Refusal::BadHeader`].
+///
+/// ```
+/// use ofec::Refusal;
+/// use ofec::line_file::write_header;
+///
+/// let mut header = [0; 16];
+/// write_header(1, &mut header)?;
+/// assert_eq!(header, [0, 0, 0, 1, 0, 0, 0, 16, 0, 0, 0x30, 0x10, 0, 5, 0xa0, 0x10]);
+/// assert_eq!(write_header(65, &mut header), Err(Refusal::BadHeader));
+/// assert_eq!(header[3], 1);
+/// # Ok::<(), ofec::Refusal>(())
+/// ```
+pub fn write_header(superframes: u32, header: &mut [u8]) -> Result<(), Refusal> {
+    capi::write_header(superframes, header).map(|_| ())
+}
+
+/// An open line file: the file's bytes with its header numbers.
+///
+/// ```
+/// use ofec::frame::{FRAME_BYTES, OVERHEAD_BYTES, SUPERFRAME_BYTES};
+/// use ofec::line_file::{HEADER_BYTES, write_header};
+/// use ofec::{LineFile, Refusal};
+///
+/// let mut file = vec![0; HEADER_BYTES + OVERHEAD_BYTES + 2 * SUPERFRAME_BYTES];
+/// write_header(2, &mut file[..HEADER_BYTES])?;
+/// let last = file.len() - 1;
+/// file[HEADER_BYTES] = 7; // in the overhead list
+/// file[last] = 11; // in the last sub-frame
+///
+/// let line = LineFile::open(&file)?;
+/// assert_eq!(line.superframes(), 2);
+/// assert_eq!(line.overhead()[..2], [7, 0]);
+/// let stretch = line.subframe(1, 47)?;
+/// assert_eq!((stretch.len(), stretch[FRAME_BYTES - 1]), (FRAME_BYTES, 11));
+/// assert_eq!(line.subframe(2, 0), Err(Refusal::NoSuchFrame));
+///
+/// assert_eq!(LineFile::open(&file[1..]).unwrap_err(), Refusal::BadHeader);
+/// assert_eq!(LineFile::open(&file[..15]).unwrap_err(), Refusal::Misfit);
+/// # Ok::<(), ofec::Refusal>(())
+/// ```
+#[derive(Debug, Clone, Copy)]
+pub struct LineFile<'a> {
+    bytes: &'a [u8],
+    header: capi::Header,
+}
+
+impl<'a> LineFile<'a> {
+    /// Opens a line file that is lent whole.
+    ///
+    /// Refusals: [`Refusal::Misfit`] under 16 bytes, [`Refusal::BadHeader`].
+    pub fn open(bytes: &'a [u8]) -> Result<Self, Refusal> {
+        let header = capi::open_line(bytes)?;
+        Ok(LineFile { bytes, header })
+    }
+
+    /// The number of super-frames, 1 to 64.
+    pub fn superframes(&self) -> u32 {
+        self.header.superframes
+    }
+
+    /// The overhead list's stretch of the file.
+    pub fn overhead(&self) -> &'a [u8] {
+        &self.bytes[self.header.overhead as usize..][..OVERHEAD_BYTES]
+    }
+
+    /// A sub-frame's stretch of the file, [`FRAME_BYTES`](crate::frame::FRAME_BYTES) long.
+    ///
+    /// Refusals: [`Refusal::NoSuchFrame`].
+    pub fn subframe(&self, superframe: u32, subframe: u32) -> Result<&'a [u8], Refusal> {
+        let done = capi::read_line(self.bytes, self.header, superframe, subframe)?;
+        Ok(&self.bytes[done.index as usize..][..done.value as usize])
+    }
+}

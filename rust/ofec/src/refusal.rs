@@ -1,0 +1,85 @@
+//! Why a call is refused.
+
+use std::error::Error;
+use std::fmt;
+
+/// Why a call is refused; the first in this order that applies.
+///
+/// ```
+/// use ofec::Refusal;
+/// use ofec::cells::{BITS_BYTES, CELLS_BYTES, cells_to_bits};
+///
+/// let mut cells = [0; CELLS_BYTES];
+/// cells[1000] = 16; // not a point of the 16-QAM grid
+/// let refused = cells_to_bits(&cells, &mut [0; BITS_BYTES]).unwrap_err();
+/// assert_eq!(refused, Refusal::OffGrid { index: 1000 });
+/// assert_eq!(refused.number(), 5);
+/// assert_eq!(refused.to_string(), "refusal 5: off grid at byte 1000");
+/// ```
+#[derive(Debug, Clone, Copy, PartialEq, Eq, Hash)]
+pub enum Refusal {
+    /// 1: a lent buffer is not of the stated length; a file has less than 16 bytes.
+    Misfit,
+    /// 2: a rule of the line file's header fails.
+    BadHeader,
+    /// 3: the pair number is 4,294,967,295, and no other follows.
+    CountSpent,
+    /// 4: a sub-frame above 47, or a super-frame that the file does not have.
+    NoSuchFrame,
+    /// 5: an illegal byte in cells that the call reads, the overhead list first.
+    OffGrid {
+        /// Where it first occurs in its buffer.
+        index: usize,
+    },
+}
+
+impl Refusal {
+    /// The number, 1 to 5.
+    pub fn number(self) -> u32 {
+        match self {
+            Refusal::Misfit => 1,
+            Refusal::BadHeader => 2,
+            Refusal::CountSpent => 3,
+            Refusal::NoSuchFrame => 4,
+            Refusal::OffGrid { .. } => 5,
+        }
+    }
+
+    /// The name.
+    pub fn name(self) -> &'static str {
+        match self {
+            Refusal::Misfit => "misfit",
+            Refusal::BadHeader => "bad header",
+            Refusal::CountSpent => "count spent",
+            Refusal::NoSuchFrame => "no such frame",
+            Refusal::OffGrid { .. } => "off grid",
+        }
+    }
+
+    /// The refusal of this number, or nothing for 0; `index` is that of refusal 5.
+    pub(crate) fn of(number: u32, index: u64) -> Option<Refusal> {
+        match number {
+            0 => None,
+            1 => Some(Refusal::Misfit),
+            2 => Some(Refusal::BadHeader),
+            3 => Some(Refusal::CountSpent),
+            4 => Some(Refusal::NoSuchFrame),
+            5 => Some(Refusal::OffGrid {
+                index: index as usize,
+            }),
+            _ => unreachable!("the library has no refusal {number}"),
+        }
+    }
+}
+
+impl fmt::Display for Refusal {
+    fn fmt(&self, f: &mut fmt::Formatter<'_>) -> fmt::Result {
+        write!(f, "refusal {}: {}", self.number(), self.name())?;
+        match self {
+            Refusal::OffGrid { index } => write!(f, " at byte {index}"),
+            _ => Ok(()),
+        }
+    }
+}
+
+impl Error for Refusal {}

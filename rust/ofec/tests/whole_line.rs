@@ -1,0 +1,116 @@
+//! Two payload streams through a line file with errors, and back.
+
+use ofec::cells::{CELLS_BYTES, bits_to_cells, cells_to_bits};
+use ofec::frame::{FRAME_BYTES, OVERHEAD_BYTES, SUBFRAMES, frame, payload_bytes, unframe};
+use ofec::interleaver::{BITS_BYTES, PAIRS_BYTES, deinterleave, interleave};
+use ofec::line_file::{HEADER_BYTES, write_header};
+use ofec::pair::{CODED_BYTES, PAYLOAD_BYTES};
+use ofec::{Encoder, LineFile, Receiver, Refusal};
+
+/// Pairs of each encoder in a super-frame.
+const PAIRS: usize = 168;
+const BUFFERS: usize = 8;
+/// One cell in so many has a wrong bit of X: few enough that every word can be repaired.
+const CELLS_PER_ERROR: usize = 499;
+
+/// Bytes that look random, the same in every run.
+fn bytes(seed: u32, count: usize) -> Vec<u8> {
+    let mut x = seed;
+    let mut next = || {
+        x = x.wrapping_mul(1_664_525).wrapping_add(1_013_904_223);
+        (x >> 24) as u8
+    };
+    (0..count).map(|_| next()).collect()
+}
+
+fn encode(payload: &[u8]) -> Result<Vec<u8>, Refusal> {
+    let mut encoder = Encoder::new();
+    let mut coded = vec![0; PAIRS * CODED_BYTES];
+    for (payload, place) in payload
+        .chunks(PAYLOAD_BYTES)
+        .zip(coded.chunks_mut(CODED_BYTES))
+    {
+        encoder.encode(payload, place)?;
+    }
+    Ok(coded)
+}
+
+fn send(payloads: [&[u8]; 2], overhead: &[u8]) -> Result<Vec<u8>, Refusal> {
+    let coded = [encode(payloads[0])?, encode(payloads[1])?];
+    let mut cells = vec![0; BUFFERS * CELLS_BYTES];
+    for (buffer, place) in cells.chunks_mut(CELLS_BYTES).enumerate() {
+        let [pairs0, pairs1] = [0, 1].map(|e| &coded[e][buffer * PAIRS_BYTES..][..PAIRS_BYTES]);
+        let mut bits = [0; BITS_BYTES];
+        interleave(pairs0, pairs1, &mut bits)?;
+        bits_to_cells(&bits, place)?;
+    }
+
+    let mut file = vec![0; HEADER_BYTES];
+    write_header(1, &mut file)?;
+    file.extend(overhead);
+    let mut rest = &cells[..];
+    for number in 0..SUBFRAMES {
+        let (payload, after) = rest.split_at(payload_bytes(number).expect("below 48"));
+        let mut place = [0; FRAME_BYTES];
+        frame(number, payload, overhead, &mut place)?;
+        file.extend(place);
+        rest = after;
+    }
+    Ok(file)
+}
+
+/// The payloads, the flips and the overhead cells that differ.
+fn receive(line: LineFile) -> Result<([Vec<u8>; 2], u32, u32), Refusal> {
+    let (mut cells, mut differing) = (Vec::new(), 0);
+    for number in 0..SUBFRAMES {
+        let mut payload = vec![0; payload_bytes(number).expect("below 48")];
+        let stretch = line.subframe(0, number)?;
+        differing += unframe(number, stretch, line.overhead(), &mut payload)?;
+        cells.extend(payload);
+    }
+
+    let mut receivers = [Receiver::new(), Receiver::new()];
+    let (mut payloads, mut flips) = ([Vec::new(), Vec::new()], 0);
+    for cells in cells.chunks(CELLS_BYTES) {
+        let mut bits = [0; BITS_BYTES];
+        cells_to_bits(cells, &mut bits)?;
+        let [mut pairs0, mut pairs1] = [[0; PAIRS_BYTES]; 2];
+        deinterleave(&bits, &mut pairs0, &mut pairs1)?;
+        for (encoder, pairs) in [pairs0, pairs1].iter().enumerate() {
+            for coded in pairs.chunks(CODED_BYTES) {
+                let mut payload = [0; PAYLOAD_BYTES];
+                let marks = receivers[encoder].receive(coded, &mut payload)?;
+                flips += marks
+                    .map(|mark| mark.flips().expect("no word is lost"))
+                    .iter()
+                    .sum::<u32>();
+                payloads[encoder].extend(payload);
+            }
+        }
+    }
+    Ok((payloads, flips, differing))
+}
+
+#[test]
+fn payloads_come_back_over_a_line_with_errors() -> Result<(), Refusal> {
+    let payloads = [1, 2].map(|seed| bytes(seed, PAIRS * PAYLOAD_BYTES));
+    let overhead: Vec<u8> = bytes(3, OVERHEAD_BYTES)
+        .iter()
+        .map(|byte| byte >> 4)
+        .collect();
+    let mut file = send([&payloads[0], &payloads[1]], &overhead)?;
+
+    let (back, flips, differing) = receive(LineFile::open(&file)?)?;
+    assert!(back == payloads);
+    assert_eq!((flips, differing), (0, 0));
+
+    let mut wrong = 0;
+    for cells in file[HEADER_BYTES + OVERHEAD_BYTES..].chunks_mut(2 * CELLS_PER_ERROR) {
+        cells[0] ^= 1;
+        wrong += 1;
+    }
+    let (back, flips, differing) = receive(LineFile::open(&file)?)?;
+    assert!(back == payloads);
+    assert!(flips + differing == wrong && differing > 0);
+    Ok(())
+}

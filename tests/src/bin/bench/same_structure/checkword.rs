@@ -1,0 +1,202 @@
+//! crates/checkword and gf256: completion, syndromes, repair.
+
+use super::{bit, flip};
+
+/// a^0 to a^254.
+const POWERS: [u8; 255] = powers();
+/// Entry x is the exponent of x; that of 0 is not used.
+const LOGS: [u8; 256] = logs();
+
+const fn powers() -> [u8; 255] {
+    let mut powers = [1; 255];
+    let mut k = 1;
+    while k < 255 {
+        let twice = powers[k - 1] as u16 * 2;
+        powers[k] = (if twice < 256 {
+            twice
+        } else {
+            twice ^ 0b1_0001_1101
+        }) as u8;
+        k += 1;
+    }
+    powers
+}
+
+const fn logs() -> [u8; 256] {
+    let mut logs = [0; 256];
+    let mut k = 0;
+    while k < 255 {
+        logs[POWERS[k] as usize] = k as u8;
+        k += 1;
+    }
+    logs
+}
+
+fn log(x: u8) -> usize {
+    LOGS[x as usize] as usize
+}
+
+fn cube(x: u8) -> u8 {
+    if x == 0 {
+        return 0;
+    }
+    POWERS[log(x) * 3 % 255]
+}
+
+fn step(s: u32, b: u8) -> u32 {
+    let t = s * 2 + u32::from(b);
+    if t < 65536 {
+        return t;
+    }
+    t ^ 94051
+}
+
+fn remainder_of(w: &[u8]) -> u32 {
+    let mut s = 0;
+    for k in 0..255 {
+        s = step(s, bit(w, k));
+    }
+    s
+}
+
+fn parity_of(w: &[u8]) -> u8 {
+    let mut p = 0;
+    for k in 0..256 {
+        p = (p + bit(w, k)) % 2;
+    }
+    p
+}
+
+/// Sets bits 239 to 255 so that the word is a code word.
+pub fn complete(w: &mut [u8]) {
+    let r = remainder_of(w);
+    for i in 0..16 {
+        if (r >> i) % 2 == 1 {
+            flip(w, 254 - i);
+        }
+    }
+    if parity_of(w) == 1 {
+        flip(w, 255);
+    }
+}
+
+#[derive(Clone, Copy)]
+struct Syndromes {
+    s1: u8,
+    s3: u8,
+    parity: u8,
+}
+
+fn locator(k: usize) -> u8 {
+    if k < 255 {
+        POWERS[254 - k]
+    } else {
+        0
+    }
+}
+
+fn absorb(s: Syndromes, b: u8, k: usize) -> Syndromes {
+    if b == 0 {
+        return s;
+    }
+    let x = locator(k);
+    Syndromes {
+        s1: s.s1 ^ x,
+        s3: s.s3 ^ cube(x),
+        parity: 1 - s.parity,
+    }
+}
+
+fn syndromes_of(w: &[u8]) -> Syndromes {
+    let mut s = Syndromes {
+        s1: 0,
+        s3: 0,
+        parity: 0,
+    };
+    for k in 0..256 {
+        s = absorb(s, bit(w, k), k);
+    }
+    s
+}
+
+#[derive(Clone, Copy)]
+pub enum Repair {
+    Sound,
+    One(usize),
+    Two(usize, usize),
+    Lost,
+}
+
+fn place_of(x: u8) -> usize {
+    if x == 0 {
+        return 255;
+    }
+    254 - log(x)
+}
+
+fn pair_sum(s1: u8, k: usize) -> u8 {
+    let x = locator(k);
+    cube(x) ^ cube(x ^ s1)
+}
+
+fn find_pair(s1: u8, s3: u8) -> usize {
+    let mut k = 0;
+    while k < 256 {
+        if pair_sum(s1, k) == s3 {
+            return k;
+        }
+        k += 1;
+    }
+    k
+}
+
+fn locate(s: Syndromes) -> Repair {
+    let Syndromes { s1, s3, parity } = s;
+    if parity == 1 {
+        if cube(s1) == s3 {
+            return Repair::One(place_of(s1));
+        }
+        return Repair::Lost;
+    }
+    if s1 == 0 {
+        if s3 == 0 {
+            return Repair::Sound;
+        }
+        return Repair::Lost;
+    }
+    let i = find_pair(s1, s3);
+    if i < 256 {
+        return Repair::Two(i, place_of(locator(i) ^ s1));
+    }
+    Repair::Lost
+}
+
+fn confine(r: Repair, front: bool) -> Repair {
+    match r {
+        Repair::One(i) | Repair::Two(i, _) if !front && i < 128 => Repair::Lost,
+        r => r,
+    }
+}
+
+/// Repairs a word in place.
+pub fn mend(w: &mut [u8], front: bool) -> Repair {
+    let r = confine(locate(syndromes_of(w)), front);
+    match r {
+        Repair::One(i) => flip(w, i),
+        Repair::Two(i, j) => {
+            flip(w, j);
+            flip(w, i);
+        }
+        Repair::Sound | Repair::Lost => {}
+    }
+    r
+}
+
+pub fn mark_of(r: Repair) -> u8 {
+    match r {
+        Repair::Sound => 0,
+        Repair::One(_) => 1,
+        Repair::Two(_, _) => 2,
+        Repair::Lost => 3,
+    }
+}
