@@ -12,4 +12,6 @@ pub mod CompletionLaws
 pub mod Locating
 pub mod Quotient
 pub mod QuotientLaws
+pub mod Calls
+pub mod CallLaws
 pub mod BenchValues

@@ -1,7 +1,7 @@
 // The library for C and Rust: one exported function for each entry point, buffers as pointer and length. See include/ofec.h.
 use calls::Answer;
 ghost use mathlib.Core.Path.{_≡_};
-ghost use Rattle.checkword.specs.Calls.{repairCall};
+ghost use Rattle.bch.specs.Calls.{repairCall};
 ghost use Rattle.ofec.specs.Calls.{encodeCall, receiveCall};
 ghost use Rattle.interleaving.specs.Calls.{interleave, deinterleave};
 ghost use Rattle.cells.specs.Calls.{bitsToCells, cellsToBits};

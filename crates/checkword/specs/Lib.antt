@@ -1,6 +1,4 @@
--- What a reader must believe stands in Calls; the rest are laws for the code.
-pub mod Calls
-pub mod CallLaws
+-- Laws for the code; what a reader must believe stands in crate bch.
 pub mod Partial
 pub mod Finding
 pub mod Applying

@@ -13,7 +13,7 @@ ghost use Rattle.bits.specs.Bits.{bit, pack};
 ghost use Rattle.bch.specs.Repair.{repair, repaired, mark};
 ghost use Rattle.bch.specs.Locating.{confined};
 ghost use Rattle.checkword.specs.Applying.{Inside};
-ghost use Rattle.checkword.specs.Calls.{afterRepair, repairCall};
+ghost use Rattle.bch.specs.Calls.{afterRepair, repairCall};
 
 // Lost where a place falls in the front half and may not.
 fn confine(r: Repair, front: bool) -> Repair

@@ -1,13 +1,13 @@
 // Encoding a pair and receiving it: 01, "Rows and pairs".
-mod encoding;
-mod receiving;
-
 use calls::Answer;
 use calls::Refusal;
-use encoding::encode_into;
-use receiving::receive_into;
+use pairs::encoding::encode_into;
+use pairs::receiving::receive_into;
 ghost use mathlib.Core.Path.{_≡_};
 ghost use Rattle.ofec.specs.Calls.{afterEncode, encodeCall, afterReceive, receiveCall};
+
+// The pair number at which the count is spent.
+const SPENT: u32 = 4294967295;
 
 // Encodes a pair: its coded bytes, the shifted history and the next pair number.
 pub fn encode_pair(payload: &[u8], coded: &mut [u8], history: &mut [u8], pair: u32) -> Answer
@@ -22,7 +22,7 @@ pub fn encode_pair(payload: &[u8], coded: &mut [u8], history: &mut [u8], pair: u
     if history.len() != 5120 {
         return Answer::Refused(Refusal::Misfit);
     }
-    if pair == 4294967295 {
+    if pair == SPENT {
         return Answer::Refused(Refusal::CountSpent);
     }
     encode_into(payload, coded, history, pair);
@@ -51,7 +51,7 @@ pub fn receive_pair(
     if history.len() != 5120 {
         return Answer::Refused(Refusal::Misfit);
     }
-    if pair == 4294967295 {
+    if pair == SPENT {
         return Answer::Refused(Refusal::CountSpent);
     }
     receive_into(coded, payload, marks, history, pair);

@@ -1,7 +1,7 @@
 -- `capi::ofec_repair_word` meets its contract: the answer of the library in numbers, and its buffers.
 -- Assumes nothing.
 use mathlib.Core.Path.{ap, _∙_}
-use Rattle.checkword.specs.Calls.{Repaired}
+use Rattle.bch.specs.Calls.{Repaired}
 use Rattle.capi.specs.Outcomes.{outcomeOf}
 use borrow.Author.Needs.{needs}
 use Rattle.capi.proofs.ofec_repair_word.Statement.{statement}

@@ -1,6 +1,6 @@
 -- `checkword::mark_of` meets its contract: one law for each case.
 -- Assumes nothing.
-use Rattle.checkword.specs.CallLaws.{marking}
+use Rattle.bch.specs.CallLaws.{marking}
 use borrow.Author.Needs.{needs}
 use Rattle.checkword.proofs.mark_of.Statement.{statement}
 use Rattle.checkword.proofs.mark_of.Tie as tie

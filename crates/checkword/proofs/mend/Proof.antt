@@ -1,7 +1,7 @@
 -- `checkword::mend` meets its contract: what the syndromes tell is the repair that the search finds.
 -- Assumes nothing.
 use Rattle.checkword.specs.Applying.{applying, mended}
-use Rattle.checkword.specs.CallLaws.{parity-small}
+use Rattle.bch.specs.CallLaws.{parity-small}
 use borrow.Author.Needs.{needs}
 use Rattle.checkword.proofs.mend.Statement.{statement}
 use Rattle.checkword.proofs.mend.Tie as tie

@@ -1,6 +1,6 @@
 -- `checkword::repair_word` meets its contract: one law for each answer.
 -- Assumes nothing.
-use Rattle.checkword.specs.CallLaws.{repairing}
+use Rattle.bch.specs.CallLaws.{repairing}
 use borrow.Author.Needs.{needs}
 use Rattle.checkword.proofs.repair_word.Statement.{statement}
 use Rattle.checkword.proofs.repair_word.Tie as tie

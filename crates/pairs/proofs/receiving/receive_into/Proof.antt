@@ -1,9 +1,9 @@
--- `codec::receiving::receive_into` meets its contract.
+-- `pairs::receiving::receive_into` meets its contract.
 -- Assumes nothing.
 use Rattle.layout.specs.BackHalves.{gathered}
 use borrow.Author.Needs.{needs}
-use Rattle.codec.proofs.receiving.receive_into.Statement.{statement}
-use Rattle.codec.proofs.receiving.receive_into.Tie as tie
+use Rattle.pairs.proofs.receiving.receive_into.Statement.{statement}
+use Rattle.pairs.proofs.receiving.receive_into.Tie as tie
 
 ruleset kit = (needs, gathered)
 

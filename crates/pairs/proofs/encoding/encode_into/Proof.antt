@@ -1,9 +1,9 @@
--- `codec::encoding::encode_into` meets its contract.
+-- `pairs::encoding::encode_into` meets its contract.
 -- Assumes nothing.
 use Rattle.layout.specs.BackHalves.{gathered}
 use borrow.Author.Needs.{needs}
-use Rattle.codec.proofs.encoding.encode_into.Statement.{statement}
-use Rattle.codec.proofs.encoding.encode_into.Tie as tie
+use Rattle.pairs.proofs.encoding.encode_into.Statement.{statement}
+use Rattle.pairs.proofs.encoding.encode_into.Tie as tie
 
 ruleset kit = (needs, gathered)
 

@@ -1,10 +1,10 @@
--- `codec::encoding::encode_word` meets its contract.
+-- `pairs::encoding::encode_word` meets its contract.
 -- Assumes nothing.
 use Rattle.layout.specs.WordBits.{word-completed}
 use Rattle.layout.specs.BackHalves.{last-half}
 use borrow.Author.Needs.{needs}
-use Rattle.codec.proofs.encoding.encode_word.Statement.{statement}
-use Rattle.codec.proofs.encoding.encode_word.Tie as tie
+use Rattle.pairs.proofs.encoding.encode_word.Statement.{statement}
+use Rattle.pairs.proofs.encoding.encode_word.Tie as tie
 
 ruleset kit = (needs, word-completed, last-half)
 

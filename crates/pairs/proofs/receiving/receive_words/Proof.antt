@@ -1,4 +1,4 @@
--- `codec::receiving::receive_words` meets its contract: one word and its mark a turn.
+-- `pairs::receiving::receive_words` meets its contract: one word and its mark a turn.
 -- Assumes nothing.
 use Prim.Native.Nat.{_-_}
 use Rattle.bits.specs.Bits.{byteOf, pack}
@@ -7,8 +7,8 @@ use Rattle.bch.specs.Repair.{mark}
 use Rattle.ofec.specs.Receiving.{repairOf, mendedWord, marks as marksOf}
 use Rattle.layout.specs.BackHalves.{backHalves, back-block}
 use borrow.Author.Needs.{needs}
-use Rattle.codec.proofs.receiving.receive_words.Statement.{statement}
-use Rattle.codec.proofs.receiving.receive_words.Tie as tie
+use Rattle.pairs.proofs.receiving.receive_words.Statement.{statement}
+use Rattle.pairs.proofs.receiving.receive_words.Tie as tie
 
 ruleset kit = (needs, by-blocks, fill, back-block)
 

@@ -14,14 +14,14 @@ use Rattle.bits.specs.BitLaws.{bit-lt, pack-bit, pack-ext}
 use Rattle.calls.specs.Answers.{refusalOf, Accepted, TurnedBack}
 use Rattle.calls.specs.declared.Answer.the-variants.{Done, Refused}
 use Rattle.calls.specs.declared.Refusal.the-variants.{Misfit}
 use Rattle.bch.specs.CodeWord.{Word, parity}
 use Rattle.bch.specs.Syndromes.{syndromesOf}
 use Rattle.bch.specs.Repair.{repair, repaired, mark}
 use Rattle.bch.specs.RepairLaws.{lost-unaltered}
-use Rattle.checkword.specs.Calls.{Repaired, afterRepair, repairCall}
+use Rattle.bch.specs.Calls.{Repaired, afterRepair, repairCall}
 use Rattle.bch.specs.declared.Repair.{Repair}
 use Rattle.bch.specs.declared.Repair.the-variants.{Sound, One, Two, Lost}
 use Rattle.bch.specs.declared.Syndromes.{Syndromes}
 
 pub parity-small : (s : Syndromes) (w : Word) → s ≡ syndromesOf w → s .parity < 2
 unfolding syndromesOf parity

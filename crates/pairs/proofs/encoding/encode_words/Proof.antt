@@ -1,4 +1,4 @@
--- `codec::encoding::encode_words` meets its contract: one word a turn.
+-- `pairs::encoding::encode_words` meets its contract: one word a turn.
 -- Assumes nothing.
 use Prim.Native.Nat.{_-_}
 use Rattle.bits.specs.Bits.{byteOf, pack}
@@ -6,8 +6,8 @@ use Rattle.bits.specs.Filling.{Blocks, by-blocks}
 use Rattle.ofec.specs.Encoding.{encodedWord}
 use Rattle.layout.specs.BackHalves.{backHalves, back-block}
 use borrow.Author.Needs.{needs}
-use Rattle.codec.proofs.encoding.encode_words.Statement.{statement}
-use Rattle.codec.proofs.encoding.encode_words.Tie as tie
+use Rattle.pairs.proofs.encoding.encode_words.Statement.{statement}
+use Rattle.pairs.proofs.encoding.encode_words.Tie as tie
 
 ruleset kit = (needs, by-blocks, back-block)
 

@@ -1,10 +1,10 @@
--- `codec::receiving::receive_word` meets its contract.
+-- `pairs::receiving::receive_word` meets its contract.
 -- Assumes nothing.
 use Rattle.layout.specs.WordBits.{word-mark, word-mended}
 use Rattle.layout.specs.BackHalves.{last-half}
 use borrow.Author.Needs.{needs}
-use Rattle.codec.proofs.receiving.receive_word.Statement.{statement}
-use Rattle.codec.proofs.receiving.receive_word.Tie as tie
+use Rattle.pairs.proofs.receiving.receive_word.Statement.{statement}
+use Rattle.pairs.proofs.receiving.receive_word.Tie as tie
 
 ruleset kit = (needs, word-mark, word-mended, last-half)
 
