@@ -2,6 +2,7 @@
 pub mod Calls
 pub mod CallLaws
 pub mod Partial
+pub mod Checking
 pub mod Finding
 pub mod Applying
 pub mod Completing
