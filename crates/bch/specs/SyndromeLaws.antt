@@ -103,7 +103,7 @@ unfolding locator
 locator-last = refl
 
 -- A sum over the 256 places whose last term is 0 is that over the 255 before.
-last-zero : (w : Word) (q r : ℕ → ℕ) → q 255 ≡ 0 → ((k : ℕ) → k < 255 → q k ≡ r k) → xorSum 256 (λ k. w k * q k) ≡ xorSum 255 (λ k. w k * r k)
+pub last-zero : (w : Word) (q r : ℕ → ℕ) → q 255 ≡ 0 → ((k : ℕ) → k < 255 → q k ≡ r k) → xorSum 256 (λ k. w k * q k) ≡ xorSum 255 (λ k. w k * r k)
 unfolding xorSum
 last-zero w q r z e =
     ap₂ _⊕_ (xorSum-ext 255 (λ k. w k * q k) (λ k. w k * r k) (λ k l. ap (λ u. w k * u) (e k l))) (ap (λ u. w 255 * u) z ∙ mul-zero (w 255))

@@ -1,7 +1,9 @@
 // Check words in bytes: their syndromes, completion and repair. 01, "Code words": "A word lent by itself is 32 bytes, bit 0 first".
+mod checks;
 pub mod completion;
 mod locating;
 pub mod syndrome;
+mod tables;
 
 use bch::Repair;
 use calls::Answer;

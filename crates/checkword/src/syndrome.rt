@@ -1,10 +1,12 @@
 // The syndromes of a word, from the table of powers.
+use crate::checks::check_of;
 use bch::Syndromes;
 ghost use mathlib.Core.Path.{_≡_};
 ghost use Prim.Native.Nat.{_<_};
 ghost use lib.ListN.{length};
 ghost use Rattle.bits.specs.Bits.{bit};
 ghost use Rattle.bch.specs.Syndromes.{locator, syndromesOf};
+ghost use Rattle.bch.specs.Checks.{tail};
 ghost use Rattle.checkword.specs.Partial.{absorbed};
 
 // The element of GF(256) that stands for a place, from the table of powers.
@@ -31,19 +33,26 @@ fn absorb(s: Syndromes, b: u8, k: usize) -> Syndromes
     }
 }
 
-// The syndromes and the parity of a word of 32 bytes, in one pass.
-pub fn syndromes_of(w: &[u8]) -> Syndromes
-    requires { ⌜ length (now w) ≡ 32 ⌝ }
-    ensures { λ r. ⌜ r ≡ syndromesOf (bit (now (w .entry))) ⌝ }
+// The syndromes of a word that has check bits v alone.
+fn tail_syndromes(v: u32) -> Syndromes
+    ensures { λ r. ⌜ r ≡ syndromesOf (tail v) ⌝ }
 {
     let mut s = Syndromes {
         s1: 0,
         s3: 0,
         parity: 0,
     };
-    for k in 0..256 {
-        let b = bits::bit(w, k);
+    for k in 239..256 {
+        let b = ((v >> (255 - k)) % 2) as u8;
         s = absorb(s, b, k);
     }
     s
+}
+
+// The syndromes and the parity of a word of 32 bytes: those of its check bits.
+pub fn syndromes_of(w: &[u8]) -> Syndromes
+    requires { ⌜ length (now w) ≡ 32 ⌝ }
+    ensures { λ r. ⌜ r ≡ syndromesOf (bit (now (w .entry))) ⌝ }
+{
+    tail_syndromes(check_of(w))
 }

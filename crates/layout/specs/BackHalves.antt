@@ -3,17 +3,21 @@
 use mathlib.Core.Path.{_≡_, refl, sym, ap, ap₂, _∙_}
 use mathlib.Core.Bool.{Bool, true, false, cond}
 use mathlib.Core.List.{List}
-use Prim.Native.Nat.{ℕ, _+_, _-_, _*_, _/_, _%_, _<_, _≤_}
+use Prim.Native.Nat.{ℕ, _+_, _-_, _*_, _/_, _%_, _^_, _<_, _≤_}
+use native.Mathlib.Nat.{mod-lt, zero-lt-suc}
 use native.Mathlib.Omega.{arith}
 use borrow.Author.Tests.{lt-ltb, le-ltb}
+use lib.Bits.{xor-block}
 use lib.Dec.{ltb}
 use lib.ListN.{length, getD, drop}
 use lib.Seq.{getD-drop}
 use Rattle.bits.specs.Lists.{tabulate}
 use Rattle.bits.specs.ListLaws.{getD-tabulate, is-tabulate, tabulate-ext}
-use Rattle.bits.specs.Bits.{bit, byteOf, fromBits, pack}
+use Rattle.bits.specs.Bits.{bit, bitOf, byteOf, fromBits, pack}
 use Rattle.bits.specs.BitLaws.{fromBits-ext, bit-pack, pack-ext}
+use Rattle.bits.specs.Tests.{grid}
 use Rattle.bits.specs.Xor.{_⊕_}
+use Rattle.bits.specs.XorLaws.{⊕-lt}
 use Rattle.bch.specs.CodeWord.{Word}
 use Rattle.ofec.specs.Pairs.{laidOut, codedIndex, ownIndex, codedPair, payloadOf}
 use Rattle.ofec.specs.PairLaws.{codedPlace, codedPlace-lt, coded-laid, ownWord, ownPlace, Own, own-from, payload-laid}
@@ -22,6 +26,7 @@ use Rattle.ofec.specs.Encoding.{encodedWord, encoded}
 use Rattle.ofec.specs.EncodingLaws.{encoded-code}
 use Rattle.ofec.specs.Receiving.{mendedWord, newestPair, payloadOut}
 use Rattle.ofec.specs.ReceivingLaws.{mended-bits}
+use Rattle.layout.specs.ByteLaws.{byte-copied}
 
 -- The back half of word w, and of all of them: bit m is bit 128 + m mod 128 of word m div 128.
 unfoldable pub backHalf : (ℕ → Word) → ℕ → List ℕ
@@ -67,19 +72,81 @@ codedFrom backs = pack 512 (λ i. bit backs (codedSource i))
 unfoldable pub payloadFrom : List ℕ → List ℕ
 payloadFrom backs = pack 444 (λ i. bit backs (payloadSource i))
 
-pub coded-bit-is : (s : List ℕ) (i x b : ℕ) → x ≡ (i % 16) ⊕ (i / 128 % 16) → b ≡ bit s (i / 16 * 16 + x) → b ≡ bit s (codedSource i)
+-- Where the bits of byte j come from: one byte, with its bits exchanged by ^r.
+⊕-eight : (a b k l : ℕ) → k < 8 → l < 8 → (a * 8 + k) ⊕ (b * 8 + l) ≡ (a ⊕ b) * 8 + (k ⊕ l)
+unfolding _⊕_
+⊕-eight = xor-block 3
+
+⊕-two : (a b : ℕ) → a < 2 → b < 2 → a ⊕ b ≡ (a + b) % 2
+unfolding _⊕_
+⊕-two = grid 2 2 (λ a b. a ⊕ b) (λ a b. (a + b) % 2) tt
+
+eights : (a b c : ℕ) → a * 16 + (b * 8 + c) ≡ (a * 2 + b) * 8 + c
+eights a b c = omega arith
+
+ends : (a b : ℕ) → (a % 2 + b % 2) % 2 ≡ (a + b) % 2
+ends a b = omega arith
+
+sixteen : (n : ℕ) → n % 16 ≡ n / 8 % 2 * 8 + n % 8
+sixteen n = omega arith
+
+coded-byte-source : (j k : ℕ) → k < 8 → codedSource (j * 8 + k) ≡ (j / 2 * 2 + (j + j / 128) % 2) * 8 + (k ⊕ (j / 16 % 8))
 unfolding codedSource
-coded-bit-is s i x b e p = p ∙ rw e
+coded-byte-source j k l =
+    let q : (j * 8 + k) / 16 * 16 ≡ j / 2 * 16 = omega arith in
+    let c : (j * 8 + k) % 16 ≡ j % 2 * 8 + k = omega arith in
+    let d : (j * 8 + k) / 128 ≡ j / 16 = omega arith in
+    let u : j / 128 ≡ j / 16 / 8 = omega arith in
+    let r : (j * 8 + k) / 128 % 16 ≡ j / 128 % 2 * 8 + j / 16 % 8 = ap (λ n. n % 16) d ∙ sixteen (j / 16) ∙ ap (λ n. n % 2 * 8 + j / 16 % 8) (sym u) in
+    let x : (j % 2 * 8 + k) ⊕ (j / 128 % 2 * 8 + j / 16 % 8) ≡ ((j % 2) ⊕ (j / 128 % 2)) * 8 + (k ⊕ (j / 16 % 8)) =
+    ⊕-eight (j % 2) (j / 128 % 2) k (j / 16 % 8) l (omega arith) in
+    let t : (j % 2) ⊕ (j / 128 % 2) ≡ (j % 2 + j / 128 % 2) % 2 = ⊕-two (j % 2) (j / 128 % 2) (omega arith) (omega arith) in
+    rw (q, c, r, x, t, ends j (j / 128)) (eights (j / 2) ((j + j / 128) % 2) (k ⊕ (j / 16 % 8)))
 
-pub payload-bit-low : (s : List ℕ) (i b : ℕ) → i < 3072 → b ≡ bit s (i % 512 / 16 * 128 + i / 512 * 16 + i % 16) → b ≡ bit s (payloadSource i)
+pub coded-byte-is : (s : List ℕ) (j x y : ℕ) → x ≡ getD s (j / 2 * 2 + (j + j / 128) % 2) 0 → y ≡ fromBits 8 (λ i. bitOf 8 x (i ⊕ (j / 16 % 8)))
+    → y ≡ byteOf (λ i. bit s (codedSource i)) j
+unfolding byteOf bit
+coded-byte-is s j x y ex ey =
+    ey ∙ fromBits-ext 8 (λ k. bitOf 8 x (k ⊕ (j / 16 % 8))) (λ k. bit s (codedSource (j * 8 + k)))
+    (λ k l.
+    let small : k ⊕ (j / 16 % 8) < 8 = ⊕-lt 3 k (j / 16 % 8) l (omega arith) in
+    let d : codedSource (j * 8 + k) / 8 ≡ j / 2 * 2 + (j + j / 128) % 2 = omega (arith, coded-byte-source j k l) in
+    let m : codedSource (j * 8 + k) % 8 ≡ k ⊕ (j / 16 % 8) = omega (arith, coded-byte-source j k l) in
+    rw (d, m, ex))
+
+-- A bit as code exchanges it.
+pub exchanged-bit : (x i l c b : ℕ) → c ≡ i ⊕ l → b ≡ x / 2 ^ (7 - c) % 2 → b ≡ bitOf 8 x (i ⊕ l)
+unfolding bitOf
+exchanged-bit x i l c b e p = p ∙ ap (λ n. x / 2 ^ (7 - n) % 2) e
+
+pub exchanged-lt : (x n : ℕ) → x / n % 2 < 2
+exchanged-lt x n = mod-lt (x / n) (zero-lt-suc 1)
+
+payload-low : (i : ℕ) → i < 3072 → payloadSource i ≡ i % 512 / 16 * 128 + i / 512 * 16 + i % 16
 unfolding payloadSource
-payload-bit-low s i b l p = let t : ltb i 3072 ≡ true = lt-ltb i 3072 l in p ∙ rw t
+payload-low i l = simp (lt-ltb i 3072 l)
 
-pub payload-bit-high : (s : List ℕ) (i b : ℕ) → 3072 ≤ i → b ≡ bit s ((i - 3072) / 15 * 128 + 96 + (i - 3072) % 15) → b ≡ bit s (payloadSource i)
+pub payload-high : (s : List ℕ) (i b : ℕ) → 3072 ≤ i → b ≡ bit s ((i - 3072) / 15 * 128 + 96 + (i - 3072) % 15) → b ≡ bit s (payloadSource i)
 unfolding payloadSource
-payload-bit-high s i b l p = let t : ltb i 3072 ≡ false = le-ltb i 3072 l in p ∙ rw t
+payload-high s i b l p = let t : ltb i 3072 ≡ false = le-ltb i 3072 l in p ∙ rw t
 
-pub ruleset bit-sources = (coded-bit-is, payload-bit-low, payload-bit-high)
+pub payload-copied : (s : List ℕ) (j : ℕ) → length s ≡ 512 → ((i : ℕ) → getD s i 0 < 256) → j < 384
+    → getD s (j % 64 / 2 * 16 + j / 64 * 2 + j % 2) 0 ≡ byteOf (λ i. bit s (payloadSource i)) j
+payload-copied s j e b l =
+    byte-copied s (λ i. bit s (payloadSource i)) j (j % 64 / 2 * 16 + j / 64 * 2 + j % 2) (omega arith) b
+    (λ k lk. ap (bit s) (sym (payload-low (j * 8 + k) (omega arith) ∙ place k lk)))
+  where
+    halves : (n k : ℕ) → k < 8 → (n * 8 + k) / 16 ≡ n / 2
+    halves n k lk = omega arith
+
+    place : (k : ℕ) → k < 8 → (j * 8 + k) % 512 / 16 * 128 + (j * 8 + k) / 512 * 16 + (j * 8 + k) % 16 ≡ (j % 64 / 2 * 16 + j / 64 * 2 + j % 2) * 8 + k
+    place k lk =
+        let m : (j * 8 + k) % 512 ≡ j % 64 * 8 + k = omega arith in
+        let d : (j * 8 + k) / 512 ≡ j / 64 = omega arith in
+        let c : (j * 8 + k) % 16 ≡ j % 2 * 8 + k = omega arith in
+        rw (m, d, c, halves (j % 64) k lk) (omega arith)
+
+pub ruleset bit-sources = (exchanged-bit, exchanged-lt, payload-high)
 
 codedSource-is : (i : ℕ) → codedSource i ≡ 128 * (i / 128) + codedPlace i
 unfolding codedSource codedPlace

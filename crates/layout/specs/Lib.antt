@@ -1,3 +1,5 @@
 pub mod Shifting
+pub mod ByteLaws
 pub mod WordBits
 pub mod BackHalves
+pub mod WordBytes

@@ -103,8 +103,6 @@ module _ (h y : List ℕ) (P w : ℕ) (lw : w < 32) where
   unfolding firstBits
   open-none k l = simp (le-ltb _ _ l)
 
-pub ruleset word-bits = (front-none, front-held, held-front, held-back, open-front-bit, open-low, open-high, open-none)
-
 -- ---- a word completed, and a word mended
 
 word-bit : (f : Word) (s : List ℕ) → ((k : ℕ) → k < 256 → f k < 2) → s ≡ pack 32 f → (k : ℕ) → k < 256 → bit s k ≡ f k

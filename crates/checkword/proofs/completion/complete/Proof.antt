@@ -1,4 +1,4 @@
--- `checkword::completion::complete` meets its contract: the remainder added and the parity made even.
+-- `checkword::completion::complete` meets its contract: the word with its check bits added.
 -- Assumes nothing.
 use Rattle.checkword.specs.Completing.{completing}
 use borrow.Author.Needs.{needs}
@@ -11,8 +11,7 @@ pub complete-spec : {M : Type 1} → statement M
 complete-spec =
     tie.close
     (tie.spec
-    (λ c κs. search kit)  -- remainder-of-requires
-    (λ c κs. search kit)  -- correct-requires
-    (λ c κs. search kit)  -- even-out-requires
+    (λ c κs. search kit)  -- check-of-requires
+    (λ c κs. search kit)  -- add-check-requires
     (λ c. search kit)  -- same-length
     (λ c. search kit))  -- returns

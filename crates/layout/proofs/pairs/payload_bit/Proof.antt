@@ -11,14 +11,10 @@ pub payload-bit-spec : {M : Type 1} → statement M
 payload-bit-spec =
     tie.close
     (tie.spec
+    (λ c. search kit)  -- sub-bit
     (λ c. search kit)  -- mul-bit
-    (λ c. search kit)  -- mul-bit-2
     (λ c. search kit)  -- add-bit
+    (λ c. search kit)  -- sub-bit-2
     (λ c. search kit)  -- add-bit-2
     (λ c κs. search kit)  -- bit-requires
-    (λ c. search kit)  -- returns
-    (λ c. search kit)  -- mul-bit-3
-    (λ c. search kit)  -- add-bit-3
-    (λ c. search kit)  -- add-bit-4
-    (λ c κs. search kit)  -- bit-requires-2
-    (λ c. search kit))  -- returns-2
+    (λ c. search kit))  -- returns

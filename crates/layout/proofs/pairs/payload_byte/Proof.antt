@@ -1,9 +1,10 @@
--- `layout::pairs::payload_byte` meets its contract: eight bits shifted in.
+-- `layout::pairs::payload_byte` meets its contract: a byte as it stands, or eight bits shifted in.
 -- Assumes nothing.
 use Prim.Native.Nat.{_+_, _-_, _*_}
+use denote.Ref.{now}
 use Rattle.bits.specs.Bits.{bit, byteOf}
-use Rattle.layout.specs.BackHalves.{payloadSource}
 use Rattle.bits.specs.Gathering.{Gathering, gather}
+use Rattle.layout.specs.BackHalves.{payloadSource, payload-copied}
 use borrow.Author.Needs.{needs}
 use Rattle.layout.proofs.pairs.payload_byte.Statement.{statement}
 use Rattle.layout.proofs.pairs.payload_byte.Tie as tie
@@ -23,6 +24,12 @@ payload-byte-spec =
     (tie.spec
     Inv-loop
     μ-loop
+    (λ c. search kit)  -- mul-result
+    (λ c. search kit)  -- mul-result-2
+    (λ c. search kit)  -- add-result
+    (λ c. search kit)  -- add-result-2
+    (λ c. search kit)  -- shared-slice-read-result
+    (λ c. let s = c .before .before .before in payload-copied (now (s .args .backs)) (s .args .j) (s .pre .0) (λ i. c .shared-slice-known2 .given i .fits) (c .before .if1 .taken))  -- returns
     (λ c. search kit)  -- loop-holds
     (λ c. search kit)  -- mul-byte
     (λ c. search kit)  -- mul-payload-bit
@@ -32,4 +39,4 @@ payload-byte-spec =
     (λ c. search kit)  -- add-b
     (λ c. search kit)  -- loop-less
     (λ c. search kit)  -- loop-again
-    (λ c. search kit))  -- returns
+    (λ c. search kit))  -- returns-2

@@ -1,17 +1,18 @@
--- `layout::words::held_word` meets its contract.
+-- `layout::words::held_word` meets its contract: the back half is filled in behind the front.
 -- Assumes nothing.
-use Prim.Native.Nat.{_-_}
+use Prim.Native.Nat.{_-_, _≤_}
 use Rattle.bits.specs.Bits.{byteOf, pack}
 use Rattle.bits.specs.Filling.{Filling, fill}
 use Rattle.ofec.specs.Receiving.{heldWord}
+use Rattle.layout.specs.WordBytes.{word-bytes}
 use borrow.Author.Needs.{needs}
 use Rattle.layout.proofs.words.held_word.Statement.{statement}
 use Rattle.layout.proofs.words.held_word.Tie as tie
 
-ruleset kit = (needs, fill)
+ruleset kit = (needs, fill, word-bytes)
 
 abbrev Inv-loop : tie.InvT-loop
-Inv-loop history coded pair w word₀ j₀ word j = Filling (byteOf (heldWord history pair coded w)) 32 j word
+Inv-loop history coded pair w word₀ j₀ word j = (16 ≤ j) × Filling (byteOf (heldWord history pair coded w)) 32 j word
 
 abbrev μ-loop : tie.MeasureT-loop
 μ-loop history coded pair w word₀ j₀ word j = 32 - j
@@ -23,8 +24,12 @@ held-word-spec =
     (tie.spec
     Inv-loop
     μ-loop
+    (λ c κs. search kit)  -- front-half-requires
     (λ c. search kit)  -- loop-holds
-    (λ c κs. search kit)  -- held-byte-requires
+    (λ c. search kit)  -- mul-coded-byte
+    (λ c. search kit)  -- add-coded-byte
+    (λ c. search kit)  -- sub-coded-byte
+    (λ c κs. search kit)  -- coded-byte-requires
     (λ c. search kit)  -- array-write-word
     (λ c. search kit)  -- add-j
     (λ c. search kit)  -- loop-less

@@ -1,18 +1,19 @@
--- `layout::words::open_word` meets its contract.
+-- `layout::words::open_word` meets its contract: payload and zeros are filled in behind the front.
 -- Assumes nothing.
-use Prim.Native.Nat.{_-_}
+use Prim.Native.Nat.{_-_, _≤_}
 use Rattle.bits.specs.Bits.{byteOf, pack}
 use Rattle.bits.specs.Filling.{Filling, fill}
 use Rattle.bch.specs.Completion.{firstBits}
 use Rattle.ofec.specs.Encoding.{openWord}
+use Rattle.layout.specs.WordBytes.{word-bytes}
 use borrow.Author.Needs.{needs}
 use Rattle.layout.proofs.words.open_word.Statement.{statement}
 use Rattle.layout.proofs.words.open_word.Tie as tie
 
-ruleset kit = (needs, fill)
+ruleset kit = (needs, fill, word-bytes)
 
 abbrev Inv-loop : tie.InvT-loop
-Inv-loop history payload pair w word₀ j₀ word j = Filling (byteOf (firstBits (openWord history pair payload w))) 32 j word
+Inv-loop history payload pair w word₀ j₀ word j = (16 ≤ j) × Filling (byteOf (firstBits (openWord history pair payload w))) 32 j word
 
 abbrev μ-loop : tie.MeasureT-loop
 μ-loop history payload pair w word₀ j₀ word j = 32 - j
@@ -24,8 +25,9 @@ open-word-spec =
     (tie.spec
     Inv-loop
     μ-loop
+    (λ c κs. search kit)  -- front-half-requires
     (λ c. search kit)  -- loop-holds
-    (λ c κs. search kit)  -- open-byte-requires
+    (λ c κs. search kit)  -- own-byte-requires
     (λ c. search kit)  -- array-write-word
     (λ c. search kit)  -- add-j
     (λ c. search kit)  -- loop-less
