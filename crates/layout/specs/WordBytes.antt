@@ -134,5 +134,3 @@ module _ (h y : List ℕ) (P w : ℕ) (lw : w < 32) where
 
   pub open-byte : (j x : ℕ) → 16 ≤ j → j < 32 → x ≡ byteOf (ownBit y w) j → x ≡ byteOf (firstBits (openWord h P y w)) j
   open-byte j x l m e = e ∙ byteOf-ext (ownBit y w) (firstBits (openWord h P y w)) j (λ k lk. own-is (j * 8 + k) (omega arith) (omega arith))
-
-pub ruleset word-bytes = (front-zeros, front-stored, held-start, held-byte, own-high, own-none, open-start, open-byte)
