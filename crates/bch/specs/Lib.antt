@@ -13,5 +13,5 @@ pub mod Locating
 pub mod Quotient
 pub mod QuotientLaws
 pub mod BenchValues
-pub mod CheckTable
 pub mod Checks
+pub mod CheckLaws
