@@ -1,30 +1,32 @@
--- The 17 check bits of a word: what must be added in bits 239 to 255 to make it a code word. They are a sum over its bits, which a
--- table gives.
+-- The 17 check bits of a word: what must be added in bits 239 to 255 to make it a code word. They are a sum over its bits, from a
+-- table that code carries; its rule and what they are good for are laws (CheckLaws.antt).
 -- Assumes nothing.
-use mathlib.Core.Path.{_≡_, refl, sym, ap, ap₂, _∙_}
 use mathlib.Core.Bool.{cond}
-use Prim.Native.Nat.{ℕ, zero, suc, _+_, _-_, _*_, _/_, _%_, _^_, _<_, _≤_}
-use native.Mathlib.Nat.{mod-lt, zero-lt-suc, mul-one, div-div-eq-div-mul}
-use native.Mathlib.Omega.{arith}
-use native.Mathlib.Decide.{decLt}
-use borrow.Author.Tests.{lt-ltb, le-ltb}
-use lib.Dec.{ltb, lit<}
+use mathlib.Core.List.{List, [], _∷_}
+use Prim.Native.Nat.{ℕ, _-_, _*_, _/_, _%_, _^_}
+use lib.Dec.{ltb}
 use lib.ListN.{getD}
-use lib.Pow.{pow-add}
-use Rattle.bits.specs.Tests.{agree}
-use Rattle.bits.specs.Count.{count}
-use Rattle.bits.specs.CountLaws.{count-suc}
-use Rattle.bits.specs.Xor.{_⊕_, xorSum}
-use Rattle.bits.specs.XorLaws.{⊕-half, ⊕-mod, ⊕-shr, ⊕-self, ⊕-eq, ⊕-bit, zero-⊕, bits-⊕-times, xorSum-ext, xorSum-⊕, xorSum-none, xorSum-split, xorSum-reverse, xorSum-lt}
-use Rattle.gf256.specs.Linear.{lin, Linear, additive, same, bit-through, sum-through}
-use Rattle.gf256.specs.Field.{cube}
-use Rattle.bch.specs.CodeWord.{Word, remainder, parity, CodeWord}
-use Rattle.bch.specs.RemainderLaws.{BitsTo, shift, shift-columns, shift-linear, evaluated, remainder-lt, remainder-ext, added, added-bits, remainder-added}
-use Rattle.bch.specs.CompletionLaws.{checkBits, check-low, check-high, check-remainder}
-use Rattle.bch.specs.Syndromes.{locator, S1, S3, syndromesOf}
-use Rattle.bch.specs.SyndromeLaws.{last-zero, code-S1, code-S3}
-use Rattle.bch.specs.declared.Syndromes.{Syndromes}
-use Rattle.bch.specs.CheckTable.{checks}
+use Rattle.bits.specs.Xor.{xorSum}
+use Rattle.bch.specs.CodeWord.{Word}
+
+-- Entry i: the check bits of the word whose bit 255 - i alone is set.
+unfoldable pub checks : List ℕ
+checks =
+    1 ∷ 2 ∷ 4 ∷ 8 ∷ 16 ∷ 32 ∷ 64 ∷ 128 ∷ 256 ∷ 512 ∷ 1024 ∷ 2048 ∷ 4096 ∷ 8192 ∷ 16384 ∷ 32768 ∷ 65536 ∷ 57031 ∷ 114061 ∷ 107998 ∷ 103803 ∷ 128050 ∷
+    79523 ∷ 45954 ∷ 91908 ∷ 4303 ∷ 8605 ∷ 17209 ∷ 34417 ∷ 68833 ∷ 50950 ∷ 101900 ∷ 115423 ∷ 88954 ∷ 26675 ∷ 53349 ∷ 106697 ∷ 106326 ∷ 122987 ∷ 73234 ∷
+    58083 ∷ 116165 ∷ 87374 ∷ 29787 ∷ 59573 ∷ 119145 ∷ 97302 ∷ 9963 ∷ 19925 ∷ 39849 ∷ 79697 ∷ 45158 ∷ 90316 ∷ 8031 ∷ 16061 ∷ 32121 ∷ 64241 ∷ 128481 ∷
+    79110 ∷ 46283 ∷ 92565 ∷ 3566 ∷ 7132 ∷ 14264 ∷ 28528 ∷ 57056 ∷ 114112 ∷ 107847 ∷ 103498 ∷ 128595 ∷ 78434 ∷ 47619 ∷ 95237 ∷ 14030 ∷ 28060 ∷ 56120 ∷
+    112240 ∷ 111143 ∷ 113290 ∷ 109523 ∷ 100706 ∷ 117763 ∷ 83650 ∷ 21315 ∷ 42629 ∷ 85257 ∷ 17622 ∷ 35244 ∷ 70488 ∷ 63607 ∷ 127213 ∷ 81694 ∷ 41211 ∷
+    82421 ∷ 23854 ∷ 47708 ∷ 95416 ∷ 14263 ∷ 28525 ∷ 57049 ∷ 114097 ∷ 107942 ∷ 103819 ∷ 128466 ∷ 79203 ∷ 46082 ∷ 92164 ∷ 3791 ∷ 7581 ∷ 15161 ∷ 30321 ∷
+    60641 ∷ 121281 ∷ 93510 ∷ 1099 ∷ 2197 ∷ 4393 ∷ 8785 ∷ 17569 ∷ 35137 ∷ 70273 ∷ 64454 ∷ 128908 ∷ 78303 ∷ 48506 ∷ 97012 ∷ 11055 ∷ 22109 ∷ 44217 ∷
+    88433 ∷ 27686 ∷ 55372 ∷ 110744 ∷ 114679 ∷ 106794 ∷ 105619 ∷ 124898 ∷ 69891 ∷ 64706 ∷ 129412 ∷ 77263 ∷ 34138 ∷ 68276 ∷ 52143 ∷ 104285 ∷ 127102 ∷
+    81467 ∷ 41650 ∷ 83300 ∷ 21519 ∷ 43037 ∷ 86073 ∷ 32438 ∷ 64876 ∷ 129752 ∷ 76663 ∷ 34858 ∷ 69716 ∷ 65135 ∷ 130269 ∷ 75646 ∷ 36923 ∷ 73845 ∷ 40494 ∷
+    80988 ∷ 42623 ∷ 85245 ∷ 18238 ∷ 36476 ∷ 72952 ∷ 59191 ∷ 118381 ∷ 82462 ∷ 23291 ∷ 46581 ∷ 93161 ∷ 2326 ∷ 4652 ∷ 9304 ∷ 18608 ∷ 37216 ∷ 74432 ∷
+    39751 ∷ 79501 ∷ 46046 ∷ 92092 ∷ 4543 ∷ 9085 ∷ 18169 ∷ 36337 ∷ 72673 ∷ 59654 ∷ 119308 ∷ 96991 ∷ 11130 ∷ 22260 ∷ 44520 ∷ 89040 ∷ 26983 ∷ 53965 ∷
+    107929 ∷ 103926 ∷ 128299 ∷ 78994 ∷ 47075 ∷ 94149 ∷ 334 ∷ 668 ∷ 1336 ∷ 2672 ∷ 5344 ∷ 10688 ∷ 21376 ∷ 42752 ∷ 85504 ∷ 17095 ∷ 34189 ∷ 68377 ∷
+    51446 ∷ 102892 ∷ 130335 ∷ 75002 ∷ 38707 ∷ 77413 ∷ 33294 ∷ 66588 ∷ 55039 ∷ 110077 ∷ 99646 ∷ 119995 ∷ 96178 ∷ 12707 ∷ 25413 ∷ 50825 ∷ 101649 ∷
+    115942 ∷ 87819 ∷ 28882 ∷ 57764 ∷ 115528 ∷ 88151 ∷ 28266 ∷ 56532 ∷ 113064 ∷ 109975 ∷ 99818 ∷ 120083 ∷ 95458 ∷ 14083 ∷ 28165 ∷ 56329 ∷ 112657 ∷
+    110310 ∷ 99083 ∷ 121042 ∷ 94051 ∷ []
 
 -- The sum of the check bits of a word's bits.
 unfoldable pub check : Word → ℕ
@@ -33,170 +35,3 @@ check w = xorSum 256 (λ k. w k * getD checks (255 - k) 0)
 -- 17 check bits in their places.
 unfoldable pub tail : ℕ → Word
 tail v k = cond (ltb k 239) 0 (v / 2 ^ (255 - k) % 2)
-
--- ---- the rule of the table, computed over all of it
-
--- The remainder of y^j.
-register : ℕ → ℕ
-register zero = 1
-register (suc j) = shift (register j)
-
--- Without its last bit an entry is the step before, shifted,
-step : (j : ℕ) → j < 254 → getD checks (suc (suc j)) 0 / 2 ≡ shift (getD checks (suc j) 0 / 2)
-unfolding checks shift shift-columns lin _⊕_
-step = agree 254 (λ j. getD checks (suc (suc j)) 0 / 2) (λ j. shift (getD checks (suc j) 0 / 2)) tt
-
-first : getD checks 1 0 / 2 ≡ 1
-unfolding checks
-first = refl
-
-last : getD checks 0 0 / 2 ≡ 0
-unfolding checks
-last = refl
-
--- and with it the number of bits set is odd.
-ones : ℕ → ℕ
-ones v = xorSum 17 (λ i. v / 2 ^ i % 2)
-
-odd : (i : ℕ) → i < 256 → ones (getD checks i 0) ≡ 1
-unfolding checks ones xorSum _⊕_
-odd = agree 256 (λ i. ones (getD checks i 0)) (λ i. 1) tt
-
-half-register : (j : ℕ) → j < 255 → getD checks (suc j) 0 / 2 ≡ register j
-unfolding register
-half-register zero l = first
-half-register (suc j) l = step j (omega arith) ∙ ap shift (half-register j (omega arith))
-
--- ---- the remainder and the parity are read off the check bits
-
-half-linear : Linear (λ x. x / 2)
-half-linear = additive (λ x. x / 2) ⊕-half
-
-ones-linear : Linear ones
-unfolding ones
-ones-linear =
-    additive (λ v. xorSum 17 (λ i. v / 2 ^ i % 2))
-    (λ x y.
-    xorSum-ext 17 (λ i. (x ⊕ y) / 2 ^ i % 2) (λ i. (x / 2 ^ i % 2) ⊕ (y / 2 ^ i % 2))
-    (λ i l. ap (λ u. u % 2) (⊕-shr x y i) ∙ ⊕-mod (x / 2 ^ i) (y / 2 ^ i))
-    ∙ xorSum-⊕ 17 (λ i. x / 2 ^ i % 2) (λ i. y / 2 ^ i % 2))
-
-module _ (w : Word) (b : BitsTo 256 w) where
-  low : BitsTo 255 w
-  low k l = b k (omega arith)
-
-  half-check : check w / 2 ≡ remainder 255 w
-  unfolding check register
-  half-check =
-      sum-through half-linear 256 (λ k. w k * getD checks (255 - k) 0)
-      ∙ xorSum-ext 256 (λ k. w k * getD checks (255 - k) 0 / 2) (λ k. w k * (getD checks (255 - k) 0 / 2))
-      (λ k l. bit-through half-linear (w k) (getD checks (255 - k) 0) (b k l))
-      ∙ last-zero w (λ k. getD checks (255 - k) 0 / 2) (λ k. register (255 - suc k)) last
-      (λ k l. let e : 255 - k ≡ suc (255 - suc k) = omega arith in
-      ap (λ i. getD checks i 0 / 2) e ∙ half-register (255 - suc k) (omega arith))
-      ∙ sym (evaluated same shift-linear (λ s. refl) register refl (λ j. refl) 255 w low)
-
-  ones-check : ones (check w) ≡ xorSum 256 w
-  unfolding check
-  ones-check =
-      sum-through ones-linear 256 (λ k. w k * getD checks (255 - k) 0)
-      ∙ xorSum-ext 256 (λ k. ones (w k * getD checks (255 - k) 0)) w
-      (λ k l. bit-through ones-linear (w k) (getD checks (255 - k) 0) (b k l) ∙ ap (λ u. w k * u) (odd (255 - k) (omega arith)) ∙ mul-one (w k))
-
-  pub check-lt : check w < 131072
-  check-lt = omega (arith, half-check, remainder-lt 255 w low)
-
--- The parity as a sum.
-bit-sum : (x y : ℕ) → x < 2 → y < 2 → (x + y) % 2 ≡ x ⊕ y
-unfolding _⊕_
-bit-sum zero zero hx hy = refl
-bit-sum zero (suc zero) hx hy = refl
-bit-sum (suc zero) zero hx hy = refl
-bit-sum (suc zero) (suc zero) hx hy = refl
-bit-sum zero (suc (suc y)) hx hy = absurd (omega arith)
-bit-sum (suc zero) (suc (suc y)) hx hy = absurd (omega arith)
-bit-sum (suc (suc x)) y hx hy = absurd (omega arith)
-
-parity-sum : (n : ℕ) (w : Word) → BitsTo n w → count n w % 2 ≡ xorSum n w
-unfolding count xorSum
-parity-sum zero w b = refl
-parity-sum (suc n) w b =
-    let e = parity-sum n w (λ k l. b k (omega arith)) in
-    let m : (count n w + w n) % 2 ≡ (count n w % 2 + w n) % 2 = omega arith in
-    m ∙ bit-sum (count n w % 2) (w n) (omega arith) (b n (omega arith)) ∙ ap (λ u. u ⊕ w n) e
-
--- ---- the check bits in their places
-
-pub tail-low : (v k : ℕ) → k < 239 → tail v k ≡ 0
-unfolding tail
-tail-low v k h = simp (lt-ltb k 239 h)
-
-pub tail-high : (v k : ℕ) → 239 ≤ k → tail v k ≡ v / 2 ^ (255 - k) % 2
-unfolding tail
-tail-high v k h = simp (le-ltb k 239 h)
-
-pub tail-bits : (v k : ℕ) → tail v k < 2
-tail-bits v k = go (decLt k 239)
-  where
-    go : Dec (k < 239) → tail v k < 2
-    go (yes l) = rw (tail-low v k l) (lit< tt)
-    go (no n) = rw (tail-high v k (omega arith)) (mod-lt _ (zero-lt-suc 1))
-
-tail-check : (v k : ℕ) → k < 255 → tail v k ≡ checkBits (v / 2) k
-tail-check v k l = go (decLt k 239)
-  where
-    go : Dec (k < 239) → tail v k ≡ checkBits (v / 2) k
-    go (yes m) = tail-low v k m ∙ sym (check-low (v / 2) k m)
-    go (no n) =
-        let e : 255 - k ≡ 1 + (254 - k) = omega arith in
-        tail-high v k (omega arith)
-        ∙ ap (λ u. v / u % 2) (ap (λ j. 2 ^ j) e ∙ pow-add 2 1 (254 - k))
-        ∙ ap (λ u. u % 2) (sym (div-div-eq-div-mul v 2 (2 ^ (254 - k))))
-        ∙ sym (check-high (v / 2) k (omega arith))
-
-tail-ones : (v : ℕ) → xorSum 256 (tail v) ≡ ones v
-unfolding ones
-tail-ones v =
-    xorSum-split 239 17 (tail v) ∙ ap (λ u. u ⊕ xorSum 17 (λ i. tail v (239 + i))) (xorSum-none 239 (tail v) (tail-low v)) ∙ zero-⊕ (xorSum 17 (λ i. tail v (239 + i)))
-    ∙ xorSum-reverse 17 (λ i. tail v (239 + i)) (λ i. v / 2 ^ i % 2)
-    (λ i j e. let d : 255 - (239 + i) ≡ j = omega arith in tail-high v (239 + i) (omega arith) ∙ ap (λ n. v / 2 ^ n % 2) d)
-
--- ---- with its check bits added a word is a code word, and they have its syndromes
-
-module _ (w : Word) (b : BitsTo 256 w) where
-  ends : BitsTo 256 (tail (check w))
-  ends k l = tail-bits (check w) k
-
-  pub checked-code : CodeWord (added w (tail (check w)))
-  unfolding parity added
-  checked-code =
-      record {
-        bits = added-bits 256 w (tail (check w)) b ends;
-        divisible = remainder-added 255 w (tail (check w)) (λ k l. b k (omega arith)) (λ k l. ends k (omega arith))
-            ∙ ap₂ _⊕_ (sym (half-check w b))
-            (remainder-ext 255 (tail (check w)) (checkBits (check w / 2)) (tail-check (check w))
-            ∙ check-remainder (check w / 2) (omega (arith, check-lt w b)))
-            ∙ ⊕-self (check w / 2);
-        even = parity-sum 256 (λ k. w k ⊕ tail (check w) k) (added-bits 256 w (tail (check w)) b ends)
-            ∙ xorSum-⊕ 256 w (tail (check w)) ∙ ap₂ _⊕_ (sym (ones-check w b)) (tail-ones (check w)) ∙ ⊕-self (ones (check w));
-      }
-
-  sum-added : (q : ℕ → ℕ) → xorSum 256 (λ k. added w (tail (check w)) k * q k) ≡ xorSum 256 (λ k. w k * q k) ⊕ xorSum 256 (λ k. tail (check w) k * q k)
-  unfolding added
-  sum-added q =
-      xorSum-ext 256 (λ k. (w k ⊕ tail (check w) k) * q k) (λ k. w k * q k ⊕ tail (check w) k * q k)
-      (λ k l. bits-⊕-times (w k) (tail (check w) k) (q k) (b k l) (ends k l))
-      ∙ xorSum-⊕ 256 (λ k. w k * q k) (λ k. tail (check w) k * q k)
-
-  pub check-syndromes : syndromesOf (tail (check w)) ≡ syndromesOf w
-  unfolding syndromesOf S1 S3 parity
-  check-syndromes =
-      eq (⊕-eq _ _ (sym (sum-added locator) ∙ code-S1 (added w (tail (check w))) checked-code))
-      (⊕-eq _ _ (sym (sum-added (λ k. cube (locator k))) ∙ code-S3 (added w (tail (check w))) checked-code))
-      (parity-sum 256 w b ∙ sym (ones-check w b) ∙ sym (tail-ones (check w)) ∙ sym (parity-sum 256 (tail (check w)) ends))
-    where
-      made : ℕ → ℕ → ℕ → Syndromes
-      made x y p = record { s1 = x; s3 = y; parity = p }
-
-      eq : {x x′ y y′ p p′ : ℕ} → x ≡ x′ → y ≡ y′ → p ≡ p′ → made x′ y′ p′ ≡ made x y p
-      eq e f g = rw (e, f, g)

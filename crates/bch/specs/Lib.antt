@@ -15,5 +15,5 @@ pub mod QuotientLaws
 pub mod Calls
 pub mod CallLaws
 pub mod BenchValues
-pub mod CheckTable
 pub mod Checks
+pub mod CheckLaws

@@ -5,18 +5,17 @@ use mathlib.Core.List.{List}
 use Prim.Native.Nat.{ℕ, zero, suc, _+_, _-_, _*_, _/_, _%_, _^_, _<_, _≤_}
 use native.Mathlib.Nat.{zero-mul, one-mul}
 use native.Mathlib.Omega.{arith}
-use lib.ListN.{length, getD}
+use lib.ListN.{getD}
 use Rattle.bits.specs.Bits.{bit}
 use Rattle.bits.specs.BitLaws.{bit-lt}
-use Rattle.bits.specs.Count.{count}
 use Rattle.bits.specs.CountLaws.{count-none}
 use Rattle.bits.specs.Xor.{_⊕_, xorSum}
 use Rattle.bits.specs.XorLaws.{xorSum-none, xorSum-split}
 use Rattle.gf256.specs.Field.{cube}
 use Rattle.bch.specs.CodeWord.{Word}
 use Rattle.bch.specs.Syndromes.{locator, syndromesOf}
-use Rattle.bch.specs.CheckTable.{checks}
-use Rattle.bch.specs.Checks.{check, check-lt, tail, tail-low, tail-high, check-syndromes}
+use Rattle.bch.specs.Checks.{checks, check, tail}
+use Rattle.bch.specs.CheckLaws.{check-lt, tail-low, tail-high, check-syndromes}
 use Rattle.bch.specs.declared.Syndromes.{Syndromes}
 use Rattle.checkword.specs.Partial.{Absorbing, partial, syndromes, syndromes-eq}
 

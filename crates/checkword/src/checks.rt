@@ -4,8 +4,7 @@ ghost use mathlib.Core.Path.{_≡_};
 ghost use Prim.Native.Nat.{_*_, _<_};
 ghost use lib.ListN.{length};
 ghost use Rattle.bits.specs.Bits.{bit};
-ghost use Rattle.bch.specs.CheckTable.{checks};
-ghost use Rattle.bch.specs.Checks.{check};
+ghost use Rattle.bch.specs.Checks.{checks, check};
 ghost use Rattle.checkword.specs.Checking.{byteCheck};
 
 // An entry of the table where the bit is set.

@@ -1,4 +1,4 @@
-// The check bits of single bits: the table of bch, CheckTable.
+// The check bits of single bits: specs/Checks.antt of bch.
 
 // Entry i belongs to bit 255 - i.
 pub const CHECKS: [u32; 256] = [

@@ -1,6 +1,6 @@
 -- The back halves of a pair's 32 words, 16 bytes each, one after another; coded pair and payload as the code gathers them from there.
 -- Assumes nothing.
-use mathlib.Core.Path.{_≡_, refl, sym, ap, ap₂, _∙_}
+use mathlib.Core.Path.{_≡_, sym, ap, _∙_}
 use mathlib.Core.Bool.{Bool, true, false, cond}
 use mathlib.Core.List.{List}
 use Prim.Native.Nat.{ℕ, _+_, _-_, _*_, _/_, _%_, _^_, _<_, _≤_}
@@ -9,10 +9,9 @@ use native.Mathlib.Omega.{arith}
 use borrow.Author.Tests.{lt-ltb, le-ltb}
 use lib.Bits.{xor-block}
 use lib.Dec.{ltb}
-use lib.ListN.{length, getD, drop}
-use lib.Seq.{getD-drop}
+use lib.ListN.{length, getD}
 use Rattle.bits.specs.Lists.{tabulate}
-use Rattle.bits.specs.ListLaws.{getD-tabulate, is-tabulate, tabulate-ext}
+use Rattle.bits.specs.ListLaws.{getD-tabulate, tabulate-ext}
 use Rattle.bits.specs.Bits.{bit, bitOf, byteOf, fromBits, pack}
 use Rattle.bits.specs.BitLaws.{fromBits-ext, bit-pack, pack-ext}
 use Rattle.bits.specs.Tests.{grid}
@@ -20,7 +19,7 @@ use Rattle.bits.specs.Xor.{_⊕_}
 use Rattle.bits.specs.XorLaws.{⊕-lt}
 use Rattle.bch.specs.CodeWord.{Word}
 use Rattle.ofec.specs.Pairs.{laidOut, codedIndex, ownIndex, codedPair, payloadOf}
-use Rattle.ofec.specs.PairLaws.{codedPlace, codedPlace-lt, coded-laid, ownWord, ownPlace, Own, own-from, payload-laid}
+use Rattle.ofec.specs.PairLaws.{codedPlace, codedPlace-lt, coded-laid, ownWord, ownPlace, own-from, payload-laid}
 use Rattle.ofec.specs.History.{shift}
 use Rattle.ofec.specs.Encoding.{encodedWord, encoded}
 use Rattle.ofec.specs.EncodingLaws.{encoded-code}

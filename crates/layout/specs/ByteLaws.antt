@@ -6,7 +6,7 @@ use Prim.Native.Nat.{ℕ, _+_, _*_, _%_, _<_}
 use native.Mathlib.Omega.{arith}
 use lib.ListN.{length, getD, set}
 use Rattle.bits.specs.ListLaws.{getD-tabulate}
-use Rattle.bits.specs.Bits.{bit, byteOf, fromBits, pack}
+use Rattle.bits.specs.Bits.{bit, byteOf, pack}
 use Rattle.bits.specs.BitLaws.{fromBits-ext, pack-bit}
 use Rattle.bits.specs.Filling.{Filling, fill-more}
 

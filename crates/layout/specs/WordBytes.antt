@@ -1,7 +1,7 @@
 -- The bytes of a word as the code makes them, of bits where it finds them.
 -- Assumes nothing.
 use mathlib.Core.Path.{_≡_, refl, sym, ap, _∙_}
-use mathlib.Core.Bool.{Bool, true, false, cond}
+use mathlib.Core.Bool.{false, cond}
 use mathlib.Core.List.{List}
 use Prim.Native.Nat.{ℕ, _+_, _-_, _*_, _/_, _%_, _^_, _<_, _≤_}
 use native.Mathlib.Omega.{arith}
@@ -134,5 +134,3 @@ module _ (h y : List ℕ) (P w : ℕ) (lw : w < 32) where
 
   pub open-byte : (j x : ℕ) → 16 ≤ j → j < 32 → x ≡ byteOf (ownBit y w) j → x ≡ byteOf (firstBits (openWord h P y w)) j
   open-byte j x l m e = e ∙ byteOf-ext (ownBit y w) (firstBits (openWord h P y w)) j (λ k lk. own-is (j * 8 + k) (omega arith) (omega arith))
-
-pub ruleset word-bytes = (front-zeros, front-stored, held-start, held-byte, own-high, own-none, open-start, open-byte)

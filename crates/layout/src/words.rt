@@ -53,8 +53,10 @@ fn front_half(history: &[u8], pair: u32, w: usize) -> [u8; 32]
         return word;
     }
     for b in 0..8 {
-        word[2 * b] = front_byte(history, w, 2 * b);
-        word[2 * b + 1] = front_byte(history, w, 2 * b + 1);
+        let j = 2 * b;
+        let i = j + 1;
+        word[j] = front_byte(history, w, j);
+        word[i] = front_byte(history, w, i);
     }
     word
 }

@@ -1,7 +1,7 @@
 -- `checkword::checks::check_of` meets its contract: the array is the table of bch.
 -- Assumes nothing.
 use mathlib.Core.Path.{refl}
-use Rattle.bch.specs.CheckTable.{checks}
+use Rattle.bch.specs.Checks.{checks}
 use Rattle.checkword.specs.Checking.{checking}
 use borrow.Author.Needs.{needs}
 use Rattle.checkword.proofs.checks.check_of.Statement.{statement}

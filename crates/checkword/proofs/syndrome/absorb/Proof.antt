@@ -2,7 +2,7 @@
 -- Assumes nothing.
 use borrow.Author.Needs.{needs}
 use Rattle.bits.specs.Xor.{_⊕_}
-use Rattle.checkword.specs.Partial.{absorbing, absorb-one}
+use Rattle.checkword.specs.Partial.{absorbing}
 use Rattle.checkword.proofs.syndrome.absorb.Statement.{statement}
 use Rattle.checkword.proofs.syndrome.absorb.Tie as tie
 

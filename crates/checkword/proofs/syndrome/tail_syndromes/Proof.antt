@@ -35,5 +35,5 @@ tail-syndromes-spec =
     (λ c.
     let a = c .before .before in
     let l = a .loop .inv .0 in
-    (omega arith, absorb-more _ _ (a .loop .inv .1) (c .before .loop-test .taken) (omega arith) (tail-bit (a .before .args .v) (a .loop .k) _ l refl) (c .absorb .ensures)))  -- loop-again
+    (omega arith, absorb-more _ _ (a .loop .inv .1) (omega arith) (omega arith) (tail-bit (a .before .args .v) (a .loop .k) _ l refl) (c .absorb .ensures)))  -- loop-again
     (λ c. search kit))  -- returns

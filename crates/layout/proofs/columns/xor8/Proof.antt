@@ -3,7 +3,6 @@
 use mathlib.Core.Path.{refl}
 use Rattle.bits.specs.Xor.{_⊕_}
 use Rattle.bits.specs.XorLaws.{⊕-lt}
-use borrow.Author.Needs.{needs}
 use Rattle.layout.proofs.columns.xor8.Statement.{statement}
 use Rattle.layout.proofs.columns.xor8.Tie as tie
 

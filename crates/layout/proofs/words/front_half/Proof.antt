@@ -5,12 +5,12 @@ use native.Mathlib.Omega.{arith}
 use Rattle.bits.specs.Bits.{byteOf}
 use Rattle.bits.specs.Filling.{Filling, fill}
 use Rattle.layout.specs.ByteLaws.{fill-two}
-use Rattle.layout.specs.WordBytes.{frontStored, word-bytes}
+use Rattle.layout.specs.WordBytes.{frontStored, front-zeros, front-stored}
 use borrow.Author.Needs.{needs}
 use Rattle.layout.proofs.words.front_half.Statement.{statement}
 use Rattle.layout.proofs.words.front_half.Tie as tie
 
-ruleset kit = (needs, fill, word-bytes)
+ruleset kit = (needs, fill, front-zeros, front-stored)
 
 abbrev Inv-loop : tie.InvT-loop
 Inv-loop history pair w word₀ b₀ word b = Filling (byteOf (frontStored history w)) 32 (2 * b) word
@@ -26,19 +26,13 @@ front-half-spec =
     μ-loop
     (λ c. search kit)  -- returns
     (λ c. search kit)  -- loop-holds
-    (λ c. search kit)  -- mul-front-byte
+    (λ c. search kit)  -- mul-j
+    (λ c. search kit)  -- add-i
     (λ c κs. search kit)  -- front-byte-requires
-    (λ c. search kit)  -- mul-word
     (λ c. search kit)  -- array-write-word
-    (λ c. search kit)  -- mul-front-byte-2
-    (λ c. search kit)  -- add-front-byte
     (λ c κs. search kit)  -- front-byte-requires-2
-    (λ c. search kit)  -- mul-word-2
-    (λ c. search kit)  -- add-word
     (λ c. search kit)  -- array-write-word-2
     (λ c. search kit)  -- add-b
     (λ c. search kit)  -- loop-less
-    (λ c.
-    let a = c .before .before .before in
-    fill-two (a .loop .b) _ _ (a .loop .inv) (omega arith) (c .before .front-byte .ensures) (c .front-byte2 .ensures))  -- loop-again
+    (λ c. let a = c .before .before .before in fill-two (a .loop .b) _ _ (a .loop .inv) (omega arith) (c .before .front-byte .ensures) (c .front-byte2 .ensures))  -- loop-again
     (λ c. search kit))  -- returns-2

@@ -4,12 +4,12 @@ use Prim.Native.Nat.{_-_, _≤_}
 use Rattle.bits.specs.Bits.{byteOf, pack}
 use Rattle.bits.specs.Filling.{Filling, fill}
 use Rattle.ofec.specs.Receiving.{heldWord}
-use Rattle.layout.specs.WordBytes.{word-bytes}
+use Rattle.layout.specs.WordBytes.{held-start, held-byte}
 use borrow.Author.Needs.{needs}
 use Rattle.layout.proofs.words.held_word.Statement.{statement}
 use Rattle.layout.proofs.words.held_word.Tie as tie
 
-ruleset kit = (needs, fill, word-bytes)
+ruleset kit = (needs, fill, held-start, held-byte)
 
 abbrev Inv-loop : tie.InvT-loop
 Inv-loop history coded pair w word₀ j₀ word j = (16 ≤ j) × Filling (byteOf (heldWord history pair coded w)) 32 j word

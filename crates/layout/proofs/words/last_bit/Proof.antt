@@ -1,11 +1,11 @@
 -- `layout::words::last_bit` meets its contract: one law for each branch.
 -- Assumes nothing.
-use Rattle.layout.specs.WordBytes.{word-bytes}
+use Rattle.layout.specs.WordBytes.{own-high, own-none}
 use borrow.Author.Needs.{needs}
 use Rattle.layout.proofs.words.last_bit.Statement.{statement}
 use Rattle.layout.proofs.words.last_bit.Tie as tie
 
-ruleset kit = (needs, word-bytes)
+ruleset kit = (needs, own-high, own-none)
 
 pub last-bit-spec : {M : Type 1} → statement M
 last-bit-spec =

@@ -5,12 +5,12 @@ use Rattle.bits.specs.Bits.{byteOf, pack}
 use Rattle.bits.specs.Filling.{Filling, fill}
 use Rattle.bch.specs.Completion.{firstBits}
 use Rattle.ofec.specs.Encoding.{openWord}
-use Rattle.layout.specs.WordBytes.{word-bytes}
+use Rattle.layout.specs.WordBytes.{open-start, open-byte}
 use borrow.Author.Needs.{needs}
 use Rattle.layout.proofs.words.open_word.Statement.{statement}
 use Rattle.layout.proofs.words.open_word.Tie as tie
 
-ruleset kit = (needs, fill, word-bytes)
+ruleset kit = (needs, fill, open-start, open-byte)
 
 abbrev Inv-loop : tie.InvT-loop
 Inv-loop history payload pair w word₀ j₀ word j = (16 ≤ j) × Filling (byteOf (firstBits (openWord history pair payload w))) 32 j word
