@@ -1,4 +1,4 @@
-//! crates/interleaver: the 672 blocks of a buffer, each reordered by itself.
+//! crates/blocks: the 672 blocks of a buffer, each reordered by itself.
 
 use super::bit;
 
