@@ -2,7 +2,8 @@
 //! when the structure is the same. It follows crates/codec, pairs, layout, checkword, gf256, interleaver
 //! and blocks function by function, and changes with them.
 //!
-//! No call is inlined into the code that times it: those of the library cannot be.
+//! Neither side has more for the compiler to go by: lengths that contracts of the library require are in
+//! the types here, and no call is inlined into the code that times it.
 
 // The loops are those of the library.
 #![allow(
@@ -29,9 +30,11 @@ fn flip(s: &mut [u8], i: usize) {
 
 #[inline(never)]
 pub fn encode_pair(payload: &[u8], coded: &mut [u8], history: &mut [u8], pair: u32) -> Outcome {
-    if payload.len() != 444 || coded.len() != 512 || history.len() != 5120 {
+    let (Ok(payload), Ok(coded), Ok(history)) =
+        (payload.try_into(), coded.try_into(), history.try_into())
+    else {
         return Outcome::refused_pair(MISFIT, pair);
-    }
+    };
     if pair == u32::MAX {
         return Outcome::refused_pair(COUNT_SPENT, pair);
     }
@@ -47,9 +50,14 @@ pub fn receive_pair(
     history: &mut [u8],
     pair: u32,
 ) -> Outcome {
-    if coded.len() != 512 || payload.len() != 444 || marks.len() != 32 || history.len() != 5120 {
+    let (Ok(coded), Ok(payload), Ok(marks), Ok(history)) = (
+        coded.try_into(),
+        payload.try_into(),
+        marks.try_into(),
+        history.try_into(),
+    ) else {
         return Outcome::refused_pair(MISFIT, pair);
-    }
+    };
     if pair == u32::MAX {
         return Outcome::refused_pair(COUNT_SPENT, pair);
     }
@@ -59,9 +67,11 @@ pub fn receive_pair(
 
 #[inline(never)]
 pub fn interleave(pairs0: &[u8], pairs1: &[u8], bits: &mut [u8]) -> Outcome {
-    if pairs0.len() != 10752 || pairs1.len() != 10752 || bits.len() != 21504 {
+    let (Ok(pairs0), Ok(pairs1), Ok(bits)) =
+        (pairs0.try_into(), pairs1.try_into(), bits.try_into())
+    else {
         return Outcome::refused(MISFIT);
-    }
+    };
     let blocks = blocks::reordered_blocks(pairs0, pairs1);
     blocks::write_bits(&blocks, bits);
     Outcome::accepted(0)
@@ -69,9 +79,11 @@ pub fn interleave(pairs0: &[u8], pairs1: &[u8], bits: &mut [u8]) -> Outcome {
 
 #[inline(never)]
 pub fn deinterleave(bits: &[u8], pairs0: &mut [u8], pairs1: &mut [u8]) -> Outcome {
-    if bits.len() != 21504 || pairs0.len() != 10752 || pairs1.len() != 10752 {
+    let (Ok(bits), Ok(pairs0), Ok(pairs1)) =
+        (bits.try_into(), pairs0.try_into(), pairs1.try_into())
+    else {
         return Outcome::refused(MISFIT);
-    }
+    };
     let blocks = blocks::restored_blocks(bits);
     blocks::write_pairs(&blocks, 0, pairs0);
     blocks::write_pairs(&blocks, 1, pairs1);
