@@ -2,8 +2,8 @@
 //! when the structure is the same. It follows crates/codec, pairs, layout, checkword, gf256, interleaver
 //! and blocks function by function, and changes with them.
 //!
-//! Neither side has more for the compiler to go by: lengths that contracts of the library require are in
-//! the types here, and no call is inlined into the code that times it.
+//! Lengths of buffers that contracts of the library require are in the types here, and no call is inlined
+//! into the code that times it.
 
 // The loops are those of the library.
 #![allow(
