@@ -15,8 +15,9 @@ pub fn run(random: &mut Random) {
     let files = Files::new(SUPERFRAMES, random);
     two(
         "linemake, n = 8, files read and written",
-        || files.make_by_program(&linemake),
-        || files.make_apart(),
+        (),
+        |()| files.make_by_program(&linemake),
+        |()| files.make_apart(),
     );
     files.assert_same();
 }

@@ -16,18 +16,13 @@ pub const PAIRS: usize = 336;
 /// Gives a line about the damage.
 pub fn run(random: &mut Random) -> String {
     let payloads = random.bytes(PAIRS * PAYLOAD_BYTES);
-    let mut coded = vec![0; PAIRS * PAIR_BYTES];
-    encode_all(rows::encode_pair, &payloads, &mut coded);
-
-    let mut out = [0; 3].map(|_| vec![0; coded.len()]);
-    let [library, apart, same] = &mut out;
-    three(
+    let coded = three(
         "encode 336 pairs",
-        || encode_all(ffi::rows::encode_pair, &payloads, library),
-        || encode_all(rows::encode_pair, &payloads, apart),
-        || encode_all(same_structure::encode_pair, &payloads, same),
+        vec![0; PAIRS * PAIR_BYTES],
+        |coded| encode_all(ffi::rows::encode_pair, &payloads, coded),
+        |coded| encode_all(rows::encode_pair, &payloads, coded),
+        |coded| encode_all(same_structure::encode_pair, &payloads, coded),
     );
-    assert!(out.iter().all(|out| *out == coded));
 
     receive("clean", &coded);
     let [one, four] = [1, 4].map(|in_a_thousand| {
@@ -39,16 +34,14 @@ pub fn run(random: &mut Random) -> String {
 
 /// Says how many words were flawed.
 fn receive(damage: &str, coded: &[u8]) -> String {
-    let mut out = [0; 3].map(|_| Received::default());
-    let [library, apart, same] = &mut out;
-    three(
+    let received = three(
         &format!("receive 336 pairs, {damage}"),
-        || *library = receive_all(ffi::rows::receive_pair, coded),
-        || *apart = receive_all(rows::receive_pair, coded),
-        || *same = receive_all(same_structure::receive_pair, coded),
+        Received::default(),
+        |received| *received = receive_all(ffi::rows::receive_pair, coded),
+        |received| *received = receive_all(rows::receive_pair, coded),
+        |received| *received = receive_all(same_structure::receive_pair, coded),
     );
-    assert!(out[0] == out[1] && out[0] == out[2]);
-    let count = |mark| out[0].marks.iter().filter(|&&m| m == mark).count();
+    let count = |mark| received.marks.iter().filter(|&&m| m == mark).count();
     let (mended, lost) = (count(1) + count(2), count(LOST as u8));
     format!("with {damage}, {mended} were repaired and {lost} lost")
 }
@@ -77,7 +70,7 @@ pub fn encode_all(encode: Encode, payloads: &[u8], coded: &mut [u8]) {
     assert_eq!(pair as usize, payloads.len() / PAYLOAD_BYTES);
 }
 
-#[derive(Default, PartialEq)]
+#[derive(Clone, Default, PartialEq)]
 pub struct Received {
     pub payloads: Vec<u8>,
     pub marks: Vec<u8>,

@@ -1,18 +1,23 @@
 //! The library's functions once more, in plain Rust with the same loops: what is left between the two
-//! when the structure is the same. It follows crates/codec, layout, checkword, gf256 and interleaver
-//! function by function, and changes with them.
+//! when the structure is the same. It follows crates/codec, pairs, layout, checkword, gf256, interleaver
+//! and blocks function by function, and changes with them.
+//!
+//! Lengths of buffers that contracts of the library require are in the types here, and no call is inlined
+//! into the code that times it.
 
 // The loops are those of the library.
-#![allow(clippy::needless_range_loop, clippy::manual_memcpy)]
+#![allow(
+    clippy::needless_range_loop,
+    clippy::manual_memcpy,
+    clippy::assign_op_pattern
+)]
 
-use ofec_tests::outcome::Outcome;
+use ofec_tests::outcome::{Outcome, COUNT_SPENT, MISFIT};
 
+mod blocks;
 mod checkword;
-mod interleaver;
 mod layout;
-
-use checkword::{complete, mark_of, mend};
-use layout::{held_word, open_word, put_back_half, put_coded, put_payload, shift_in};
+mod pairs;
 
 /// Bit i of a buffer.
 fn bit(s: &[u8], i: usize) -> u8 {
@@ -23,18 +28,21 @@ fn flip(s: &mut [u8], i: usize) {
     s[i / 8] ^= 1 << (7 - i % 8);
 }
 
+#[inline(never)]
 pub fn encode_pair(payload: &[u8], coded: &mut [u8], history: &mut [u8], pair: u32) -> Outcome {
-    let mut backs = [0; 512];
-    for w in 0..32 {
-        let mut word = open_word(history, payload, pair, w);
-        complete(&mut word);
-        put_back_half(&word, &mut backs[16 * w..16 * w + 16]);
+    let (Ok(payload), Ok(coded), Ok(history)) =
+        (payload.try_into(), coded.try_into(), history.try_into())
+    else {
+        return Outcome::refused_pair(MISFIT, pair);
+    };
+    if pair == u32::MAX {
+        return Outcome::refused_pair(COUNT_SPENT, pair);
     }
-    put_coded(&backs, coded);
-    shift_in(history, coded);
+    pairs::encode_into(payload, coded, history, pair);
     Outcome::accepted(pair + 1)
 }
 
+#[inline(never)]
 pub fn receive_pair(
     coded: &[u8],
     payload: &mut [u8],
@@ -42,29 +50,42 @@ pub fn receive_pair(
     history: &mut [u8],
     pair: u32,
 ) -> Outcome {
-    let mut backs = [0; 512];
-    for w in 0..32 {
-        let mut word = held_word(history, coded, pair, w);
-        let repair = mend(&mut word, 10 <= pair);
-        put_back_half(&word, &mut backs[16 * w..16 * w + 16]);
-        marks[w] = mark_of(repair);
+    let (Ok(coded), Ok(payload), Ok(marks), Ok(history)) = (
+        coded.try_into(),
+        payload.try_into(),
+        marks.try_into(),
+        history.try_into(),
+    ) else {
+        return Outcome::refused_pair(MISFIT, pair);
+    };
+    if pair == u32::MAX {
+        return Outcome::refused_pair(COUNT_SPENT, pair);
     }
-    put_payload(&backs, payload);
-    let mut newest = [0; 512];
-    put_coded(&backs, &mut newest);
-    shift_in(history, &newest);
+    pairs::receive_into(coded, payload, marks, history, pair);
     Outcome::accepted(pair + 1)
 }
 
+#[inline(never)]
 pub fn interleave(pairs0: &[u8], pairs1: &[u8], bits: &mut [u8]) -> Outcome {
-    let blocks = interleaver::reordered_blocks(pairs0, pairs1);
-    interleaver::write_bits(&blocks, bits);
+    let (Ok(pairs0), Ok(pairs1), Ok(bits)) =
+        (pairs0.try_into(), pairs1.try_into(), bits.try_into())
+    else {
+        return Outcome::refused(MISFIT);
+    };
+    let blocks = blocks::reordered_blocks(pairs0, pairs1);
+    blocks::write_bits(&blocks, bits);
     Outcome::accepted(0)
 }
 
+#[inline(never)]
 pub fn deinterleave(bits: &[u8], pairs0: &mut [u8], pairs1: &mut [u8]) -> Outcome {
-    let blocks = interleaver::restored_blocks(bits);
-    interleaver::write_pairs(&blocks, 0, pairs0);
-    interleaver::write_pairs(&blocks, 1, pairs1);
+    let (Ok(bits), Ok(pairs0), Ok(pairs1)) =
+        (bits.try_into(), pairs0.try_into(), pairs1.try_into())
+    else {
+        return Outcome::refused(MISFIT);
+    };
+    let blocks = blocks::restored_blocks(bits);
+    blocks::write_pairs(&blocks, 0, pairs0);
+    blocks::write_pairs(&blocks, 1, pairs1);
     Outcome::accepted(0)
 }

@@ -26,33 +26,48 @@ pub fn head() {
     println!("|---|---:|---:|---:|---:|---:|");
 }
 
-/// The row of a work that the library and the code written apart do.
-pub fn two(name: &str, mut library: impl FnMut(), mut apart: impl FnMut()) {
-    let [library, apart] = medians(ROUNDS, |side| match side {
-        0 => library(),
-        _ => apart(),
-    });
+/// The row of a work that the library and the code written apart do, each in a copy of `out`.
+pub fn two<T: Clone + PartialEq>(
+    name: &str,
+    out: T,
+    library: impl Fn(&mut T),
+    apart: impl Fn(&mut T),
+) {
+    let ([library, apart], _) = agreed(name, out, [&library, &apart]);
     println!("| {name} | {} | | |", compared(library, apart));
 }
 
-/// The same, with Rust code of the library's structure.
-pub fn three(
+/// The same, with Rust code of the library's structure; gives what they all wrote.
+pub fn three<T: Clone + PartialEq>(
     name: &str,
-    mut library: impl FnMut(),
-    mut apart: impl FnMut(),
-    mut same_structure: impl FnMut(),
-) {
-    let [library, apart, same] = medians(ROUNDS, |side| match side {
-        0 => library(),
-        1 => apart(),
-        _ => same_structure(),
-    });
+    out: T,
+    library: impl Fn(&mut T),
+    apart: impl Fn(&mut T),
+    same_structure: impl Fn(&mut T),
+) -> T {
+    let ([library, apart, same], [out, ..]) =
+        agreed(name, out, [&library, &apart, &same_structure]);
     println!(
         "| {name} | {} | {} | {:.2} |",
         compared(library, apart),
         milliseconds(same),
         ratio(library, same)
     );
+    out
+}
+
+/// Times of works that are found to write the same before they are timed, and what they write.
+fn agreed<T: Clone + PartialEq, const N: usize>(
+    name: &str,
+    out: T,
+    works: [&dyn Fn(&mut T); N],
+) -> ([Duration; N], [T; N]) {
+    let mut outs = [(); N].map(|()| out.clone());
+    for (work, out) in works.iter().zip(&mut outs) {
+        work(out);
+    }
+    assert!(outs.iter().all(|out| *out == outs[0]), "{name}");
+    (medians(ROUNDS, |side| works[side](&mut outs[side])), outs)
 }
 
 fn compared(library: Duration, apart: Duration) -> String {

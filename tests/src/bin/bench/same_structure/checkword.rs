@@ -43,41 +43,60 @@ fn cube(x: u8) -> u8 {
     POWERS[log(x) * 3 % 255]
 }
 
-fn step(s: u32, b: u8) -> u32 {
-    let t = s * 2 + u32::from(b);
-    if t < 65536 {
-        return t;
+/// Entry i: the check bits of a word whose one set bit is bit 255 - i.
+const CHECKS: [u32; 256] = checks();
+
+const fn checks() -> [u32; 256] {
+    let mut checks = [1; 256];
+    let mut remainder: u32 = 1;
+    let mut i = 1;
+    while i < 256 {
+        checks[i] = remainder * 2 + (remainder.count_ones() + 1) % 2;
+        let twice = remainder * 2;
+        remainder = if twice < 65536 { twice } else { twice ^ 94051 };
+        i += 1;
     }
-    t ^ 94051
+    checks
 }
 
-fn remainder_of(w: &[u8]) -> u32 {
+/// A product, and words as slices: with a branch, or words of a known length, this code was measured slower.
+fn taken(b: u8, entry: u32) -> u32 {
+    u32::from(b) * entry
+}
+
+fn check_byte(w: &[u8], table: &[u32; 256], j: usize) -> u32 {
     let mut s = 0;
-    for k in 0..255 {
-        s = step(s, bit(w, k));
+    for b in 0..8 {
+        let k = j * 8 + b;
+        s = s ^ taken(bit(w, k), table[255 - k]);
     }
     s
 }
 
-fn parity_of(w: &[u8]) -> u8 {
-    let mut p = 0;
-    for k in 0..256 {
-        p = (p + bit(w, k)) % 2;
+fn check_with(w: &[u8], table: &[u32; 256]) -> u32 {
+    let mut s = 0;
+    for j in 0..32 {
+        s = s ^ check_byte(w, table, j);
     }
-    p
+    s
+}
+
+/// What must be added in bits 239 to 255 to make the word a code word.
+fn check_of(w: &[u8]) -> u32 {
+    let table = CHECKS;
+    check_with(w, &table)
+}
+
+fn add_check(w: &mut [u8], v: u32) {
+    for j in 29..32 {
+        w[j] = w[j] ^ ((v >> (248 - 8 * j)) % 256) as u8;
+    }
 }
 
 /// Sets bits 239 to 255 so that the word is a code word.
 pub fn complete(w: &mut [u8]) {
-    let r = remainder_of(w);
-    for i in 0..16 {
-        if (r >> i) % 2 == 1 {
-            flip(w, 254 - i);
-        }
-    }
-    if parity_of(w) == 1 {
-        flip(w, 255);
-    }
+    let v = check_of(w);
+    add_check(w, v);
 }
 
 #[derive(Clone, Copy)]
@@ -107,16 +126,21 @@ fn absorb(s: Syndromes, b: u8, k: usize) -> Syndromes {
     }
 }
 
-fn syndromes_of(w: &[u8]) -> Syndromes {
+/// The syndromes of a word that has check bits v alone.
+fn tail_syndromes(v: u32) -> Syndromes {
     let mut s = Syndromes {
         s1: 0,
         s3: 0,
         parity: 0,
     };
-    for k in 0..256 {
-        s = absorb(s, bit(w, k), k);
+    for k in 239..256 {
+        s = absorb(s, ((v >> (255 - k)) % 2) as u8, k);
     }
     s
+}
+
+fn syndromes_of(w: &[u8]) -> Syndromes {
+    tail_syndromes(check_of(w))
 }
 
 #[derive(Clone, Copy)]

@@ -1,4 +1,4 @@
-//! crates/interleaver: the 672 blocks of a buffer, each reordered by itself.
+//! crates/blocks: the 672 blocks of a buffer, each reordered by itself.
 
 use super::bit;
 
@@ -41,7 +41,7 @@ fn held_row(blocks: &[Block; 672], block_row: usize, block: usize, i: usize) -> 
     blocks[8 * block_row + block][i]
 }
 
-fn pairs_block(pairs: &[u8], row: usize, block: usize) -> Block {
+fn pairs_block(pairs: &[u8; 10752], row: usize, block: usize) -> Block {
     let mut b = [0; 16];
     for r in 0..16 {
         let at = 256 * row + 16 * r + 2 * block;
@@ -50,7 +50,7 @@ fn pairs_block(pairs: &[u8], row: usize, block: usize) -> Block {
     b
 }
 
-pub fn reordered_blocks(pairs0: &[u8], pairs1: &[u8]) -> [Block; 672] {
+pub fn reordered_blocks(pairs0: &[u8; 10752], pairs1: &[u8; 10752]) -> [Block; 672] {
     let mut blocks = [[0; 16]; 672];
     for x in 0..672 {
         let (block_row, block) = (x / 8, x % 8);
@@ -70,20 +70,20 @@ fn output_byte(blocks: &[Block; 672], column: usize, t: usize, subset: usize) ->
     acc
 }
 
-pub fn write_bits(blocks: &[Block; 672], bits: &mut [u8]) {
+pub fn write_bits(blocks: &[Block; 672], bits: &mut [u8; 21504]) {
     for j in 0..21504 {
         bits[j] = output_byte(blocks, j / 168, j % 168 / 4, j % 4);
     }
 }
 
-fn line_row(bits: &[u8], block_row: usize, block: usize, i: usize) -> u16 {
+fn line_row(bits: &[u8; 21504], block_row: usize, block: usize, i: usize) -> u16 {
     let subset = block_row / 42 * 2 + block_row % 2;
     let q = block_row % 42 / 2 * 16 + i;
     let at = 32 * (q / 8) + 8 * subset + q % 8;
     row(|j| u16::from(bit(bits, 1344 * (16 * block + j) + at)))
 }
 
-pub fn restored_blocks(bits: &[u8]) -> [Block; 672] {
+pub fn restored_blocks(bits: &[u8; 21504]) -> [Block; 672] {
     let mut blocks = [[0; 16]; 672];
     for x in 0..672 {
         let mut b = [0; 16];
@@ -95,7 +95,7 @@ pub fn restored_blocks(bits: &[u8]) -> [Block; 672] {
     blocks
 }
 
-pub fn write_pairs(blocks: &[Block; 672], encoder: usize, pairs: &mut [u8]) {
+pub fn write_pairs(blocks: &[Block; 672], encoder: usize, pairs: &mut [u8; 10752]) {
     for m in 0..10752 {
         let block_row = 2 * (m / 256) + encoder;
         let w = held_row(blocks, block_row, m % 16 / 2, m % 256 / 16);
