@@ -17,4 +17,5 @@ pub use reading::read_at;
 pub use reading::start;
 pub use rules::Header;
 pub use rules::judge;
+pub use rules::refused;
 pub use writing::write_header;
