@@ -17,5 +17,4 @@ pub use reading::read_at;
 pub use reading::start;
 pub use rules::Header;
 pub use rules::judge;
-pub use rules::refused;
 pub use writing::write_header;

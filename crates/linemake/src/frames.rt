@@ -1,6 +1,5 @@
 // The frames of a super-frame, each written as soon as it is made.
-use crate::files::put;
-use calls::Answer;
+use crate::line::put;
 ghost use mathlib.Core.Path.{_≡_};
 ghost use Prim.Native.Nat.{_-_, _*_, _≤_};
 ghost use lib.ListN.{length};
@@ -17,26 +16,32 @@ fn start(number: usize) -> usize
     number * 7172 - 192
 }
 
-fn write_frame(number: u32, payload: &[u8], overhead: &[u8], out: i32) -> Answer {
-    let mut frame = [0u8; 7424];
-    let framed = framing::frame(number, payload, overhead, &mut frame);
-    if let Answer::Refused(_) = framed {
-        return framed;
+fn write_frame(
+    number: u32,
+    payload: &[u8],
+    overhead: &[u8; 12288],
+    frame: &mut [u8; 7424],
+    out: i32,
+) -> u32 {
+    let refusal = calls::refusal_of(framing::frame(number, payload, overhead, frame));
+    if refusal != 0 {
+        return refusal;
     }
-    put(out, &frame)
+    put(out, frame)
 }
 
 // Writes the 48 sub-frames of a super-frame.
-pub fn write_frames(cells: &[u8], overhead: &[u8], out: i32) -> Answer
+pub fn write_frames(cells: &[u8], overhead: &[u8; 12288], out: i32) -> u32
     requires { ⌜ length (now cells) ≡ 344064 ⌝ }
 {
+    let mut frame = [0u8; 7424];
     for s in 0..48 {
         let a = start(s);
         let e = start(s + 1);
-        let written = write_frame(s as u32, &cells[a..e], overhead, out);
-        if let Answer::Refused(_) = written {
-            return written;
+        let refusal = write_frame(s as u32, &cells[a..e], overhead, &mut frame, out);
+        if refusal != 0 {
+            return refusal;
         }
     }
-    Answer::Done(0)
+    0
 }

@@ -1,13 +1,19 @@
-// The files that are read: opened by name, measured, and read from the front. They stay open to the end, so that the line file's
-// descriptor is none of the standard ones, even where the program was started without them.
-use crate::files::length;
-use libc::STDERR_FILENO;
+// The files that are read. They stay open to the end, so that the line file's descriptor is none of the standard ones, even where
+// the program was started without these.
+use files::size;
+ghost use Prim.Native.Nat.{_≤_};
+
+// The refusal of a file that cannot be opened, read or written, or has the wrong size.
+pub const MISFIT: u32 = 1;
 
 // The bytes of a payload file for a super-frame: 168 pairs of 444.
 const PAYLOAD: usize = 74592;
 
 // The bytes of the overhead list.
 const OVERHEAD: usize = 12288;
+
+// The most super-frames of a line file.
+const MOST: usize = 64;
 
 // The descriptors of two payload files and the overhead list; -1 for a file that could not be opened.
 pub struct Inputs {
@@ -16,44 +22,18 @@ pub struct Inputs {
     pub overhead: i32,
 }
 
-// Opens the file that an argument names, or says why it cannot.
-fn open(argument: usize) -> i32 {
-    let mut path = io::buffer();
-    let n = os::arg(argument, &mut path);
-    if n == 0 {
-        io::write_all(STDERR_FILENO, b"a file is not named\n");
-        return -1;
-    }
-    let fd = os::open_read(&path[..n]);
-    if fd < 0 {
-        os::fail(&path[..n]);
-    }
-    fd
-}
-
-pub fn open_all() -> Inputs {
+pub fn open() -> Inputs {
     Inputs {
-        payload0: open(1),
-        payload1: open(2),
-        overhead: open(3),
+        payload0: files::open(1),
+        payload1: files::open(2),
+        overhead: files::open(3),
     }
 }
 
-// The size of an open file, which is then read from the front; 0 for one that cannot be read there.
-fn size(fd: i32) -> usize {
-    let bytes = length(fd);
-    let mut first = [0u8; 1];
-    if libc::pread(fd, &mut first, 0) != 1 {
-        return 0;
-    }
-    if libc::lseek(fd, 0, libc::SEEK_SET) != 0 {
-        return 0;
-    }
-    bytes
-}
-
-// How many super-frames the payload files hold; none where their sizes misfit.
-pub fn superframes(inputs: Inputs) -> usize {
+// How many super-frames the payload files hold, with one above the most for any more; none where a size misfits.
+pub fn superframes(inputs: Inputs) -> u32
+    ensures { λ r. ⌜ r ≤ 65 ⌝ }
+{
     let bytes = size(inputs.payload0);
     if bytes % PAYLOAD != 0 {
         return 0;
@@ -61,13 +41,12 @@ pub fn superframes(inputs: Inputs) -> usize {
     if size(inputs.payload1) != bytes {
         return 0;
     }
-    bytes / PAYLOAD
-}
-
-// Reads the overhead list, and answers whether it has the right size.
-pub fn read_overhead(inputs: Inputs, overhead: &mut [u8; 12288]) -> bool {
     if size(inputs.overhead) != OVERHEAD {
-        return false;
+        return 0;
     }
-    io::read_full(inputs.overhead, overhead) == OVERHEAD
+    let n = bytes / PAYLOAD;
+    if MOST < n {
+        return MOST as u32 + 1;
+    }
+    n as u32
 }

@@ -1,13 +1,15 @@
+-- `linemake::frames::write_frames` is safe and ends: one sub-frame a turn.
+-- Assumes nothing.
 use Prim.Native.Nat.{_-_}
 use borrow.Author.Needs.{needs}
 use Rattle.linemake.proofs.frames.write_frames.Statement.{statement}
 use Rattle.linemake.proofs.frames.write_frames.Tie as tie
 
 abbrev Inv-loop : tie.InvT-loop
-Inv-loop cells overhead out s₀ s = Unit {0}
+Inv-loop cells overhead out frame₀ s₀ frame s = Unit {0}
 
 abbrev μ-loop : tie.MeasureT-loop
-μ-loop cells overhead out s₀ s = 48 - s
+μ-loop cells overhead out frame₀ s₀ frame s = 48 - s
 
 pub write-frames-spec : {M : Type 1} → statement M
 write-frames-spec =
@@ -24,9 +26,7 @@ write-frames-spec =
     (λ c. search needs)  -- part-write-frame-start
     (λ c. search needs)  -- part-write-frame-end
     (λ c κs. search needs)  -- write-frame-requires
-    (λ c. search needs)  -- enum-told
     (λ c. search needs)  -- returns
-    (λ c. search needs)  -- enum-told-2
     (λ c. search needs)  -- add-s
     (λ c. search needs)  -- loop-less
     (λ c. search needs)  -- loop-again

@@ -2,8 +2,8 @@ use Prim.Native.Nat.{_-_}
 use mathlib.Core.Path.{_≡_}
 use lib.ListN.{length}
 use borrow.Author.Needs.{needs}
-use Rattle.linemake.proofs.output.add_suffix.Statement.{statement}
-use Rattle.linemake.proofs.output.add_suffix.Tie as tie
+use Rattle.files.proofs.making.add_suffix.Statement.{statement}
+use Rattle.files.proofs.making.add_suffix.Tie as tie
 
 abbrev Inv-loop : tie.InvT-loop
 Inv-loop path₀ from i₀ path i = length path ≡ length path₀

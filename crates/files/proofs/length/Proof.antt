@@ -1,4 +1,4 @@
--- `linemake::files::length` is safe: a position that is not negative fits.
+-- `files::length` is safe: a position that is not negative fits.
 -- Assumes nothing.
 use mathlib.Core.Path.{_≡_, sym, subst}
 use mathlib.Core.Bool.{Bool, true, false}
@@ -10,8 +10,8 @@ use mir.Syntax.{w64}
 use mir.Val.{Fits, SFits, toZ, ofZ}
 use mir.ValLaws.{toZ-ofZ}
 use borrow.Author.Needs.{needs}
-use Rattle.linemake.proofs.files.length.Statement.{statement}
-use Rattle.linemake.proofs.files.length.Tie as tie
+use Rattle.files.proofs.length.Statement.{statement}
+use Rattle.files.proofs.length.Tie as tie
 
 not-negative : (z : ℤ) → ltZ z (pos 0) ≡ false → T (nonNeg z)
 not-negative (pos n) e = tt
