@@ -1,9 +1,6 @@
 // Reads a file on standard input and prints what its header says, or why it is refused. The bytes are counted and, but for
 // the first sixteen, not kept.
-use calls::Answer;
 use libc::STDIN_FILENO;
-use libc::STDOUT_FILENO;
-use lineformat::Header;
 ghost use Prim.Native.Nat.{_≤_};
 
 // Reads a block and answers how many bytes it had: none at the end of the input, or where the read fails.
@@ -29,30 +26,11 @@ fn count_on(from: usize) -> usize {
     count
 }
 
-fn print(name: &[u8], n: u32) {
-    io::write_all(STDOUT_FILENO, name);
-    io::print_decimal(STDOUT_FILENO, n as u64);
-}
-
-fn print_header(h: Header) {
-    let answer = h.answer;
-    match answer {
-        Answer::Done(_) => {
-            print(b"superframes ", h.superframes);
-            print(b" overhead ", h.overhead);
-            print(b" frames ", h.frames);
-            print(b" total ", h.total);
-        }
-        Answer::Refused(_) => print(b"refused ", calls::refusal_of(answer)),
-    }
-    io::write_all(STDOUT_FILENO, b"\n");
-}
-
 fn main() {
     let mut first = [0u8; 16];
     let mut size = io::read_full(STDIN_FILENO, &mut first);
     if size == 16 {
         size = count_on(size);
     }
-    print_header(lineheader::rules::judge(&first, size));
+    report::print_header(lineheader::rules::judge(&first, size));
 }

@@ -1,0 +1,39 @@
+// The files of a program: opened by argument and measured, or made under a name that they take when they are whole.
+mod making;
+
+pub use making::create;
+pub use making::finish;
+pub use making::name_beside;
+
+// Opens the file that an argument names for reading, and answers its descriptor; or says why it cannot, and answers -1.
+pub fn open(argument: usize) -> i32 {
+    let mut path = io::buffer();
+    let n = os::arg(argument, &mut path);
+    let fd = os::open_read(&path[..n]);
+    if fd < 0 {
+        os::fail(&path[..n]);
+    }
+    fd
+}
+
+// The length of an open file; 0 where it has none.
+pub fn length(fd: i32) -> usize {
+    let end = libc::lseek(fd, 0, libc::SEEK_END);
+    if end < 0 {
+        return 0;
+    }
+    end as usize
+}
+
+// The length of an open file that can be read, and the next read begins at its front; otherwise 0.
+pub fn size(fd: i32) -> usize {
+    let bytes = length(fd);
+    let mut first = [0u8; 1];
+    if libc::pread(fd, &mut first, 0) != 1 {
+        return 0;
+    }
+    if libc::lseek(fd, 0, libc::SEEK_SET) != 0 {
+        return 0;
+    }
+    bytes
+}

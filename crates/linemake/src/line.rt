@@ -1,0 +1,62 @@
+// The line file's content: header, overhead list, super-frames.
+use crate::inputs::Inputs;
+use crate::inputs::MISFIT;
+use crate::superframes::write_all;
+use calls::Answer;
+use calls::Refusal;
+ghost use Prim.Native.Nat.{_≤_};
+
+// Writes to the line file, or says why it cannot.
+pub fn put(out: i32, bytes: &[u8]) -> u32 {
+    if io::write_all(out, bytes) {
+        return 0;
+    }
+    os::fail(b"line file");
+    MISFIT
+}
+
+// Reads the overhead list and makes the header: 0, or the refusal.
+fn prepare(
+    inputs: Inputs,
+    superframes: u32,
+    header: &mut [u8; 16],
+    overhead: &mut [u8; 12288],
+) -> u32 {
+    if io::read_full(inputs.overhead, overhead) != 12288 {
+        return MISFIT;
+    }
+    let headed = calls::refusal_of(linefile::write_header(superframes, header));
+    if headed != 0 {
+        return headed;
+    }
+    let illegal = mapper::legal::first_illegal(overhead);
+    if illegal < 12288 {
+        return calls::refusal_of(Answer::Refused(Refusal::OffGrid(illegal)));
+    }
+    0
+}
+
+// Writes the line file: 0, or the refusal.
+pub fn write(
+    inputs: Inputs,
+    superframes: u32,
+    header: &mut [u8; 16],
+    overhead: &mut [u8; 12288],
+    out: i32,
+) -> u32
+    requires { ⌜ superframes ≤ 65 ⌝ }
+{
+    let prepared = prepare(inputs, superframes, header, overhead);
+    if prepared != 0 {
+        return prepared;
+    }
+    let headed = put(out, header);
+    if headed != 0 {
+        return headed;
+    }
+    let listed = put(out, overhead);
+    if listed != 0 {
+        return listed;
+    }
+    write_all(inputs, superframes, overhead, out)
+}

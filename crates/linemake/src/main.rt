@@ -1,0 +1,74 @@
+// Makes a line file of two payload files and an overhead list, super-frame by super-frame, and prints its header's numbers, or why
+// it is refused: linemake PAYLOAD0 PAYLOAD1 OVERHEAD LINE.
+mod cells;
+mod frames;
+mod inputs;
+mod line;
+mod pairs;
+mod superframes;
+
+use inputs::Inputs;
+use inputs::MISFIT;
+use libc::STDERR_FILENO;
+use lineformat::Header;
+ghost use Prim.Native.Nat.{_≤_};
+
+// The line file's argument.
+const LINE: usize = 4;
+
+// Makes the line file of this name, at a path beside it: 0, or the refusal.
+fn make_beside(inputs: Inputs, superframes: u32, name: &[u8], path: &mut [u8]) -> u32
+    requires { ⌜ superframes ≤ 65 ⌝ }
+{
+    let out = files::create(name, path);
+    if out < 0 {
+        return MISFIT;
+    }
+    let mut header = [0u8; 16];
+    let mut overhead = [0u8; 12288];
+    let refusal = line::write(inputs, superframes, &mut header, &mut overhead, out);
+    if files::finish(out, refusal == 0, path, name) {
+        return 0;
+    }
+    if refusal != 0 {
+        return refusal;
+    }
+    MISFIT
+}
+
+// Makes the line file: 0, or the refusal.
+fn make() -> u32 {
+    let inputs = inputs::open();
+    let superframes = inputs::superframes(inputs);
+    if superframes == 0 {
+        return MISFIT;
+    }
+    let mut name = io::buffer();
+    let n = os::arg(LINE, &mut name);
+    let mut path = io::buffer();
+    let k = files::name_beside(LINE, &mut path);
+    make_beside(inputs, superframes, &name[..n], &mut path[..k])
+}
+
+// The header of the line file that was made.
+fn made() -> Header {
+    let fd = files::open(LINE);
+    let mut first = [0u8; 16];
+    io::read_full(fd, &mut first);
+    lineheader::rules::judge(&first, files::length(fd))
+}
+
+fn main() {
+    if os::arg_count() < 5 {
+        io::write_all(
+            STDERR_FILENO,
+            b"usage: linemake PAYLOAD0 PAYLOAD1 OVERHEAD LINE\n",
+        );
+        return report::print_refusal(MISFIT);
+    }
+    let refusal = make();
+    if refusal != 0 {
+        return report::print_refusal(refusal);
+    }
+    report::print_header(made());
+}
