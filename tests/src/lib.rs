@@ -10,6 +10,7 @@ pub mod frames;
 pub mod interleaver;
 pub mod line_file;
 pub mod outcome;
+pub mod programs;
 pub mod random;
 pub mod rows;
 pub mod word;

@@ -2,26 +2,16 @@
 
 use std::fs::{File, OpenOptions};
 use std::io::{Seek, Write};
-use std::path::{Path, PathBuf};
 use std::process::{Child, Command, Stdio};
 use std::sync::atomic::{AtomicU32, Ordering};
 use std::thread::sleep;
 use std::time::{Duration, Instant};
 
 use ofec_tests::line_file::{self, Header, HEADER_BYTES};
+use ofec_tests::programs::program;
 use ofec_tests::random::Random;
 
 const EXAMPLE: &str = "superframes 1 overhead 16 frames 12304 total 368656\n";
-
-fn program() -> PathBuf {
-    let program = Path::new(env!("CARGO_MANIFEST_DIR")).join("../target/bin/linehead");
-    assert!(
-        program.is_file(),
-        "{} is missing: run `rt check linehead` first",
-        program.display()
-    );
-    program
-}
 
 /// What the program prints before it ends.
 fn output(child: Child) -> String {
@@ -32,7 +22,7 @@ fn output(child: Child) -> String {
 
 /// What is printed for these pieces, written to a pipe one after the other.
 fn printed_of_pieces(pieces: &[&[u8]]) -> String {
-    let mut child = Command::new(program())
+    let mut child = Command::new(program("linehead"))
         .stdin(Stdio::piped())
         .stdout(Stdio::piped())
         .spawn()
@@ -76,7 +66,7 @@ fn sparse(start: &[u8], length: u64) -> File {
 
 /// What is printed for a file of zeros behind a header.
 fn printed_of_sparse(header: Header, length: u64) -> String {
-    let child = Command::new(program())
+    let child = Command::new(program("linehead"))
         .stdin(sparse(&header.to_bytes(), length))
         .stdout(Stdio::piped())
         .spawn()
@@ -251,7 +241,7 @@ fn files_of_almost_and_of_more_than_4_gib() {
         file.rewind().expect("back to the start");
         let child = Command::new("sh")
             .args(["-c", "ulimit -v 65536 && exec \"$0\""])
-            .arg(program())
+            .arg(program("linehead"))
             .stdin(file.try_clone().expect("the same open file"))
             .stdout(Stdio::piped())
             .spawn()

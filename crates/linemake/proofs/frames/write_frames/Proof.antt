@@ -18,13 +18,6 @@ write-frames-spec =
     Inv-loop
     μ-loop
     (λ c. search needs)  -- loop-holds
-    (λ c κs. search needs)  -- start-requires
-    (λ c. search needs)  -- add-start
-    (λ c κs. search needs)  -- start-requires-2
-    (λ c. search needs)  -- cast-write-frame
-    (λ c. search needs)  -- sub-write-frame
-    (λ c. search needs)  -- part-write-frame-start
-    (λ c. search needs)  -- part-write-frame-end
     (λ c κs. search needs)  -- write-frame-requires
     (λ c. search needs)  -- returns
     (λ c. search needs)  -- add-s

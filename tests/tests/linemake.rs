@@ -1,0 +1,449 @@
+//! The program `linemake`: the file that it writes, what it prints, and what it leaves where it is refused.
+
+use std::fs::{self, File};
+use std::io::{BufRead, BufReader, Read};
+use std::os::unix::fs::{FileTypeExt, PermissionsExt};
+use std::path::{Path, PathBuf};
+use std::process::{Child, Command, Stdio};
+use std::sync::atomic::{AtomicU32, Ordering};
+use std::time::{Duration, Instant};
+
+use ofec_tests::chain::calls::REFERENCE;
+use ofec_tests::chain::sending::send;
+use ofec_tests::chain::SUPERFRAME_PAIRS;
+use ofec_tests::frames::OVERHEAD_BYTES;
+use ofec_tests::line_file::Header;
+use ofec_tests::programs::program;
+use ofec_tests::random::Random;
+use ofec_tests::rows::PAYLOAD_BYTES;
+
+/// The bytes of a payload file for a super-frame.
+const PAYLOAD: u64 = (SUPERFRAME_PAIRS * PAYLOAD_BYTES) as u64;
+const KEPT: &[u8] = b"what had the name before";
+const NAMES: [&str; 4] = ["payload0", "payload1", "overhead", "line"];
+
+/// What a run printed.
+#[derive(Debug)]
+struct Printed {
+    out: String,
+    said: String,
+}
+
+/// What a run prints before it ends.
+fn printed(child: Child) -> Printed {
+    let output = child.wait_with_output().expect("the program runs");
+    assert_eq!(output.status.code(), Some(0), "{}", output.status);
+    let text = |bytes| String::from_utf8(bytes).expect("text");
+    Printed {
+        out: text(output.stdout),
+        said: text(output.stderr),
+    }
+}
+
+/// A folder of its own with the three files that are read, removed at the end.
+struct Room(PathBuf);
+
+impl Drop for Room {
+    fn drop(&mut self) {
+        let _ = fs::remove_dir_all(&self.0);
+    }
+}
+
+impl Room {
+    fn empty() -> Self {
+        static NUMBER: AtomicU32 = AtomicU32::new(0);
+        let number = NUMBER.fetch_add(1, Ordering::Relaxed);
+        let name = format!("ofec-linemake-{}-{number}", std::process::id());
+        let folder = std::env::temp_dir().join(name);
+        fs::create_dir(&folder).expect("a temporary folder");
+        Room(folder)
+    }
+
+    /// Payload files of zeros that take no room, and a legal overhead list.
+    fn of_zeros(superframes: u64) -> Self {
+        let room = Room::empty();
+        room.sized("payload0", superframes * PAYLOAD);
+        room.sized("payload1", superframes * PAYLOAD);
+        room.put("overhead", &Random::new(6_000).cells(OVERHEAD_BYTES));
+        room
+    }
+
+    fn path(&self, name: &str) -> PathBuf {
+        self.0.join(name)
+    }
+
+    fn put(&self, name: &str, bytes: &[u8]) {
+        fs::write(self.path(name), bytes).expect("a file is written");
+    }
+
+    /// A file of zeros, or the same file with another length.
+    fn sized(&self, name: &str, length: u64) {
+        File::options()
+            .write(true)
+            .create(true)
+            .truncate(false)
+            .open(self.path(name))
+            .and_then(|file| file.set_len(length))
+            .expect("a sparse file");
+    }
+
+    fn read(&self, name: &str) -> Vec<u8> {
+        fs::read(self.path(name)).expect("a file is read")
+    }
+
+    /// The names in the folder, in order.
+    fn names(&self) -> Vec<String> {
+        let entries = fs::read_dir(&self.0).expect("the folder is read");
+        let mut names: Vec<_> = entries
+            .map(|entry| entry.expect("an entry").file_name())
+            .map(|name| name.into_string().expect("text"))
+            .collect();
+        names.sort();
+        names
+    }
+
+    /// The program with these arguments, in the folder.
+    fn command(&self, arguments: &[&str]) -> Command {
+        let mut command = Command::new(program("linemake"));
+        command.args(arguments);
+        self.piped(command)
+    }
+
+    /// The program under a shell that first does this, as a limit.
+    fn shell(&self, first: &str, arguments: &[&str]) -> Command {
+        let mut command = Command::new("sh");
+        command.args(["-c", &format!("{first} exec \"$0\" \"$@\"")]);
+        command.arg(program("linemake")).args(arguments);
+        self.piped(command)
+    }
+
+    fn piped(&self, mut command: Command) -> Command {
+        command.current_dir(&self.0).stdin(Stdio::null());
+        command.stdout(Stdio::piped()).stderr(Stdio::piped());
+        command
+    }
+
+    fn run(&self, arguments: &[&str]) -> Printed {
+        printed(self.command(arguments).spawn().expect("it starts"))
+    }
+
+    /// A run that is refused with this number, and leaves the folder as it was: with a file under the given
+    /// name, and with none.
+    fn assert_refused(&self, arguments: &[&str], number: u32) {
+        for kept in [false, true] {
+            if kept && !self.path("line").exists() {
+                self.put("line", KEPT);
+            }
+            let before = self.names();
+            let given = self.run(arguments);
+            assert_eq!(given.out, format!("refused {number}\n"), "{arguments:?}");
+            assert!(!given.said.contains("super-frame"), "{}", given.said);
+            assert_eq!(self.names(), before, "{arguments:?}");
+            if self.path("line").is_file() && kept {
+                assert_eq!(self.read("line"), KEPT);
+            }
+        }
+        let _ = fs::remove_file(self.path("line"));
+    }
+}
+
+fn line(superframes: u32) -> String {
+    let total = Header::written(superframes).total;
+    format!("superframes {superframes} overhead 16 frames 12304 total {total}\n")
+}
+
+fn progress(superframes: u32) -> String {
+    (1..=superframes)
+        .map(|done| format!("super-frame {done} of {superframes}\n"))
+        .collect()
+}
+
+/// The line file of the code written apart.
+fn expected(payloads: [&[u8]; 2], overhead: &[u8]) -> Vec<u8> {
+    let superframes = payloads[0].len() as u64 / PAYLOAD;
+    let header = Header::written(superframes as u32).to_bytes();
+    let sent = send(&REFERENCE, payloads, overhead, &mut Random::new(6_001));
+    [&header[..], overhead, &sent.frames].concat()
+}
+
+/// What `linehead` prints of a file.
+fn linehead(path: &Path) -> String {
+    let child = Command::new(program("linehead"))
+        .stdin(File::open(path).expect("the line file"))
+        .stdout(Stdio::piped())
+        .stderr(Stdio::piped())
+        .spawn()
+        .expect("it starts");
+    printed(child).out
+}
+
+/// A folder with payloads of random bytes, and the line file to expect.
+fn filled(superframes: u64, seed: u64) -> (Room, Vec<u8>) {
+    let room = Room::empty();
+    let mut random = Random::new(seed);
+    let payloads = [0; 2].map(|_| random.bytes((superframes * PAYLOAD) as usize));
+    let overhead = random.cells(OVERHEAD_BYTES);
+    room.put("payload0", &payloads[0]);
+    room.put("payload1", &payloads[1]);
+    room.put("overhead", &overhead);
+    let file = expected([&payloads[0], &payloads[1]], &overhead);
+    (room, file)
+}
+
+#[test]
+fn the_file_is_that_of_the_code_written_apart() {
+    for superframes in [1, 2, 3] {
+        let (room, file) = filled(superframes, 6_100 + superframes);
+        let inputs = ["payload0", "payload1", "overhead"].map(|name| room.read(name));
+        let number = superframes as u32;
+        // The second run replaces the file of the first, or any other.
+        for before in [None, Some(KEPT)] {
+            if let Some(bytes) = before {
+                room.put("line", bytes);
+            }
+            let given = room.run(&NAMES);
+            assert_eq!(given.out, line(number));
+            assert_eq!(given.said, progress(number));
+            assert!(room.read("line") == file);
+            assert_eq!(linehead(&room.path("line")), line(number));
+            assert_eq!(room.names(), ["line", "overhead", "payload0", "payload1"]);
+        }
+        for (name, bytes) in NAMES.iter().zip(inputs) {
+            assert!(room.read(name) == bytes, "{name}");
+        }
+    }
+}
+
+#[test]
+fn one_file_for_both_payloads_and_a_name_in_another_folder() {
+    let (room, _) = filled(1, 6_200);
+    let (payload, overhead) = (room.read("payload1"), room.read("overhead"));
+    fs::create_dir(room.path("sub folder")).expect("a folder");
+    let path = room.path("sub folder").join("a line");
+    let name = path.to_str().expect("text");
+    let given = room.run(&["payload1", "./payload1", "overhead", name]);
+    assert_eq!(given.out, line(1));
+    assert!(fs::read(&path).expect("the file") == expected([&payload, &payload], &overhead));
+    assert_eq!(
+        room.names(),
+        ["overhead", "payload0", "payload1", "sub folder"]
+    );
+    // As any new file of this process.
+    room.put("new", b"");
+    let mode = |path: &Path| fs::metadata(path).expect("a file").permissions().mode();
+    assert_eq!(mode(&path), mode(&room.path("new")));
+}
+
+#[test]
+fn files_that_are_not_named_or_cannot_be_opened() {
+    let room = Room::of_zeros(1);
+    fs::create_dir(room.path("folder")).expect("a folder");
+    for count in 0..4 {
+        room.assert_refused(&NAMES[..count], 1);
+    }
+    let long = "n".repeat(5_000);
+    for place in 0..4 {
+        for other in ["", "folder", "folder/", "overhead/x", "none/line", &long] {
+            let mut arguments = NAMES;
+            arguments[place] = other;
+            room.assert_refused(&arguments, 1);
+        }
+    }
+    for place in 0..3 {
+        for other in ["none", "/dev/null", "/dev/zero"] {
+            let mut arguments = NAMES;
+            arguments[place] = other;
+            room.assert_refused(&arguments, 1);
+        }
+    }
+}
+
+/// A pipe under the given name is no file that could be replaced.
+#[test]
+fn a_pipe_for_the_line_file() {
+    let room = Room::of_zeros(1);
+    let made = Command::new("mkfifo").arg(room.path("pipe")).status();
+    assert!(made.expect("mkfifo").success());
+    room.assert_refused(&["payload0", "payload1", "overhead", "pipe"], 1);
+    let kind = fs::metadata(room.path("pipe"))
+        .expect("the pipe")
+        .file_type();
+    assert!(kind.is_fifo());
+}
+
+#[test]
+fn sizes() {
+    let room = Room::of_zeros(2);
+    for (first, second) in [
+        (0, 0),
+        (0, PAYLOAD),
+        (PAYLOAD, 0),
+        (1, 1),
+        (PAYLOAD - 1, PAYLOAD - 1),
+        (PAYLOAD + 1, PAYLOAD + 1),
+        (PAYLOAD, 2 * PAYLOAD),
+        (2 * PAYLOAD, PAYLOAD),
+        (PAYLOAD, PAYLOAD + 1),
+        (PAYLOAD + 444, PAYLOAD + 444),
+        // Beyond 2^32, where a count that begins again would find one super-frame.
+        ((1 << 32) + PAYLOAD, (1 << 32) + PAYLOAD),
+        ((1 << 32) + PAYLOAD, PAYLOAD),
+        // Above 64 super-frames, and misfits as well.
+        (65 * PAYLOAD, 66 * PAYLOAD),
+        (65 * PAYLOAD, PAYLOAD),
+        (65 * PAYLOAD + 1, 65 * PAYLOAD + 1),
+    ] {
+        room.sized("payload0", first);
+        room.sized("payload1", second);
+        room.assert_refused(&NAMES, 1);
+    }
+    for superframes in [65, 66, 1_000, 60_000] {
+        room.sized("payload0", superframes * PAYLOAD);
+        room.sized("payload1", superframes * PAYLOAD);
+        room.assert_refused(&NAMES, 2);
+    }
+    room.sized("payload0", 2 * PAYLOAD);
+    room.sized("payload1", 2 * PAYLOAD);
+    for length in [0, 1, 12_287, 12_289, 2 * 12_288] {
+        room.sized("overhead", length);
+        room.assert_refused(&NAMES, 1);
+    }
+}
+
+#[test]
+fn illegal_bytes_in_the_list() {
+    let room = Room::of_zeros(1);
+    let legal = room.read("overhead");
+    for (index, byte) in [(0, 16), (1, 255), (443, 128), (6_000, 17), (12_287, 16)] {
+        let mut overhead = legal.clone();
+        overhead[index] = byte;
+        room.put("overhead", &overhead);
+        room.assert_refused(&NAMES, 5);
+    }
+}
+
+/// Two conditions at once: the lower number is printed.
+#[test]
+fn the_order_of_the_refusals() {
+    let nowhere = ["payload0", "payload1", "overhead", "none/line"];
+    let room = Room::of_zeros(65);
+    room.assert_refused(&NAMES, 2);
+    room.assert_refused(&nowhere, 1);
+    room.assert_refused(&NAMES[..3], 1);
+    // 2 and 5.
+    room.put("overhead", &[16; OVERHEAD_BYTES]);
+    room.assert_refused(&NAMES, 2);
+    room.assert_refused(&nowhere, 1);
+    // 1, 2 and 5.
+    room.put("overhead", &[16; OVERHEAD_BYTES + 1]);
+    room.assert_refused(&NAMES, 1);
+    // 1 and 5.
+    room.sized("payload0", PAYLOAD);
+    room.sized("payload1", PAYLOAD);
+    room.assert_refused(&NAMES, 1);
+    room.put("overhead", &[16; OVERHEAD_BYTES]);
+    room.assert_refused(&NAMES, 5);
+    room.assert_refused(&nowhere, 1);
+    room.assert_refused(&["payload0", "none", "overhead", "line"], 1);
+    room.sized("payload1", PAYLOAD - 1);
+    room.assert_refused(&NAMES, 1);
+}
+
+/// The same 16 MiB of memory in all for 8 super-frames and for 64.
+#[test]
+fn a_constant_amount_of_memory() {
+    for superframes in [8, 64] {
+        let room = Room::of_zeros(superframes.into());
+        let mut command = room.shell("ulimit -v 16384 &&", &NAMES);
+        let given = printed(command.spawn().expect("the shell starts"));
+        assert_eq!(given.out, line(superframes));
+        assert_eq!(given.said, progress(superframes));
+        assert_eq!(linehead(&room.path("line")), line(superframes));
+    }
+}
+
+/// The best of three runs.
+#[test]
+fn time_for_8_super_frames() {
+    let room = Room::of_zeros(8);
+    let mut best = Duration::MAX;
+    for _ in 0..3 {
+        let start = Instant::now();
+        let given = room.run(&NAMES);
+        best = best.min(start.elapsed());
+        assert_eq!(given.out, line(8));
+    }
+    assert!(best < Duration::from_secs(3), "{best:?}");
+}
+
+/// A file that can grow to half a megabyte and no further.
+#[test]
+fn a_write_that_fails() {
+    let room = Room::of_zeros(2);
+    for kept in [false, true] {
+        if kept {
+            room.put("line", KEPT);
+        }
+        let before = room.names();
+        let limit = "trap '' XFSZ && ulimit -f 1000 &&";
+        let mut command = room.shell(limit, &NAMES);
+        let given = printed(command.spawn().expect("the shell starts"));
+        assert_eq!(given.out, "refused 1\n");
+        assert!(given.said.contains("line file: "), "{}", given.said);
+        assert_eq!(room.names(), before);
+        if kept {
+            assert_eq!(room.read("line"), KEPT);
+        }
+    }
+}
+
+/// A run over 64 super-frames that has written the first one.
+fn begun(room: &Room) -> (Child, BufReader<impl Read>) {
+    let mut child = room.command(&NAMES).spawn().expect("it starts");
+    let mut said = BufReader::new(child.stderr.take().expect("a pipe"));
+    let mut first = String::new();
+    said.read_line(&mut first).expect("a line");
+    assert_eq!(first, "super-frame 1 of 64\n");
+    assert!(!room.path("line").exists());
+    (child, said)
+}
+
+#[test]
+fn a_payload_file_that_becomes_shorter() {
+    for name in ["payload0", "payload1"] {
+        let room = Room::of_zeros(64);
+        let (child, mut said) = begun(&room);
+        room.sized(name, PAYLOAD);
+        let mut rest = String::new();
+        said.read_to_string(&mut rest).expect("text");
+        assert_eq!(printed(child).out, "refused 1\n");
+        assert!(rest.ends_with("a payload file ended early\n"), "{rest}");
+        assert_eq!(room.names(), ["overhead", "payload0", "payload1"]);
+    }
+}
+
+/// A run that is ended from outside leaves nothing under the given name, and does not stand in the way of the next.
+#[test]
+fn a_run_that_is_ended() {
+    let room = Room::of_zeros(64);
+    let (mut child, _said) = begun(&room);
+    child.kill().expect("it runs");
+    child.wait().expect("it ends");
+    assert!(!room.path("line").exists());
+    room.sized("payload0", PAYLOAD);
+    room.sized("payload1", PAYLOAD);
+    assert_eq!(room.run(&NAMES).out, line(1));
+}
+
+/// With standard descriptors closed, none of them becomes the line file's.
+#[test]
+fn closed_standard_descriptors() {
+    let (room, file) = filled(1, 6_300);
+    for closed in ["<&-", ">&-", "2>&-", ">&- 2>&-", "<&- >&- 2>&-"] {
+        let mut command = room.shell(&format!("exec {closed};"), &NAMES);
+        printed(command.spawn().expect("the shell starts"));
+        assert!(room.read("line") == file, "{closed}");
+        assert_eq!(room.names(), ["line", "overhead", "payload0", "payload1"]);
+        fs::remove_file(room.path("line")).expect("it is there");
+    }
+}
