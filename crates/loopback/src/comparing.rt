@@ -1,25 +1,18 @@
 // What a receiver made of a pair, compared with what was sent.
 use crate::counts;
 use crate::counts::Counts;
-use crate::counts::add;
-use crate::pairs::payload_of;
+use crate::counts::one_more;
+use crate::encoding::payload_of;
 ghost use mathlib.Core.Path.{_≡_};
 ghost use Prim.Native.Nat.{_<_, _*_};
 ghost use lib.ListN.{length};
 
-// 1 where bit i of two buffers differs, and 0 otherwise.
-fn differ(a: &[u8], b: &[u8], i: usize) -> usize
-    requires { ⌜ (i < length (now a) * 8) × (i < length (now b) * 8) ⌝ }
+// 1 where bit i of a buffer differs from bit j of another, and 0 otherwise.
+fn differ(a: &[u8], i: usize, b: &[u8], j: usize) -> usize
+    requires { ⌜ (i < length (now a) * 8) × (j < length (now b) * 8) ⌝ }
     ensures { λ r. ⌜ r < 2 ⌝ }
 {
-    bits::widen((bits::bit(a, i) + bits::bit(b, i)) % 2)
-}
-
-// 1 for the mark of a lost word, and 0 for others.
-fn lost(mark: u8) -> usize
-    ensures { λ r. ⌜ r < 2 ⌝ }
-{
-    bits::widen(mark / 3 % 2)
+    bits::widen((bits::bit(a, i) + bits::bit(b, j)) % 2)
 }
 
 // The word of which payload bit i is.
@@ -34,102 +27,118 @@ fn word_of(i: usize) -> usize
 }
 
 // Compares the payload out with that sent.
-fn compare_payload(sent: &[u8], out: &[u8], marks: &[u8; 32], counts: &mut Counts)
-    requires { ⌜ (length (now sent) ≡ 444) × (length (now out) ≡ 444) ⌝ }
+pub fn compare_payload(
+    encoder: u32,
+    pair: usize,
+    out: [u8; 444],
+    marks: [u8; 32],
+    from: Counts,
+) -> Counts
+    requires { ⌜ pair < 336 ⌝ }
 {
+    let sent = payload_of(encoder, pair as u32);
+    let mut counts = from;
     for i in 0..3552 {
-        let kind = differ(sent, out, i) + 2 * lost(marks[word_of(i)]);
-        add(counts, counts::PAYLOAD + kind, 1);
+        let lost = bits::widen(marks[word_of(i)] / 3 % 2);
+        let next = one_more(
+            counts,
+            counts::PAYLOAD + differ(&sent, i, &out, i) + lost * 2,
+        );
+        counts = next;
     }
-}
-
-// Where the wrong received bits of a word are counted.
-fn slot(encoder: usize, pair: usize, word: usize) -> usize
-    requires { ⌜ (encoder < 2) × (word < 32) ⌝ }
-    ensures { λ r. ⌜ r < 748 ⌝ }
-{
-    counts::WRONG + encoder * 352 + pair % 11 * 32 + word
-}
-
-// Counts bit i of a pair, received wrong, in its own word and, but for the first ten pairs' words, in the word that has it in front.
-fn note_wrong(encoder: usize, pair: usize, i: usize, counts: &mut Counts)
-    requires { ⌜ (encoder < 2) × (pair < 4294967296) × (i < 4096) ⌝ }
-{
-    add(counts, slot(encoder, pair, i / 128), 1);
-    let block = i / 16 % 8;
-    if block <= pair {
-        let word = (1 - i / 2048) * 16 + i % 16;
-        add(counts, slot(encoder, pair + 10 - block, word), 1);
-    }
+    counts
 }
 
 // Compares the coded pair as received, and as the receiver's history keeps it, with that sent.
 fn compare_coded(
-    encoder: usize,
-    pair: u32,
+    pair: usize,
     sent: &[u8],
     coded: &[u8],
-    kept: &[u8],
-    marks: &[u8; 32],
-    counts: &mut Counts,
-)
-    requires { ⌜ (encoder < 2) × (length (now sent) ≡ 512) × (length (now coded) ≡ 512) × (length (now kept) ≡ 512) ⌝ }
+    history: &[u8],
+    marks: [u8; 32],
+    from: Counts,
+) -> Counts
+    requires { ⌜ (pair < 336) × (length (now sent) ≡ 172032) × (length (now coded) ≡ 172032) × (length (now history) ≡ 5120) ⌝ }
 {
+    let mut counts = from;
     for i in 0..4096 {
-        let wrong = differ(sent, coded, i);
-        let kind = wrong + 2 * differ(sent, kept, i) + 4 * lost(marks[i / 128]);
-        add(counts, counts::BITS + kind, 1);
-        if wrong == 1 {
-            note_wrong(encoder, pair as usize, i, counts);
-        }
+        let j = pair * 4096 + i;
+        let lost = bits::widen(marks[i / 128] / 3 % 2);
+        let kind = differ(sent, j, coded, j) + differ(sent, j, history, 36864 + i) * 2 + lost * 4;
+        let next = one_more(counts, counts::BITS + kind);
+        counts = next;
     }
+    counts
+}
+
+// Where bit k of word w of a pair stands among the coded pairs; in the front half the bits of a block in the order of their rows.
+fn place(pair: usize, w: usize, k: usize) -> usize
+    requires { ⌜ (pair < 336) × (w < 32) × (k < 256) ⌝ }
+    ensures { λ r. ⌜ r < 1376256 ⌝ }
+{
+    if 128 <= k {
+        return pair * 4096 + w * 128 + k - 128;
+    }
+    if pair < 10 {
+        return 0;
+    }
+    (pair - 10 + k / 16) * 4096 + (1 - w / 16) * 2048 + k % 16 * 128 + k / 16 * 16 + w % 16
+}
+
+// The first bit of a pair's words that counts.
+fn first(pair: usize) -> usize {
+    if pair < 10 {
+        return 128;
+    }
+    0
+}
+
+// The number of wrong received bits of word w.
+fn wrong_bits(pair: usize, w: usize, sent: &[u8], coded: &[u8]) -> usize
+    requires { ⌜ (pair < 336) × (w < 32) × (length (now sent) ≡ 172032) × (length (now coded) ≡ 172032) ⌝ }
+{
+    let mut n = 0;
+    for k in first(pair)..256 {
+        let i = place(pair, w, k);
+        n = std::num::wrapping_add_usize(n, differ(sent, i, coded, i));
+    }
+    n
 }
 
 // The row of the table of words for a number of wrong bits.
-fn row(n: u32) -> usize
+fn row(n: usize) -> usize
     ensures { λ r. ⌜ r < 5 ⌝ }
 {
     if n < 4 {
-        return n as usize;
+        return n;
     }
     4
 }
 
-// Counts the words of a pair by their wrong received bits and their marks, and clears their slots.
-fn count_words(encoder: usize, pair: u32, marks: &[u8; 32], counts: &mut Counts)
-    requires { ⌜ encoder < 2 ⌝ }
+// Counts the words of a pair by their wrong received bits and their marks.
+fn count_words(pair: usize, sent: &[u8], coded: &[u8], marks: [u8; 32], from: Counts) -> Counts
+    requires { ⌜ (pair < 336) × (length (now sent) ≡ 172032) × (length (now coded) ≡ 172032) ⌝ }
 {
+    let mut counts = from;
     for w in 0..32 {
-        let at = slot(encoder, pair as usize, w);
-        let n = row(counts[at]);
-        counts[at] = 0;
-        add(counts, counts::WORDS + n * 4 + bits::widen(marks[w]) % 4, 1);
+        let n = row(wrong_bits(pair, w, sent, coded));
+        let next = one_more(counts, counts::WORDS + n * 4 + bits::widen(marks[w]) % 4);
+        counts = next;
     }
+    counts
 }
 
-// Compares a pair with what was sent.
+// Compares a pair with that sent.
 pub fn compare(
-    encoder: usize,
-    pair: u32,
-    payload: &[u8],
+    pair: usize,
     sent: &[u8],
     coded: &[u8],
     history: &[u8],
-    marks: &[u8; 32],
-    counts: &mut Counts,
-)
-    requires { ⌜ (encoder < 2) × (length (now payload) ≡ 444) × (length (now sent) ≡ 512) × (length (now coded) ≡ 512) × (length (now history) ≡ 5120) ⌝ }
+    marks: [u8; 32],
+    from: Counts,
+) -> Counts
+    requires { ⌜ (pair < 336) × (length (now sent) ≡ 172032) × (length (now coded) ≡ 172032) × (length (now history) ≡ 5120) ⌝ }
 {
-    let first = payload_of(encoder, pair);
-    compare_payload(&first, payload, marks, counts);
-    compare_coded(
-        encoder,
-        pair,
-        sent,
-        coded,
-        &history[4608..5120],
-        marks,
-        counts,
-    );
-    count_words(encoder, pair, marks, counts);
+    let counts = compare_coded(pair, sent, coded, history, marks, from);
+    count_words(pair, sent, coded, marks, counts)
 }

@@ -1,91 +1,77 @@
-// From the frames of a super-frame to coded pairs.
-use crate::counts;
+// Receiving: the pairs of an encoder in order, each in three turns as in encoding, and what came of them.
+use crate::comparing::compare;
+use crate::comparing::compare_payload;
 use crate::counts::Counts;
-use crate::counts::DIFFERING;
 use crate::counts::answered;
-use crate::random;
-use crate::sending::blank;
-use crate::sending::numbered;
-use crate::sending::start;
+use crate::counts::print;
+use crate::encoding::numbered;
 ghost use mathlib.Core.Path.{_≡_};
+ghost use Prim.Native.Nat.{_<_};
 ghost use lib.ListN.{length};
 
-// The index at which an illegal byte is put.
-const ILLEGAL: usize = 4321;
-
-// The payload of the 48 sub-frames of a super-frame.
-fn take_frames(line: &[u8], overhead: &[u8], cells: &mut [u8], counts: &mut Counts)
-    requires { ⌜ (length (now line) ≡ 356352) × (length (now cells) ≡ 344064) ⌝ }
+// A turn of receiving the next pair.
+fn receive_turn(
+    i: usize,
+    coded: &[u8],
+    payload: &mut [u8],
+    marks: &mut [u8],
+    history: &mut [u8],
+    from: Counts,
+) -> Counts
+    requires { ⌜ (i < 1008) × (length (now coded) ≡ 172032) ⌝ }
 {
-    for turn in 0..96 {
-        let s = turn / 2;
-        let a = start(s);
-        let e = start(s + 1);
-        let f = s * 7424;
-        let g = f + 7424;
-        let done = framing::unframe(numbered(turn), &line[f..g], overhead, &mut cells[a..e]);
-        answered(counts, done, DIFFERING, 0);
-    }
+    let turn = i % 3;
+    let a = i / 3 * 512;
+    let e = a + 511 + (turn + 1) / 2;
+    let number = numbered(turn, from[0]);
+    let done = codec::receive_pair(&coded[a..e], payload, marks, history, number);
+    answered(from, done)
 }
 
-// A refused call: the cells of a buffer with an illegal byte among them, which is then put back.
-fn take_illegal(cells: &mut [u8], bits: &mut [u8], counts: &mut Counts)
-    requires { ⌜ length (now cells) ≡ 43008 ⌝ }
+// The same, and compares what was received in the last turn.
+fn receive_next(
+    encoder: u32,
+    i: usize,
+    sent: &[u8],
+    coded: &[u8],
+    history: &mut [u8; 5120],
+    from: Counts,
+) -> Counts
+    requires { ⌜ (i < 1008) × (length (now sent) ≡ 172032) × (length (now coded) ≡ 172032) ⌝ }
 {
-    let kept = cells[ILLEGAL];
-    cells[ILLEGAL] = 16;
-    let refused = symbols::cells_to_bits(cells, bits);
-    cells[ILLEGAL] = kept;
-    answered(counts, refused, DIFFERING, 0);
-    if calls::index_of(refused) == ILLEGAL {
-        counts::add(counts, counts::INDEXED, 1);
+    let mut payload = [0u8; 444];
+    let mut marks = [0u8; 32];
+    let counts = receive_turn(i, coded, &mut payload, &mut marks, history, from);
+    if i % 3 < 2 {
+        return counts;
     }
+    let next = compare_payload(encoder, i / 3, payload, marks, counts);
+    compare(i / 3, sent, coded, history, marks, next)
 }
 
-// The coded pairs of a buffer.
-fn take_buffer(cells: &mut [u8], pairs0: &mut [u8], pairs1: &mut [u8], counts: &mut Counts)
-    requires { ⌜ length (now cells) ≡ 43008 ⌝ }
+// Receives the pairs of an encoder.
+pub fn receive(encoder: u32, sent: &[u8], coded: &[u8])
+    requires { ⌜ (length (now sent) ≡ 172032) × (length (now coded) ≡ 172032) ⌝ }
 {
-    let mut bits = [0u8; 21504];
-    take_illegal(cells, &mut bits, counts);
-    answered(
-        counts,
-        symbols::cells_to_bits(cells, &mut bits),
-        DIFFERING,
+    let mut history = [0u8; 5120];
+    let mut counts = [0u32; 40];
+    for i in 0..1008 {
+        let next = receive_next(encoder, i, sent, coded, &mut history, counts);
+        counts = next;
+    }
+    print(
+        b"\
+receiver: pairs #, calls done #, refused by number # # # # #
+words with 0 wrong bits: marked 0 #, 1 #, 2 #, lost #
+words with 1: # # # #
+words with 2: # # # #
+words with 3: # # # #
+words with more: # # # #
+bits in words not lost: right #, mended #, spoilt #, wrong #
+bits in lost words: right #, mended #, spoilt #, wrong #
+payload bits: right #, wrong #; in lost words: right #, wrong #
+",
+        &counts,
         0,
     );
-    answered(
-        counts,
-        interleaver::deinterleave(&bits, pairs0, pairs1),
-        DIFFERING,
-        0,
-    );
-}
-
-// The coded pairs of the eight buffers of a super-frame.
-fn take_buffers(cells: &mut [u8], coded0: &mut [u8], coded1: &mut [u8], counts: &mut Counts)
-    requires { ⌜ (length (now cells) ≡ 344064) × (length (now coded0) ≡ 86016) × (length (now coded1) ≡ 86016) ⌝ }
-{
-    for b in 0..8 {
-        let a = b * 10752;
-        let e = a + 10752;
-        let f = b * 43008;
-        let g = f + 43008;
-        take_buffer(
-            &mut cells[f..g],
-            &mut coded0[a..e],
-            &mut coded1[a..e],
-            counts,
-        );
-    }
-}
-
-// Takes the coded pairs of a super-frame off the line.
-pub fn take_line(line: &[u8], coded0: &mut [u8], coded1: &mut [u8], counts: &mut Counts)
-    requires { ⌜ (length (now line) ≡ 356352) × (length (now coded0) ≡ 86016) × (length (now coded1) ≡ 86016) ⌝ }
-{
-    let mut cells = blank();
-    let overhead = random::overhead();
-    take_frames(line, &overhead, &mut cells, counts);
-    take_buffers(&mut cells, coded0, coded1, counts);
 }

@@ -4,10 +4,10 @@ use Rattle.loopback.proofs.comparing.compare_payload.Statement.{stateme
 use Rattle.loopback.proofs.comparing.compare_payload.Tie as tie
 
 abbrev Inv-loop : tie.InvT-loop
-Inv-loop sent out marks counts₀ i₀ counts i = Unit {0}
+Inv-loop encoder pair out marks sent counts₀ i₀ counts i = Unit {0}
 
 abbrev μ-loop : tie.MeasureT-loop
-μ-loop sent out marks counts₀ i₀ counts i = 3552 - i
+μ-loop encoder pair out marks sent counts₀ i₀ counts i = 3552 - i
 
 pub compare-payload-spec : {M : Type 1} → statement M
 compare-payload-spec =
@@ -15,15 +15,19 @@ compare-payload-spec =
     (tie.spec
     Inv-loop
     μ-loop
+    (λ c. search needs)  -- cast-payload-of
+    (λ c κs. search needs)  -- payload-of-requires
     (λ c. search needs)  -- loop-holds
-    (λ c κs. search needs)  -- differ-requires
     (λ c κs. search needs)  -- word-of-requires
-    (λ c. search needs)  -- element-copy-out-lost
-    (λ c κs. search needs)  -- lost-requires
-    (λ c. search needs)  -- mul-kind
-    (λ c. search needs)  -- add-kind
-    (λ c. search needs)  -- add-add
-    (λ c κs. search needs)  -- add-requires
+    (λ c. search needs)  -- array-read-widen
+    (λ c κs. search needs)  -- widen-requires
+    (λ c. search needs)  -- slice-aggregate-differ
+    (λ c. search needs)  -- slice-aggregate-differ-2
+    (λ c κs. search needs)  -- differ-requires
+    (λ c. search needs)  -- add-one-more
+    (λ c. search needs)  -- mul-one-more
+    (λ c. search needs)  -- add-one-more-2
+    (λ c κs. search needs)  -- one-more-requires
     (λ c. search needs)  -- add-i
     (λ c. search needs)  -- loop-less
     (λ c. search needs)  -- loop-again

@@ -1,18 +1,18 @@
-use Prim.Native.Nat.{_-_, _≤_}
+use Prim.Native.Nat.{_-_, _<_}
 use native.Mathlib.Omega.{arith}
 use mathlib.Core.Logic.{⊎-elim}
 use borrow.Author.Needs.{needs}
-use Rattle.loopback.proofs.report.fill_in.Statement.{statement}
-use Rattle.loopback.proofs.report.fill_in.Tie as tie
+use Rattle.loopback.proofs.counts.print.Statement.{statement}
+use Rattle.loopback.proofs.counts.print.Tie as tie
 
 abbrev Inv-loop : tie.InvT-loop
-Inv-loop text counts at₀ i₀ i-end at i = at ≤ i
+Inv-loop text counts from at₀ i₀ i-end at i = at < 40
 
 abbrev μ-loop : tie.MeasureT-loop
-μ-loop text counts at₀ i₀ i-end at i = i-end - i
+μ-loop text counts from at₀ i₀ i-end at i = i-end - i
 
-pub fill-in-spec : {M : Type 1} → statement M
-fill-in-spec =
+pub print-spec : {M : Type 1} → statement M
+print-spec =
     tie.close
     (tie.spec
     Inv-loop
