@@ -2,13 +2,9 @@
 -- Assumes nothing.
 use mathlib.Core.Path.{_≡_, refl, sym, ap, ap₂, _∙_}
 use Prim.Native.Nat.{ℕ, zero, suc, _+_, _-_, _*_, _/_, _%_, _^_, _<_, _≤_}
-use native.Mathlib.Nat.{mod-lt, zero-lt-suc, mul-one, div-div-eq-div-mul}
+use native.Mathlib.Nat.{mul-one}
 use native.Mathlib.Omega.{arith}
-use native.Mathlib.Decide.{decLt}
-use borrow.Author.Tests.{lt-ltb, le-ltb}
-use lib.Dec.{lit<}
 use lib.ListN.{getD}
-use lib.Pow.{pow-add}
 use Rattle.bits.specs.Tests.{agree}
 use Rattle.bits.specs.Count.{count}
 use Rattle.bits.specs.Xor.{_⊕_, xorSum}
@@ -16,8 +12,8 @@ use Rattle.bits.specs.XorLaws.{⊕-half, ⊕-mod, ⊕-shr, ⊕-self, ⊕-eq, ze
 use Rattle.gf256.specs.Linear.{lin, Linear, additive, same, bit-through, sum-through}
 use Rattle.gf256.specs.Field.{cube}
 use Rattle.bch.specs.CodeWord.{Word, remainder, parity, CodeWord}
-use Rattle.bch.specs.RemainderLaws.{BitsTo, shift, shift-columns, shift-linear, evaluated, remainder-lt, remainder-ext, added, added-bits, remainder-added}
-use Rattle.bch.specs.CompletionLaws.{checkBits, check-low, check-high, check-remainder}
+use Rattle.bch.specs.RemainderLaws.{BitsTo, shift, shift-columns, shift-linear, evaluated, remainder-lt, added, added-bits, remainder-added}
+use Rattle.bch.specs.CompletionLaws.{tail-low, tail-high, tail-bits, tail-remainder}
 use Rattle.bch.specs.Syndromes.{locator, S1, S3, syndromesOf}
 use Rattle.bch.specs.SyndromeLaws.{last-zero, code-S1, code-S3}
 use Rattle.bch.specs.declared.Syndromes.{Syndromes}
@@ -116,33 +112,6 @@ parity-sum (suc n) w b =
 
 -- ---- the check bits in their places
 
-pub tail-low : (v k : ℕ) → k < 239 → tail v k ≡ 0
-unfolding tail
-tail-low v k h = simp (lt-ltb k 239 h)
-
-pub tail-high : (v k : ℕ) → 239 ≤ k → tail v k ≡ v / 2 ^ (255 - k) % 2
-unfolding tail
-tail-high v k h = simp (le-ltb k 239 h)
-
-pub tail-bits : (v k : ℕ) → tail v k < 2
-tail-bits v k = go (decLt k 239)
-  where
-    go : Dec (k < 239) → tail v k < 2
-    go (yes l) = rw (tail-low v k l) (lit< tt)
-    go (no n) = rw (tail-high v k (omega arith)) (mod-lt _ (zero-lt-suc 1))
-
-tail-check : (v k : ℕ) → k < 255 → tail v k ≡ checkBits (v / 2) k
-tail-check v k l = go (decLt k 239)
-  where
-    go : Dec (k < 239) → tail v k ≡ checkBits (v / 2) k
-    go (yes m) = tail-low v k m ∙ sym (check-low (v / 2) k m)
-    go (no n) =
-        let e : 255 - k ≡ 1 + (254 - k) = omega arith in
-        tail-high v k (omega arith)
-        ∙ ap (λ u. v / u % 2) (ap (λ j. 2 ^ j) e ∙ pow-add 2 1 (254 - k))
-        ∙ ap (λ u. u % 2) (sym (div-div-eq-div-mul v 2 (2 ^ (254 - k))))
-        ∙ sym (check-high (v / 2) k (omega arith))
-
 tail-ones : (v : ℕ) → xorSum 256 (tail v) ≡ ones v
 unfolding ones
 tail-ones v =
@@ -163,8 +132,7 @@ module _ (w : Word) (b : BitsTo 256 w) where
         bits = added-bits 256 w (tail (check w)) b ends;
         divisible = remainder-added 255 w (tail (check w)) (λ k l. b k (omega arith)) (λ k l. ends k (omega arith))
             ∙ ap₂ _⊕_ (sym (half-check w b))
-            (remainder-ext 255 (tail (check w)) (checkBits (check w / 2)) (tail-check (check w))
-            ∙ check-remainder (check w / 2) (omega (arith, check-lt w b)))
+            (tail-remainder (check w) (check-lt w b))
             ∙ ⊕-self (check w / 2);
         even = parity-sum 256 (λ k. w k ⊕ tail (check w) k) (added-bits 256 w (tail (check w)) b ends)
             ∙ xorSum-⊕ 256 w (tail (check w)) ∙ ap₂ _⊕_ (sym (ones-check w b)) (tail-ones (check w)) ∙ ⊕-self (ones (check w));

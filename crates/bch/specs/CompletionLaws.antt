@@ -1,18 +1,18 @@
 -- There is exactly one completion of 239 bits to a code word.
 -- Assumes nothing.
 use mathlib.Core.Path.{_≡_, refl, sym, ap, ap₂, _∙_, subst}
-use mathlib.Core.Bool.{cond}
 use Prim.Native.Nat.{ℕ, zero, suc, _+_, _-_, _*_, _/_, _%_, _^_, _<_, _≤_}
-use native.Mathlib.Nat.{mod-lt, zero-lt-suc, div-eq-of-lt}
+use native.Mathlib.Nat.{mod-lt, zero-lt-suc, div-eq-of-lt, div-div-eq-div-mul}
 use native.Mathlib.Omega.{arith}
 use native.Mathlib.Decide.{ℕ-discrete, decLt}
 use borrow.Author.Tests.{lt-ltb, le-ltb}
 use lib.Dec.{ltb, lit<, lit≤}
-use lib.Pow.{pow-mono, pow-pos}
+use lib.Pow.{pow-add, pow-mono, pow-pos}
 use Rattle.bits.specs.Bits.{bitOf, fromBits}
 use Rattle.bits.specs.BitLaws.{fromBits-lt, fromBits-ext, fromBits-bitOf, bitOf-fromBits}
 use Rattle.bits.specs.Count.{count}
 use Rattle.bits.specs.CountLaws.{count-ext, count-suc}
+use Rattle.bits.specs.TestLaws.{either}
 use Rattle.bits.specs.Xor.{_⊕_}
 use Rattle.bits.specs.XorLaws.{⊕-self, ⊕-eq, ⊕-zero, zero-⊕}
 use Rattle.gf256.specs.Polynomials.{reduce}
@@ -20,6 +20,7 @@ use Rattle.gf256.specs.Division.{reduce-low}
 use Rattle.bch.specs.CodeWord.{Word, generator, remainder, parity, CodeWord}
 use Rattle.bch.specs.RemainderLaws.{BitsTo, remainder-lt, remainder-ext, added, added-bits, remainder-added}
 use Rattle.bch.specs.Completion.{firstBits, withRemainder, completed}
+use Rattle.bch.specs.Checks.{tail}
 
 -- ---- the definitions, place by place
 
@@ -76,34 +77,37 @@ taken-in n (suc m) w z l b =
 last-sixteen : (w : Word) → ((k : ℕ) → k < 239 → w k ≡ 0) → BitsTo 255 w → remainder 255 w ≡ fromBits 16 (λ i. w (239 + i))
 last-sixteen w z b = taken-in 239 16 w z (lit≤ tt) b
 
--- The sixteen bits of R in bits 239 to 254, and zeros before them.
-unfoldable pub checkBits : ℕ → Word
-checkBits R k = cond (ltb k 239) 0 (R / 2 ^ (254 - k) % 2)
+-- ---- check bits in their places
 
-pub check-low : (R k : ℕ) → k < 239 → checkBits R k ≡ 0
-unfolding checkBits
-check-low R k h = simp (lt-ltb k 239 h)
+pub tail-low : (v k : ℕ) → k < 239 → tail v k ≡ 0
+unfolding tail
+tail-low v k h = simp (lt-ltb k 239 h)
 
-pub check-high : (R k : ℕ) → 239 ≤ k → checkBits R k ≡ R / 2 ^ (254 - k) % 2
-unfolding checkBits
-check-high R k h = simp (le-ltb k 239 h)
+pub tail-high : (v k : ℕ) → 239 ≤ k → tail v k ≡ v / 2 ^ (255 - k) % 2
+unfolding tail
+tail-high v k h = simp (le-ltb k 239 h)
 
-pub check-bits : (R k : ℕ) → checkBits R k < 2
-check-bits R k = go (decLt k 239)
-  where
-    go : Dec (k < 239) → checkBits R k < 2
-    go (yes l) = rw (check-low R k l) (lit< tt)
-    go (no n) = rw (check-high R k (omega arith)) (mod-lt _ (zero-lt-suc 1))
+pub tail-bits : (v k : ℕ) → tail v k < 2
+unfolding tail
+tail-bits v k = either (λ u. u < 2) (ltb k 239) _ _ (lit< tt) (mod-lt _ (zero-lt-suc 1))
 
-pub check-remainder : (R : ℕ) → R < 65536 → remainder 255 (checkBits R) ≡ R
+-- The first sixteen are those of the half.
+tail-half : (v k : ℕ) → 239 ≤ k → k < 255 → tail v k ≡ v / 2 / 2 ^ (254 - k) % 2
+tail-half v k l h =
+    let e : 255 - k ≡ 1 + (254 - k) = omega arith in
+    tail-high v k l
+    ∙ ap (λ u. v / u % 2) (ap (λ j. 2 ^ j) e ∙ pow-add 2 1 (254 - k))
+    ∙ ap (λ u. u % 2) (sym (div-div-eq-div-mul v 2 (2 ^ (254 - k))))
+
+pub tail-remainder : (v : ℕ) → v < 131072 → remainder 255 (tail v) ≡ v / 2
 unfolding bitOf
-check-remainder R h =
-    last-sixteen (checkBits R) (check-low R) (λ k l. check-bits R k)
-    ∙ fromBits-ext 16 (λ i. checkBits R (239 + i)) (bitOf 16 R) (λ i l. ap (λ u. u % 2) (check-high R (239 + i) (omega arith) ∙ place i l))
-    ∙ fromBits-bitOf 16 R h
+tail-remainder v h =
+    last-sixteen (tail v) (tail-low v) (λ k l. tail-bits v k)
+    ∙ fromBits-ext 16 (λ i. tail v (239 + i)) (bitOf 16 (v / 2)) (λ i l. ap (λ u. u % 2) (tail-half v (239 + i) (omega arith) (omega arith) ∙ place i l))
+    ∙ fromBits-bitOf 16 (v / 2) (omega arith)
   where
-    place : (i : ℕ) → i < 16 → R / 2 ^ (254 - (239 + i)) % 2 ≡ bitOf 16 R i
-    place i l = let e : 254 - (239 + i) ≡ 16 - 1 - i = omega arith in ap (λ k. R / 2 ^ k % 2) e
+    place : (i : ℕ) → i < 16 → v / 2 / 2 ^ (254 - (239 + i)) % 2 ≡ bitOf 16 (v / 2) i
+    place i l = let e : 254 - (239 + i) ≡ 16 - 1 - i = omega arith in ap (λ k. v / 2 / 2 ^ k % 2) e
 
 -- ---- the completion is a code word
 
@@ -122,24 +126,32 @@ module _ (w : Word) (b : (k : ℕ) → k < 239 → w k < 2) where
       go (yes l) = rw (with-low w k l) (b k l)
       go (no n) = rw (with-high w k (omega arith)) (mod-lt _ (zero-lt-suc 1))
 
-  check : Word
-  check = checkBits (remainder 255 (firstBits w))
+  rest : ℕ
+  rest = remainder 255 (firstBits w)
 
-  split : (k : ℕ) → withRemainder w k ≡ added (firstBits w) check k
-  unfolding added check
-  split k = go (decLt k 239)
+  check : Word
+  check = tail (rest * 2)
+
+  split : (k : ℕ) → k < 255 → withRemainder w k ≡ added (firstBits w) check k
+  unfolding added check rest
+  split k h = go (decLt k 239)
     where
+      half : rest * 2 / 2 ≡ rest
+      half = omega arith
+
       go : Dec (k < 239) → withRemainder w k ≡ firstBits w k ⊕ check k
-      go (yes l) = with-low w k l ∙ sym (ap₂ _⊕_ (first-low w k l) (check-low _ k l) ∙ ⊕-zero (w k))
-      go (no n) = with-high w k (omega arith) ∙ sym (ap₂ _⊕_ (first-high w k (omega arith)) (check-high _ k (omega arith)) ∙ zero-⊕ _)
+      go (yes l) = with-low w k l ∙ sym (ap₂ _⊕_ (first-low w k l) (tail-low _ k l) ∙ ⊕-zero (w k))
+      go (no n) =
+          with-high w k (omega arith)
+          ∙ sym (ap₂ _⊕_ (first-high w k (omega arith)) (tail-half (rest * 2) k (omega arith) h ∙ ap (λ u. u / 2 ^ (254 - k) % 2) half) ∙ zero-⊕ _)
 
   with-divisible : remainder 255 (withRemainder w) ≡ 0
-  unfolding check
+  unfolding check rest
   with-divisible =
-      remainder-ext 255 (withRemainder w) (added (firstBits w) check) (λ k l. split k)
-      ∙ remainder-added 255 (firstBits w) check (λ k l. first-bits k) (λ k l. check-bits _ k)
-      ∙ ap (λ u. remainder 255 (firstBits w) ⊕ u) (check-remainder _ (remainder-lt 255 (firstBits w) (λ k l. first-bits k)))
-      ∙ ⊕-self (remainder 255 (firstBits w))
+      remainder-ext 255 (withRemainder w) (added (firstBits w) check) split
+      ∙ remainder-added 255 (firstBits w) check (λ k l. first-bits k) (λ k l. tail-bits _ k)
+      ∙ ap (λ u. rest ⊕ u) (tail-remainder (rest * 2) (omega (arith, remainder-lt 255 (firstBits w) (λ k l. first-bits k))) ∙ omega arith)
+      ∙ ⊕-self rest
 
   pub completed-code : CodeWord (completed w)
   unfolding parity

@@ -1,6 +1,7 @@
 pub mod CodeWord
 pub mod Repair
 pub mod Completion
+pub mod Checks
 pub mod RemainderLaws
 pub mod Syndromes
 pub mod SyndromeLaws
@@ -15,5 +16,4 @@ pub mod QuotientLaws
 pub mod Calls
 pub mod CallLaws
 pub mod BenchValues
-pub mod Checks
 pub mod CheckLaws

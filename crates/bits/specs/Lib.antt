@@ -13,6 +13,5 @@ pub mod TestLaws
 pub mod Least
 pub mod LeastLaws
 pub mod Filling
-pub mod Gathering
+pub mod Folding
 pub mod Seeking
-pub mod Summing

@@ -1,4 +1,5 @@
 pub mod Answers
 pub mod AnswerLaws
+pub mod Cases
 pub mod Sequences
 pub mod SequenceLaws

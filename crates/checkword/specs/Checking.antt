@@ -15,7 +15,8 @@ use Rattle.gf256.specs.Field.{cube}
 use Rattle.bch.specs.CodeWord.{Word}
 use Rattle.bch.specs.Syndromes.{locator, syndromesOf}
 use Rattle.bch.specs.Checks.{checks, check, tail}
-use Rattle.bch.specs.CheckLaws.{check-lt, tail-low, tail-high, check-syndromes}
+use Rattle.bch.specs.CompletionLaws.{tail-low, tail-high}
+use Rattle.bch.specs.CheckLaws.{check-lt, check-syndromes}
 use Rattle.bch.specs.declared.Syndromes.{Syndromes}
 use Rattle.checkword.specs.Partial.{Absorbing, partial, syndromes, syndromes-eq}
 

@@ -16,9 +16,9 @@ use Rattle.bits.specs.Xor.{_⊕_}
 use Rattle.bits.specs.XorLaws.{⊕-shr, ⊕-mod, ⊕-zero, ⊕-lt}
 use Rattle.bch.specs.RemainderLaws.{added}
 use Rattle.bch.specs.Completion.{completed}
-use Rattle.bch.specs.CompletionLaws.{completed-only}
+use Rattle.bch.specs.CompletionLaws.{tail-low, tail-high, completed-only}
 use Rattle.bch.specs.Checks.{check, tail}
-use Rattle.bch.specs.CheckLaws.{tail-low, tail-high, checked-code}
+use Rattle.bch.specs.CheckLaws.{checked-code}
 
 bitOf-added : (x y i : ℕ) → bitOf 8 (x ⊕ y) i ≡ bitOf 8 x i ⊕ bitOf 8 y i
 unfolding bitOf

@@ -11,7 +11,7 @@ use mir.Syntax.{w32}
 use mir.Val.{Fits}
 use Rattle.bits.specs.Lists.{tabulate}
 use Rattle.bits.specs.CountLaws.{count-le, differs-same, differs-other}
-use Rattle.bits.specs.Summing.{Counting}
+use Rattle.bits.specs.Folding.{Counting}
 use Rattle.bits.specs.TestLaws.{either, cond-yes, cond-no}
 use Rattle.frames.specs.Frames.{isOverhead, overheadBefore, overheadCells, payloadCells, overheadStart, ownOverhead, frameByte, payloadAt, unframed, cellDiffers, overheadDiffers}
 use Rattle.frames.specs.Layout.{edge, gap, spot}

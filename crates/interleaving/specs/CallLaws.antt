@@ -1,13 +1,15 @@
 -- Laws of the calls: one for each case, what a refused call leaves, what an accepted one gives, and each undoing the other.
 -- Assumes nothing.
 use mathlib.Core.Path.{_≡_, refl, sym, ap, ap₂, _∙_}
+use mathlib.Core.Bool.{not}
 use mathlib.Core.List.{List}
 use Prim.Native.Nat.{ℕ, _<_}
 use native.Mathlib.Omega.{arith}
-use native.Mathlib.Decide.{ℕ-discrete}
 use borrow.Author.Tests.{eq-eqb, ne-eqb}
+use lib.Dec.{eqb}
 use lib.ListN.{length, getD}
 use Rattle.bits.specs.Bits.{bit}
+use Rattle.bits.specs.TestLaws.{either}
 use Rattle.calls.specs.declared.Answer.the-variants.{Done, Refused}
 use Rattle.calls.specs.declared.Refusal.the-variants.{Misfit}
 use Rattle.calls.specs.Answers.{refusalOf, Accepted, TurnedBack}
@@ -61,34 +63,7 @@ module _ (bits pairs0 pairs1 : List ℕ) where
 
 pub ruleset parting = (part-bits, part-pairs0, part-pairs1, part-done)
 
--- ---- refused or done
-
--- A call of each kind is refused and leaves what it was lent, or all lengths are right and it is done.
-pub data Joins (pairs0 pairs1 bits : List ℕ) : Type 0 where
-  refused : interleave pairs0 pairs1 bits ≡ joined (Refused Misfit) bits → Joins pairs0 pairs1 bits
-  done : length pairs0 ≡ 10752 → length pairs1 ≡ 10752 → length bits ≡ 21504 → Joins pairs0 pairs1 bits
-
-pub joins : (pairs0 pairs1 bits : List ℕ) → Joins pairs0 pairs1 bits
-joins pairs0 pairs1 bits = go (ℕ-discrete (length pairs0) 10752) (ℕ-discrete (length pairs1) 10752) (ℕ-discrete (length bits) 21504)
-  where
-    go : Dec (length pairs0 ≡ 10752) → Dec (length pairs1 ≡ 10752) → Dec (length bits ≡ 21504) → Joins pairs0 pairs1 bits
-    go (yes p) (yes q) (yes r) = done p q r
-    go (yes p) (yes q) (no r) = refused (sym (join-bits pairs0 pairs1 bits p q r))
-    go (yes p) (no q) r = refused (sym (join-pairs1 pairs0 pairs1 bits p q))
-    go (no p) q r = refused (sym (join-pairs0 pairs0 pairs1 bits p))
-
-pub data Parts (bits pairs0 pairs1 : List ℕ) : Type 0 where
-  refused : deinterleave bits pairs0 pairs1 ≡ parted (Refused Misfit) pairs0 pairs1 → Parts bits pairs0 pairs1
-  done : length bits ≡ 21504 → length pairs0 ≡ 10752 → length pairs1 ≡ 10752 → Parts bits pairs0 pairs1
-
-pub partsAs : (bits pairs0 pairs1 : List ℕ) → Parts bits pairs0 pairs1
-partsAs bits pairs0 pairs1 = go (ℕ-discrete (length bits) 21504) (ℕ-discrete (length pairs0) 10752) (ℕ-discrete (length pairs1) 10752)
-  where
-    go : Dec (length bits ≡ 21504) → Dec (length pairs0 ≡ 10752) → Dec (length pairs1 ≡ 10752) → Parts bits pairs0 pairs1
-    go (yes p) (yes q) (yes r) = done p q r
-    go (yes p) (yes q) (no r) = refused (sym (part-pairs1 bits pairs0 pairs1 p q r))
-    go (yes p) (no q) r = refused (sym (part-pairs0 bits pairs0 pairs1 p q))
-    go (no p) q r = refused (sym (part-bits bits pairs0 pairs1 p))
+-- ---- calls that are accepted
 
 -- Where the lengths are right the call is accepted and gives the definition's bits, or pairs.
 module _ (pairs0 pairs1 bits : List ℕ) (long0 : length pairs0 ≡ 10752) (long1 : length pairs1 ≡ 10752) (long : length bits ≡ 21504) where
@@ -116,19 +91,31 @@ module _ (bits pairs0 pairs1 : List ℕ) (long : length bits ≡ 21504) (long0 :
 
 -- A refused call leaves every lent buffer as it was.
 pub interleave-keeps : (pairs0 pairs1 bits : List ℕ) → TurnedBack (interleave pairs0 pairs1 bits .answer) → interleave pairs0 pairs1 bits .bits ≡ bits
-interleave-keeps pairs0 pairs1 bits t = go (joins pairs0 pairs1 bits)
+unfolding interleave
+interleave-keeps pairs0 pairs1 bits =
+    either Kept (not (eqb (length pairs0) 10752)) _ _ turned
+    (either Kept (not (eqb (length pairs1) 10752)) _ _ turned
+    (either Kept (not (eqb (length bits) 21504)) _ _ turned (λ t. absurd (t refl))))
   where
-    go : Joins pairs0 pairs1 bits → interleave pairs0 pairs1 bits .bits ≡ bits
-    go (refused e) = ap (λ a. a .bits) e
-    go (done p q r) = absurd (t (interleave-accepted pairs0 pairs1 bits p q r))
+    Kept : Interleaved → Type 0
+    Kept a = TurnedBack (a .answer) → a .bits ≡ bits
+
+    turned : Kept (joined (Refused Misfit) bits)
+    turned t = refl
 
 pub deinterleave-keeps : (bits pairs0 pairs1 : List ℕ) → TurnedBack (deinterleave bits pairs0 pairs1 .answer)
     → (deinterleave bits pairs0 pairs1 .pairs0 ≡ pairs0) × (deinterleave bits pairs0 pairs1 .pairs1 ≡ pairs1)
-deinterleave-keeps bits pairs0 pairs1 t = go (partsAs bits pairs0 pairs1)
+unfolding deinterleave
+deinterleave-keeps bits pairs0 pairs1 =
+    either Kept (not (eqb (length bits) 21504)) _ _ turned
+    (either Kept (not (eqb (length pairs0) 10752)) _ _ turned
+    (either Kept (not (eqb (length pairs1) 10752)) _ _ turned (λ t. absurd (t refl))))
   where
-    go : Parts bits pairs0 pairs1 → (deinterleave bits pairs0 pairs1 .pairs0 ≡ pairs0) × (deinterleave bits pairs0 pairs1 .pairs1 ≡ pairs1)
-    go (refused e) = (ap (λ a. a .pairs0) e, ap (λ a. a .pairs1) e)
-    go (done p q r) = absurd (t (deinterleave-accepted bits pairs0 pairs1 p q r))
+    Kept : Apart → Type 0
+    Kept a = TurnedBack (a .answer) → (a .pairs0 ≡ pairs0) × (a .pairs1 ≡ pairs1)
+
+    turned : Kept (parted (Refused Misfit) pairs0 pairs1)
+    turned t = (refl, refl)
 
 -- ---- each call undoes the other, whatever the buffers that they write were lent with
 

@@ -1,7 +1,7 @@
 -- The calls: what stands after each, from what is lent to it. 01, "Turned-back calls": No. 1, "a lent buffer is not of the
 -- stated length".
 -- Assumes nothing.
-use mathlib.Core.Bool.{cond}
+use mathlib.Core.Bool.{cond, not}
 use mathlib.Core.List.{List}
 use Prim.Native.Nat.{ℕ}
 use lib.Dec.{eqb}
@@ -19,18 +19,12 @@ pub record Interleaved : Type 0 where
 abbrev pub joined : Answer → List ℕ → Interleaved
 joined a s = record { answer = a; bits = s }
 
-abbrev pub unjoined : List ℕ → Interleaved
-unjoined bits = joined (Refused Misfit) bits
-
 unfoldable pub interleave : List ℕ → List ℕ → List ℕ → Interleaved
 interleave pairs0 pairs1 bits =
-    cond (eqb (length pairs0) 10752)
-    (cond (eqb (length pairs1) 10752)
-    (cond (eqb (length bits) 21504)
-    (joined (Done 0) (interleaved pairs0 pairs1))
-    (unjoined bits))
-    (unjoined bits))
-    (unjoined bits)
+    cond (not (eqb (length pairs0) 10752)) (joined (Refused Misfit) bits)
+    (cond (not (eqb (length pairs1) 10752)) (joined (Refused Misfit) bits)
+    (cond (not (eqb (length bits) 21504)) (joined (Refused Misfit) bits)
+    (joined (Done 0) (interleaved pairs0 pairs1))))
 
 -- After taking apart: the answer, and the pairs of either encoder.
 pub record Apart : Type 0 where
@@ -41,15 +35,9 @@ pub record Apart : Type 0 where
 abbrev pub parted : Answer → List ℕ → List ℕ → Apart
 parted a s t = record { answer = a; pairs0 = s; pairs1 = t }
 
-abbrev pub unparted : List ℕ → List ℕ → Apart
-unparted pairs0 pairs1 = parted (Refused Misfit) pairs0 pairs1
-
 unfoldable pub deinterleave : List ℕ → List ℕ → List ℕ → Apart
 deinterleave bits pairs0 pairs1 =
-    cond (eqb (length bits) 21504)
-    (cond (eqb (length pairs0) 10752)
-    (cond (eqb (length pairs1) 10752)
-    (parted (Done 0) (apart bits 0) (apart bits 1))
-    (unparted pairs0 pairs1))
-    (unparted pairs0 pairs1))
-    (unparted pairs0 pairs1)
+    cond (not (eqb (length bits) 21504)) (parted (Refused Misfit) pairs0 pairs1)
+    (cond (not (eqb (length pairs0) 10752)) (parted (Refused Misfit) pairs0 pairs1)
+    (cond (not (eqb (length pairs1) 10752)) (parted (Refused Misfit) pairs0 pairs1)
+    (parted (Done 0) (apart bits 0) (apart bits 1))))

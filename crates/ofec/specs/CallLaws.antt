@@ -13,7 +13,7 @@ use Rattle.calls.specs.declared.Answer.the-variants.{Done, Refused}
 use Rattle.calls.specs.declared.Refusal.{Refusal}
 use Rattle.calls.specs.declared.Refusal.the-variants.{Misfit, CountSpent}
 use Rattle.calls.specs.Answers.{refusalOf, valueOr, Accepted, TurnedBack}
-use Rattle.calls.specs.AnswerLaws.{refused-turned}
+use Rattle.calls.specs.Cases.{Case, done, refused, case-accepted, case-turned}
 use Rattle.calls.specs.Sequences.{Keeping}
 use Rattle.ofec.specs.History.{shift}
 use Rattle.ofec.specs.Encoding.{encoded}
@@ -60,11 +60,10 @@ encodeDone c =
     afterEncode (Done (c .pair + 1)) (encoded (c .history) (c .pair) (c .payload)) (shift (c .history) (encoded (c .history) (c .pair) (c .payload)))
 
 -- A call is either done, or refused with its buffers as they were lent.
-pub data EncodeCase (c : Encoding) : Type 0 where
-  done : EncodeFits c → encode c ≡ encodeDone c → EncodeCase c
-  refused : (r : Refusal) → encode c ≡ afterEncode (Refused r) (c .coded) (c .history) → EncodeCase c
+abbrev EncodeCase : Encoding → Type 0
+EncodeCase c = Case (EncodeFits c) (encodeDone c) (λ r. afterEncode (Refused r) (c .coded) (c .history)) (encode c)
 
-pub encode-case : (c : Encoding) → EncodeCase c
+encode-case : (c : Encoding) → EncodeCase c
 unfolding encode
 encode-case c =
     go (ℕ-discrete (length (c .payload)) 444) (ℕ-discrete (length (c .coded)) 512) (ℕ-discrete (length (c .history)) 5120)
@@ -81,11 +80,7 @@ encode-case c =
 
 -- An accepted call fits, and leaves what encoding gives.
 pub encode-accepted : (c : Encoding) → Accepted (encode c .answer) → EncodeFits c × (encode c ≡ encodeDone c)
-encode-accepted c ok = go (encode-case c)
-  where
-    go : EncodeCase c → EncodeFits c × (encode c ≡ encodeDone c)
-    go (done f e) = (f, e)
-    go (refused r e) = absurd (refused-turned r (ap (λ (a : Encoded). refusalOf (a .answer)) (sym e) ∙ ok))
+encode-accepted c = case-accepted (λ (a : Encoded). a .answer) (λ r. refl) (encode-case c)
 
 -- A call that fits is accepted.
 pub encode-accepts : (c : Encoding) → EncodeFits c → Accepted (encode c .answer)
@@ -96,18 +91,13 @@ encode-accepts c f =
 
 -- A refused call leaves every lent buffer as it was, and the pair number.
 pub encode-refused : (c : Encoding) → TurnedBack (encode c .answer) → (encode c .coded ≡ c .coded) × (encode c .history ≡ c .history)
-encode-refused c bad = go (encode-case c)
-  where
-    go : EncodeCase c → (encode c .coded ≡ c .coded) × (encode c .history ≡ c .history)
-    go (done f e) = absurd (bad (ap (λ (a : Encoded). refusalOf (a .answer)) e))
-    go (refused r e) = (ap (λ (a : Encoded). a .coded) e, ap (λ (a : Encoded). a .history) e)
+encode-refused c =
+    case-turned (λ (a : Encoded). a .answer) refl (λ (a : Encoded). (a .coded ≡ c .coded) × (a .history ≡ c .history)) (λ r. (refl, refl)) (encode-case c)
 
 pub encode-keeps : Keeping Encodings
-encode-keeps c bad = go (encode-case c)
-  where
-    go : EncodeCase c → state (encode c .history) (valueOr (encode c .answer) (c .pair)) ≡ state (c .history) (c .pair)
-    go (done f e) = absurd (bad (ap (λ (a : Encoded). refusalOf (a .answer)) e))
-    go (refused r e) = ap (λ (a : Encoded). state (a .history) (valueOr (a .answer) (c .pair))) e
+encode-keeps c =
+    case-turned (λ (a : Encoded). a .answer) refl (λ (a : Encoded). state (a .history) (valueOr (a .answer) (c .pair)) ≡ state (c .history) (c .pair)) (λ r. refl)
+    (encode-case c)
 
 -- ---- receiving: the cases
 
@@ -153,11 +143,10 @@ receiveDone c =
     afterReceive (Done (c .pair + 1)) (payloadOut (c .history) (c .pair) (c .coded)) (marks (c .history) (c .pair) (c .coded))
     (shift (c .history) (newestPair (c .history) (c .pair) (c .coded)))
 
-pub data ReceiveCase (c : Receiving) : Type 0 where
-  done : ReceiveFits c → receive c ≡ receiveDone c → ReceiveCase c
-  refused : (r : Refusal) → receive c ≡ afterReceive (Refused r) (c .payload) (c .marks) (c .history) → ReceiveCase c
+abbrev ReceiveCase : Receiving → Type 0
+ReceiveCase c = Case (ReceiveFits c) (receiveDone c) (λ r. afterReceive (Refused r) (c .payload) (c .marks) (c .history)) (receive c)
 
-pub receive-case : (c : Receiving) → ReceiveCase c
+receive-case : (c : Receiving) → ReceiveCase c
 unfolding receive
 receive-case c =
     go (ℕ-discrete (length (c .coded)) 512) (ℕ-discrete (length (c .payload)) 444) (ℕ-discrete (length (c .marks)) 32)
@@ -175,11 +164,7 @@ receive-case c =
         (sym (receive-done (c .coded) (c .payload) (c .marks) (c .history) (c .pair) a b m _ _ _ h p refl refl refl))
 
 pub receive-accepted : (c : Receiving) → Accepted (receive c .answer) → ReceiveFits c × (receive c ≡ receiveDone c)
-receive-accepted c ok = go (receive-case c)
-  where
-    go : ReceiveCase c → ReceiveFits c × (receive c ≡ receiveDone c)
-    go (done f e) = (f, e)
-    go (refused r e) = absurd (refused-turned r (ap (λ (a : Received). refusalOf (a .answer)) (sym e) ∙ ok))
+receive-accepted c = case-accepted (λ (a : Received). a .answer) (λ r. refl) (receive-case c)
 
 pub receive-accepts : (c : Receiving) → ReceiveFits c → Accepted (receive c .answer)
 unfolding receive
@@ -189,15 +174,11 @@ receive-accepts c f =
 
 pub receive-refused : (c : Receiving) → TurnedBack (receive c .answer)
     → (receive c .payload ≡ c .payload) × (receive c .marks ≡ c .marks) × (receive c .history ≡ c .history)
-receive-refused c bad = go (receive-case c)
-  where
-    go : ReceiveCase c → (receive c .payload ≡ c .payload) × (receive c .marks ≡ c .marks) × (receive c .history ≡ c .history)
-    go (done f e) = absurd (bad (ap (λ (a : Received). refusalOf (a .answer)) e))
-    go (refused r e) = (ap (λ (a : Received). a .payload) e, ap (λ (a : Received). a .marks) e, ap (λ (a : Received). a .history) e)
+receive-refused c =
+    case-turned (λ (a : Received). a .answer) refl (λ (a : Received). (a .payload ≡ c .payload) × (a .marks ≡ c .marks) × (a .history ≡ c .history))
+    (λ r. (refl, refl, refl)) (receive-case c)
 
 pub receive-keeps : Keeping Receivings
-receive-keeps c bad = go (receive-case c)
-  where
-    go : ReceiveCase c → state (receive c .history) (valueOr (receive c .answer) (c .pair)) ≡ state (c .history) (c .pair)
-    go (done f e) = absurd (bad (ap (λ (a : Received). refusalOf (a .answer)) e))
-    go (refused r e) = ap (λ (a : Received). state (a .history) (valueOr (a .answer) (c .pair))) e
+receive-keeps c =
+    case-turned (λ (a : Received). a .answer) refl (λ (a : Received). state (a .history) (valueOr (a .answer) (c .pair)) ≡ state (c .history) (c .pair)) (λ r. refl)
+    (receive-case c)

@@ -2,7 +2,7 @@
 -- 01, "Turned-back calls": No. 1 misfit, "a lent buffer is not of the stated length", before No. 3 count spent, "pair number
 -- 4,294,967,295". "Buffers and pair number stay."
 -- Assumes nothing.
-use mathlib.Core.Bool.{cond}
+use mathlib.Core.Bool.{cond, not}
 use mathlib.Core.List.{List, map}
 use Prim.Native.Nat.{ℕ, _+_}
 use lib.Dec.{eqb}
@@ -29,15 +29,11 @@ afterEncode a coded history = record { answer = a; coded = coded; history = hist
 
 unfoldable pub encodeCall : List ℕ → List ℕ → List ℕ → ℕ → Encoded
 encodeCall payload coded history P =
-    cond (eqb (length payload) 444)
-    (cond (eqb (length coded) 512)
-    (cond (eqb (length history) 5120)
-    (cond (eqb P 4294967295)
-    (afterEncode (Refused CountSpent) coded history)
-    (afterEncode (Done (P + 1)) (encoded history P payload) (shift history (encoded history P payload))))
-    (afterEncode (Refused Misfit) coded history))
-    (afterEncode (Refused Misfit) coded history))
-    (afterEncode (Refused Misfit) coded history)
+    cond (not (eqb (length payload) 444)) (afterEncode (Refused Misfit) coded history)
+    (cond (not (eqb (length coded) 512)) (afterEncode (Refused Misfit) coded history)
+    (cond (not (eqb (length history) 5120)) (afterEncode (Refused Misfit) coded history)
+    (cond (eqb P 4294967295) (afterEncode (Refused CountSpent) coded history)
+    (afterEncode (Done (P + 1)) (encoded history P payload) (shift history (encoded history P payload))))))
 
 -- ---- receiving a pair
 
@@ -52,17 +48,12 @@ afterReceive a payload marks history = record { answer = a; payload = payload; m
 
 unfoldable pub receiveCall : List ℕ → List ℕ → List ℕ → List ℕ → ℕ → Received
 receiveCall coded payload marks′ history P =
-    cond (eqb (length coded) 512)
-    (cond (eqb (length payload) 444)
-    (cond (eqb (length marks′) 32)
-    (cond (eqb (length history) 5120)
-    (cond (eqb P 4294967295)
-    (afterReceive (Refused CountSpent) payload marks′ history)
-    (afterReceive (Done (P + 1)) (payloadOut history P coded) (marks history P coded) (shift history (newestPair history P coded))))
-    (afterReceive (Refused Misfit) payload marks′ history))
-    (afterReceive (Refused Misfit) payload marks′ history))
-    (afterReceive (Refused Misfit) payload marks′ history))
-    (afterReceive (Refused Misfit) payload marks′ history)
+    cond (not (eqb (length coded) 512)) (afterReceive (Refused Misfit) payload marks′ history)
+    (cond (not (eqb (length payload) 444)) (afterReceive (Refused Misfit) payload marks′ history)
+    (cond (not (eqb (length marks′) 32)) (afterReceive (Refused Misfit) payload marks′ history)
+    (cond (not (eqb (length history) 5120)) (afterReceive (Refused Misfit) payload marks′ history)
+    (cond (eqb P 4294967295) (afterReceive (Refused CountSpent) payload marks′ history)
+    (afterReceive (Done (P + 1)) (payloadOut history P coded) (marks history P coded) (shift history (newestPair history P coded)))))))
 
 -- ---- lists of calls
 

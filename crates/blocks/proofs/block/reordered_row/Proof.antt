@@ -1,7 +1,7 @@
 -- `blocks::block::reordered_row` meets its contract: the sixteen bits are gathered.
 -- Assumes nothing.
 use Prim.Native.Nat.{_-_}
-use Rattle.bits.specs.Gathering.{Gathering, gather}
+use Rattle.bits.specs.Folding.{Gathering, gather}
 use Rattle.interleaving.specs.Block.{rowWord, reorderedBit}
 use Rattle.interleaving.specs.BlockLaws.{reordered-bit}
 use borrow.Author.Needs.{needs}

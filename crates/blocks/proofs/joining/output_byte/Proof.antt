@@ -1,7 +1,7 @@
 -- `blocks::joining::output_byte` meets its contract: the eight bits are gathered.
 -- Assumes nothing.
 use Prim.Native.Nat.{_-_}
-use Rattle.bits.specs.Gathering.{Gathering, gather}
+use Rattle.bits.specs.Folding.{Gathering, gather}
 use Rattle.interleaving.specs.NumberLaws.{last-lt}
 use Rattle.interleaving.specs.BlockBuffer.{partsBit}
 use Rattle.interleaving.specs.BlockBufferLaws.{parts-bit}

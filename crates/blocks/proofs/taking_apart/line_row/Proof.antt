@@ -1,7 +1,7 @@
 -- `blocks::taking_apart::line_row` meets its contract: the sixteen bits are gathered.
 -- Assumes nothing.
 use Prim.Native.Nat.{_-_}
-use Rattle.bits.specs.Gathering.{Gathering, gather}
+use Rattle.bits.specs.Folding.{Gathering, gather}
 use Rattle.interleaving.specs.BlockBuffer.{lineColumn}
 use Rattle.interleaving.specs.BlockBufferLaws.{line-bit, line-row}
 use borrow.Author.Needs.{needs}

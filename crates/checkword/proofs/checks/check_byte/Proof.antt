@@ -2,7 +2,7 @@
 -- Assumes nothing.
 use Prim.Native.Nat.{_+_, _-_, _*_}
 use Rattle.bits.specs.Xor.{_⊕_}
-use Rattle.bits.specs.Summing.{Summing, summing}
+use Rattle.bits.specs.Folding.{Summing, summing}
 use Rattle.checkword.specs.Checking.{checkTerm, byteCheck, checking}
 use borrow.Author.Needs.{needs}
 use Rattle.checkword.proofs.checks.check_byte.Statement.{statement}

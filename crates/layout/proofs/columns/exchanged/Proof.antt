@@ -3,7 +3,7 @@
 use Prim.Native.Nat.{_-_}
 use Rattle.bits.specs.Bits.{bitOf}
 use Rattle.bits.specs.Xor.{_⊕_}
-use Rattle.bits.specs.Gathering.{Gathering, gather}
+use Rattle.bits.specs.Folding.{Gathering, gather}
 use Rattle.layout.specs.BackHalves.{bit-sources}
 use borrow.Author.Needs.{needs}
 use Rattle.layout.proofs.columns.exchanged.Statement.{statement}

@@ -3,7 +3,7 @@
 use Prim.Native.Nat.{_+_, _-_, _*_}
 use denote.Ref.{now}
 use Rattle.bits.specs.Bits.{bit, byteOf}
-use Rattle.bits.specs.Gathering.{Gathering, gather}
+use Rattle.bits.specs.Folding.{Gathering, gather}
 use Rattle.layout.specs.BackHalves.{payloadSource, payload-copied}
 use borrow.Author.Needs.{needs}
 use Rattle.layout.proofs.pairs.payload_byte.Statement.{statement}

@@ -2,7 +2,7 @@
 -- Assumes nothing.
 use Prim.Native.Nat.{_+_, _-_, _*_}
 use Rattle.bits.specs.Bits.{byteOf}
-use Rattle.bits.specs.Gathering.{Gathering, gather}
+use Rattle.bits.specs.Folding.{Gathering, gather}
 use Rattle.layout.specs.WordBytes.{frontStored}
 use borrow.Author.Needs.{needs}
 use Rattle.layout.proofs.words.front_byte.Statement.{statement}

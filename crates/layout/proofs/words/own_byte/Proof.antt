@@ -4,7 +4,7 @@ use Prim.Native.Nat.{_+_, _-_, _*_}
 use native.Mathlib.Omega.{arith}
 use denote.Ref.{now}
 use Rattle.bits.specs.Bits.{byteOf}
-use Rattle.bits.specs.Gathering.{Gathering, gather}
+use Rattle.bits.specs.Folding.{Gathering, gather}
 use Rattle.layout.specs.WordBytes.{ownBit, own-copied}
 use borrow.Author.Needs.{needs}
 use Rattle.layout.proofs.words.own_byte.Statement.{statement}

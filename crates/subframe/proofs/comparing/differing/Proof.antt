@@ -1,7 +1,7 @@
 -- `subframe::comparing::differing` meets its contract: a count over the cells.
 -- Assumes nothing.
 use Prim.Native.Nat.{_-_}
-use Rattle.bits.specs.Summing.{Counting, counting}
+use Rattle.bits.specs.Folding.{Counting, counting}
 use Rattle.frames.specs.Frames.{overheadDiffers, differing}
 use Rattle.frames.specs.ByteLaws.{tally-fits}
 use borrow.Author.Needs.{needs}
