@@ -77,6 +77,11 @@ module _ (o : Outward) where
   cells-is : (b : ℕ) → mapping o b .written ≡ toCells (bits b)
   cells-is b = ap (λ (a : After). a .written) (mapping-is b)
 
+  pub cells-are : (b : ℕ)
+      → mapping o b .written ≡ toCells (interleaved (pairsOfBuffer (codedPairs (o .calls side0)) b) (pairsOfBuffer (codedPairs (o .calls side1)) b))
+  unfolding bits pairs
+  cells-are b = cells-is b
+
   -- Every payload byte is legal.
   payload-lt : (q y : ℕ) → payloadByte o q y < 16
   unfolding payloadByte
@@ -175,7 +180,7 @@ module _ (o : Outward) where
   unfolding frames
   frames-many = length-buffers (48 * o .superframes) (λ f. framing o f .written)
 
-  frame-is : (f : ℕ) → f < 48 * o .superframes → getD (frames o) f [] ≡ framed (f % 48) (framePayload o f) (ownOverhead (f % 48) (o .overhead))
+  pub frame-is : (f : ℕ) → f < 48 * o .superframes → getD (frames o) f [] ≡ framed (f % 48) (framePayload o f) (ownOverhead (f % 48) (o .overhead))
   unfolding frames
   frame-is f l = getD-buffers (48 * o .superframes) (λ k. framing o k .written) f l ∙ ap (λ (a : After). a .written) (framing-is f)
 

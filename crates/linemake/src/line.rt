@@ -4,7 +4,9 @@ use crate::inputs::MISFIT;
 use crate::superframes::write_all;
 use calls::Answer;
 use calls::Refusal;
+ghost use mathlib.Core.Path.{_≡_};
 ghost use Prim.Native.Nat.{_≤_};
+ghost use lib.ListN.{length};
 
 // Writes to the line file, or says why it cannot.
 pub fn put(out: i32, bytes: &[u8]) -> u32 {
@@ -25,15 +27,26 @@ fn prepare(
     if io::read_full(inputs.overhead, overhead) != 12288 {
         return MISFIT;
     }
-    let headed = calls::refusal_of(linefile::write_header(superframes, header));
+    calls::refusal_of(linefile::write_header(superframes, header))
+}
+
+// Writes header, list and super-frames: 0, or the refusal.
+fn write_parts(inputs: Inputs, superframes: u32, header: &[u8], overhead: &[u8], out: i32) -> u32
+    requires { ⌜ (superframes ≤ 65) × (length (now overhead) ≡ 12288) ⌝ }
+{
+    let illegal = mapper::legal::first_illegal(overhead);
+    if illegal < overhead.len() {
+        return calls::refusal_of(Answer::Refused(Refusal::OffGrid(illegal)));
+    }
+    let headed = put(out, header);
     if headed != 0 {
         return headed;
     }
-    let illegal = mapper::legal::first_illegal(overhead);
-    if illegal < 12288 {
-        return calls::refusal_of(Answer::Refused(Refusal::OffGrid(illegal)));
+    let listed = put(out, overhead);
+    if listed != 0 {
+        return listed;
     }
-    0
+    write_all(inputs, superframes, overhead, out)
 }
 
 // Writes the line file: 0, or the refusal.
@@ -50,13 +63,5 @@ pub fn write(
     if prepared != 0 {
         return prepared;
     }
-    let headed = put(out, header);
-    if headed != 0 {
-        return headed;
-    }
-    let listed = put(out, overhead);
-    if listed != 0 {
-        return listed;
-    }
-    write_all(inputs, superframes, overhead, out)
+    write_parts(inputs, superframes, header, overhead, out)
 }

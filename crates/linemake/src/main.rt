@@ -1,7 +1,5 @@
 // Makes a line file of two payload files and an overhead list, super-frame by super-frame, and prints its header's numbers, or why
 // it is refused: linemake PAYLOAD0 PAYLOAD1 OVERHEAD LINE.
-mod cells;
-mod frames;
 mod inputs;
 mod line;
 mod pairs;

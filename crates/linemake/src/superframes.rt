@@ -1,10 +1,12 @@
 // Super-frame after super-frame, both encoders from fresh.
-use crate::cells::map_all;
-use crate::frames::write_frames;
 use crate::inputs::Inputs;
+use crate::line::put;
 use crate::pairs::encode;
 use libc::STDERR_FILENO;
+ghost use mathlib.Core.Path.{_≡_};
 ghost use Prim.Native.Nat.{_≤_, _<_};
+ghost use lib.ListN.{length};
+ghost use Rattle.cells.specs.Cells.{Legal};
 
 // Says how far it is.
 fn say(done: u32, of: u32) {
@@ -15,15 +17,31 @@ fn say(done: u32, of: u32) {
     io::write_all(STDERR_FILENO, b"\n");
 }
 
-// The cells of the next super-frame, whose pairs are numbered from `first` on.
-fn fill(
+// Makes the frames of coded pairs and writes them.
+fn write_frames(
+    coded0: &[u8; 86016],
+    coded1: &[u8; 86016],
+    overhead: &[u8],
+    line: &mut [u8; 356352],
+    out: i32,
+) -> u32
+    requires { ⌜ (length (now overhead) ≡ 12288) × Legal (now overhead) ⌝ }
+{
+    superframe::make(coded0, coded1, overhead, line);
+    put(out, line)
+}
+
+// Writes the next super-frame, whose pairs are numbered from `first` on.
+fn write_next(
     inputs: Inputs,
     first: u32,
     history0: &mut [u8; 5120],
     history1: &mut [u8; 5120],
-    cells: &mut [u8; 344064],
+    overhead: &[u8],
+    line: &mut [u8; 356352],
+    out: i32,
 ) -> u32
-    requires { ⌜ first < 65536 ⌝ }
+    requires { ⌜ (first < 65536) × (length (now overhead) ≡ 12288) × Legal (now overhead) ⌝ }
 {
     let mut coded0 = [0u8; 86016];
     let encoded0 = encode(inputs.payload0, history0, first, &mut coded0);
@@ -35,24 +53,29 @@ fn fill(
     if encoded1 != 0 {
         return encoded1;
     }
-    map_all(&coded0, &coded1, cells)
+    write_frames(&coded0, &coded1, overhead, line, out)
 }
 
 // Writes so many super-frames.
-pub fn write_all(inputs: Inputs, superframes: u32, overhead: &[u8; 12288], out: i32) -> u32
-    requires { ⌜ superframes ≤ 65 ⌝ }
+pub fn write_all(inputs: Inputs, superframes: u32, overhead: &[u8], out: i32) -> u32
+    requires { ⌜ (superframes ≤ 65) × (length (now overhead) ≡ 12288) × Legal (now overhead) ⌝ }
 {
     let mut history0 = [0u8; 5120];
     let mut history1 = [0u8; 5120];
-    let mut cells = [0u8; 344064];
+    let mut line = [0u8; 356352];
     for q in 0..superframes {
-        let filled = fill(inputs, q * 168, &mut history0, &mut history1, &mut cells);
-        if filled != 0 {
-            return filled;
-        }
-        let written = write_frames(&cells, overhead, out);
-        if written != 0 {
-            return written;
+        let first = q * 168;
+        let refusal = write_next(
+            inputs,
+            first,
+            &mut history0,
+            &mut history1,
+            overhead,
+            &mut line,
+            out,
+        );
+        if refusal != 0 {
+            return refusal;
         }
         say(q + 1, superframes);
     }

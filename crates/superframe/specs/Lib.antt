@@ -1,0 +1,3 @@
+pub mod Superframe
+pub mod SuperframeLaws
+pub mod LineLaws

@@ -1,0 +1,196 @@
+-- Laws of a super-frame: each buffer and each sub-frame is its block of the whole, and what the calls give for it.
+-- Assumes nothing.
+use mathlib.Core.Path.{_≡_, refl, sym, ap, ap₂, _∙_}
+use mathlib.Core.List.{List}
+use mathlib.Core.Logic.{_≢_}
+use Prim.Native.Nat.{ℕ, zero, suc, _+_, _-_, _*_, _/_, _%_, _<_, _≤_}
+use native.Mathlib.Nat.{add-zero, suc-mul, mul-le-mul-right, div-eq-of-lt, mod-eq-of-lt, mul-add-div-right, mul-add-mod-self-right}
+use native.Mathlib.Omega.{arith}
+use native.Mathlib.Numerals.{add-one}
+use borrow.Author.Tests.{lt-leb}
+use lib.Dec.{lit<}
+use lib.ListN.{length, getD, take, drop, length-drop}
+use lib.Seq.{ext-getD, length-take-le, getD-take, getD-drop}
+use Rattle.bits.specs.Count.{count}
+use Rattle.bits.specs.Lists.{tabulate}
+use Rattle.bits.specs.ListLaws.{length-tabulate, getD-tabulate, tabulate-below, is-tabulate}
+use Rattle.calls.specs.declared.Answer.{Answer}
+use Rattle.interleaving.specs.Interleaving.{interleaved}
+use Rattle.interleaving.specs.InterleavingLaws.{length-interleaved}
+use Rattle.interleaving.specs.Calls.{Interleaved, joined, interleave}
+use Rattle.interleaving.specs.CallLaws.{interleave-bits}
+use Rattle.cells.specs.Cells.{toCells, illegal, Legal}
+use Rattle.cells.specs.CellLaws.{toCells-length, toCells-below}
+use Rattle.cells.specs.Calls.{After, after, bitsToCells}
+use Rattle.cells.specs.CallLaws.{map-accepts}
+use Rattle.frames.specs.Frames.{payloadCells, payloadStart, ownOverhead, framed}
+use Rattle.frames.specs.FrameLaws.{framed-length, own-legal}
+use Rattle.frames.specs.LayoutLaws.{payloadStart-closed, payload-all}
+use Rattle.frames.specs.Calls.{frameCall}
+use Rattle.frames.specs.CallLaws.{frame-accepts}
+use Rattle.superframe.specs.Superframe.{part, byteOfEach, endToEnd, bufferCells, payload, subFrame, frames, superframe}
+
+-- ---- parts of a buffer
+
+module _ (a n : ℕ) (s : List ℕ) (l : a + n ≤ length s) where
+  pub part-length : length (part a n s) ≡ n
+  part-length = length-take-le n (drop a s) (simp length-drop (omega arith))
+
+  pub part-at : (i : ℕ) → i < n → getD (part a n s) i 0 ≡ getD s (a + i) 0
+  part-at i li = getD-take n (drop a s) i 0 li ∙ getD-drop a s i 0
+
+  part-legal : Legal s → Legal (part a n s)
+  part-legal h = record { legal = λ k lk. let i : k < n = omega (arith, part-length) in ap illegal (part-at k i) ∙ h .legal (a + k) (omega arith) }
+
+-- The part from a to e, as code lends it.
+pub part-long : (a e n : ℕ) (s : List ℕ) → e ≡ a + n → e ≤ length s → length (part a (e - a) s) ≡ n
+part-long a e n s ee l = let size : e - a ≡ n = omega arith in part-length a (e - a) s (omega arith) ∙ size
+
+-- ---- end to end
+
+pub endToEnd-length : (m w : ℕ) (f : ℕ → List ℕ) → length (endToEnd m w f) ≡ m * w
+unfolding endToEnd
+endToEnd-length m w f = length-tabulate (m * w) (byteOfEach w f)
+
+pub endToEnd-at : (m w : ℕ) (f : ℕ → List ℕ) (y : ℕ) → y < m * w → getD (endToEnd m w f) y 0 ≡ byteOfEach w f y
+unfolding endToEnd
+endToEnd-at m w f y l = getD-tabulate (m * w) (byteOfEach w f) y l
+
+-- Byte i of block k.
+each-at : (f : ℕ → List ℕ) (w k i : ℕ) → 0 < w → i < w → byteOfEach w f (k * w + i) ≡ getD (f k) i 0
+each-at f w k i pos l =
+    ap₂ (λ b j. getD (f b) j 0) (mul-add-div-right pos k i ∙ ap (λ u. k + u) (div-eq-of-lt l) ∙ add-zero k) (mul-add-mod-self-right k w i ∙ mod-eq-of-lt l)
+
+-- A buffer that is f k is block k of the whole,
+each-block : (f : ℕ → List ℕ) (w k : ℕ) (ys : List ℕ) → 0 < w → length ys ≡ w → ys ≡ f k → ys ≡ tabulate w (λ i. byteOfEach w f (k * w + i))
+each-block f w k ys pos long e =
+    is-tabulate ys w (λ i. byteOfEach w f (k * w + i)) long (λ i l. ap (λ s. getD s i 0) e ∙ sym (each-at f w k i pos l))
+
+-- and that block is it.
+pub part-endToEnd : (m w : ℕ) (f : ℕ → List ℕ) (k : ℕ) → 0 < w → k < m → length (f k) ≡ w → part (k * w) w (endToEnd m w f) ≡ f k
+part-endToEnd m w f k pos l long =
+    ext-getD 0 (part (k * w) w (endToEnd m w f)) (f k) (size ∙ sym long)
+    (λ i li. let h : i < w = omega (arith, size) in
+    part-at (k * w) w (endToEnd m w f) within i h ∙ endToEnd-at m w f (k * w + i) (omega (arith, inside)) ∙ each-at f w k i pos h)
+  where
+    inside : k * w + w ≤ m * w
+    inside = omega (arith, suc-mul k w, mul-le-mul-right {m = suc k} {n = m} w l)
+
+    within : k * w + w ≤ length (endToEnd m w f)
+    within = omega (arith, inside, endToEnd-length m w f)
+
+    size : length (part (k * w) w (endToEnd m w f)) ≡ w
+    size = part-length (k * w) w (endToEnd m w f) within
+
+-- ---- the cells of a buffer
+
+module _ (b a e : ℕ) (ea : a ≡ b * 10752) (ee : e ≡ a + 10752) (lb : b < 8) (pairs0 pairs1 : List ℕ) (l0 : length pairs0 ≡ 86016) (l1 : length pairs1 ≡ 86016) where
+  own-pairs : e - a ≡ 10752
+  own-pairs = omega arith
+
+  pairs-long : (s : List ℕ) → length s ≡ 86016 → length (part a (e - a) s) ≡ 10752
+  pairs-long s l = part-long a e 10752 s ee (omega arith)
+
+  pub joined-bits : (r : Answer) (s bits : List ℕ) → joined r s ≡ interleave (part a (e - a) pairs0) (part a (e - a) pairs1) bits → length bits ≡ 21504
+      → s ≡ interleaved (part (b * 10752) 10752 pairs0) (part (b * 10752) 10752 pairs1)
+  joined-bits r s bits j l =
+      ap (λ (x : Interleaved). x .bits) j
+      ∙ interleave-bits (part a (e - a) pairs0) (part a (e - a) pairs1) bits (pairs-long pairs0 l0) (pairs-long pairs1 l1) l
+      ∙ ap₂ (λ x y. interleaved (part x y pairs0) (part x y pairs1)) ea own-pairs
+
+pub mapped-cells : (b : ℕ) (pairs0 pairs1 : List ℕ) (r : Answer) (d s cells : List ℕ) → after r d ≡ bitsToCells s cells
+    → s ≡ interleaved (part (b * 10752) 10752 pairs0) (part (b * 10752) 10752 pairs1) → length cells ≡ 43008 → d ≡ bufferCells pairs0 pairs1 b
+unfolding bufferCells
+mapped-cells b pairs0 pairs1 r d s cells e f l =
+    ap (λ (x : After). x .written) e
+    ∙ ap (λ u. bitsToCells u cells .written) f
+    ∙ ap (λ (x : After). x .written) (map-accepts _ cells (length-interleaved (part (b * 10752) 10752 pairs0) (part (b * 10752) 10752 pairs1)) l)
+
+pub buffer-block : (pairs0 pairs1 : List ℕ) (b : ℕ) (ys : List ℕ) → ys ≡ bufferCells pairs0 pairs1 b
+    → ys ≡ tabulate 43008 (λ i. byteOfEach 43008 (bufferCells pairs0 pairs1) (b * 43008 + i))
+unfolding bufferCells
+buffer-block pairs0 pairs1 b ys e =
+    each-block (bufferCells pairs0 pairs1) 43008 b ys (lit< tt)
+    (ap length e ∙ toCells-length _ ∙ omega (arith, length-interleaved (part (b * 10752) 10752 pairs0) (part (b * 10752) 10752 pairs1))) e
+
+pub buffers-are : (pairs0 pairs1 d : List ℕ) → d ≡ tabulate 344064 (byteOfEach 43008 (bufferCells pairs0 pairs1)) → d ≡ payload pairs0 pairs1
+unfolding payload endToEnd
+buffers-are pairs0 pairs1 d e = e
+
+pub ruleset buffering = (joined-bits, mapped-cells)
+
+pub ruleset joining = (buffer-block, buffers-are)
+
+-- The payload is legal.
+pub payload-legal : (pairs0 pairs1 d : List ℕ) → d ≡ payload pairs0 pairs1 → Legal d
+unfolding payload endToEnd bufferCells
+payload-legal pairs0 pairs1 d e =
+    rw e
+    (record {
+      legal = λ k l. lt-leb 16 (getD (payload pairs0 pairs1) k 0)
+          (tabulate-below 344064 (byteOfEach 43008 (bufferCells pairs0 pairs1)) 16 (λ y. toCells-below _ (y % 43008)) (lit< tt) k);
+    })
+
+-- ---- a sub-frame
+
+pub start-zeroth : (s : ℕ) → s ≡ 0 → 0 ≡ payloadStart s * 2
+unfolding payloadStart count
+start-zeroth zero z = refl
+start-zeroth (suc s) z = absurd (omega arith)
+
+pub start-other : (s : ℕ) → s ≢ 0 → s * 7172 - 192 ≡ payloadStart s * 2
+start-other zero z = absurd (z refl)
+start-other (suc s) z = omega (arith, payloadStart-closed s)
+
+next-start : (s : ℕ) → payloadStart (s + 1) ≡ payloadStart s + payloadCells s
+unfolding payloadStart count
+next-start s = ap payloadStart (add-one s)
+
+-- A sub-frame's payload ends inside that of the super-frame.
+pub payload-within : (s : ℕ) → s < 48 → payloadStart s * 2 + payloadCells s * 2 ≤ 344064
+payload-within s l = omega (arith, next-start s, payloadStart-closed s, ap payloadStart (add-one s))
+
+module _ (s a e : ℕ) (ls : s < 48) (ea : a ≡ payloadStart s * 2) (ee : e ≡ payloadStart (s + 1) * 2) where
+  pub start-order : a ≤ e
+  start-order = omega (arith, next-start s)
+
+  pub start-within : (n : ℕ) → n ≡ 344064 → e ≤ n
+  start-within n en = omega (arith, next-start s, payload-within s ls)
+
+  own-part : e - a ≡ payloadCells s * 2
+  own-part = omega (arith, next-start s)
+
+  pub sub-frame-is : (r : Answer) (d cells overhead lent : List ℕ) → after r d ≡ frameCall s (part a (e - a) cells) overhead lent → length cells ≡ 344064 → Legal cells
+      → length overhead ≡ 12288 → Legal overhead → length lent ≡ 7424 → d ≡ subFrame cells overhead s
+  unfolding subFrame
+  sub-frame-is r d cells overhead lent f lc hc lo ho lf =
+      ap (λ (x : After). x .written) f
+      ∙ ap₂ (λ x y. frameCall s (part x y cells) overhead lent .written) ea own-part
+      ∙ ap (λ (x : After). x .written)
+      (frame-accepts s overhead lent (part (payloadStart s * 2) (payloadCells s * 2) cells) (omega arith) lo lf (part-length (payloadStart s * 2) (payloadCells s * 2) cells fits)
+      (own-legal s overhead (omega arith) lo ho) (part-legal (payloadStart s * 2) (payloadCells s * 2) cells fits hc))
+    where
+      fits : payloadStart s * 2 + payloadCells s * 2 ≤ length cells
+      fits = omega (arith, next-start s, payload-within s ls)
+
+pub ruleset starting = (start-zeroth, start-other)
+
+pub ruleset placing = (start-order, start-within, sub-frame-is)
+
+pub frame-block : (cells overhead : List ℕ) (s : ℕ) (ys : List ℕ) → ys ≡ subFrame cells overhead s
+    → ys ≡ tabulate 7424 (λ i. byteOfEach 7424 (subFrame cells overhead) (s * 7424 + i))
+unfolding subFrame
+frame-block cells overhead s ys e =
+    each-block (subFrame cells overhead) 7424 s ys (lit< tt) (ap length e ∙ framed-length s (part (payloadStart s * 2) (payloadCells s * 2) cells) (ownOverhead s overhead)) e
+
+pub frames-are : (cells overhead d : List ℕ) → d ≡ tabulate 356352 (byteOfEach 7424 (subFrame cells overhead)) → d ≡ frames cells overhead
+unfolding frames endToEnd
+frames-are cells overhead d e = e
+
+pub ruleset framing = (frame-block, frames-are)
+
+-- ---- the super-frame
+
+pub superframe-is : (pairs0 pairs1 overhead cells d : List ℕ) → cells ≡ payload pairs0 pairs1 → d ≡ frames cells overhead → d ≡ superframe pairs0 pairs1 overhead
+unfolding superframe
+superframe-is pairs0 pairs1 overhead cells d e f = f ∙ ap (λ c. frames c overhead) e

@@ -1,0 +1,40 @@
+// The frames of a super-frame.
+ghost use mathlib.Core.Path.{_≡_};
+ghost use Prim.Native.Nat.{_≤_, _<_, _*_};
+ghost use lib.ListN.{length};
+ghost use Rattle.cells.specs.Cells.{Legal};
+ghost use Rattle.frames.specs.Frames.{payloadStart};
+ghost use Rattle.superframe.specs.Superframe.{frames, subFrame};
+
+// The first payload byte of a sub-frame: sub-frame 0 has 6,980, and each other 7,172.
+fn start(s: usize) -> usize
+    requires { ⌜ s ≤ 48 ⌝ }
+    ensures { λ r. ⌜ r ≡ payloadStart s * 2 ⌝ }
+{
+    if s == 0 {
+        return 0;
+    }
+    s * 7172 - 192
+}
+
+// Sub-frame s.
+fn sub_frame(s: usize, cells: &[u8], overhead: &[u8], frame: &mut [u8])
+    requires { ⌜ (s < 48) × (length (now cells) ≡ 344064) × Legal (now cells) × (length (now overhead) ≡ 12288) × Legal (now overhead) × (length (now frame) ≡ 7424) ⌝ }
+    ensures { λ _. ⌜ now (frame .exit) ≡ subFrame (now (cells .entry)) (now (overhead .entry)) s ⌝ }
+{
+    let a = start(s);
+    let e = start(s + 1);
+    framing::frame(s as u32, &cells[a..e], overhead, frame);
+}
+
+// All of them, end to end.
+pub fn frame(cells: &[u8], overhead: &[u8], line: &mut [u8])
+    requires { ⌜ (length (now cells) ≡ 344064) × Legal (now cells) × (length (now overhead) ≡ 12288) × Legal (now overhead) × (length (now line) ≡ 356352) ⌝ }
+    ensures { λ _. ⌜ now (line .exit) ≡ frames (now (cells .entry)) (now (overhead .entry)) ⌝ }
+{
+    for s in 0..48 {
+        let f = s * 7424;
+        let g = f + 7424;
+        sub_frame(s, cells, overhead, &mut line[f..g]);
+    }
+}
