@@ -1,4 +1,5 @@
-//! Links the verified library, as `rt staticlib capi` leaves it.
+//! Links the verified library, as `rt staticlib capi` leaves it. It becomes a part of this crate, so
+//! that a package which depends on it does not link the library itself.
 
 use std::path::Path;
 use std::process::exit;

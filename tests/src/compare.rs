@@ -10,18 +10,18 @@ const GUARD: [u8; 64] = [0xa5; 64];
 
 /// Answer and buffers that stand after the call, the same on both sides. Every buffer is compared,
 /// also those that the call only reads.
-pub fn compare<const N: usize, A: Debug + PartialEq>(
+pub fn compare<const N: usize, A: Debug + PartialEq, L: Into<A>>(
     lent: [&[u8]; N],
-    library: impl FnOnce([&mut [u8]; N]) -> A,
+    library: impl FnOnce([&mut [u8]; N]) -> L,
     reference: impl FnOnce([&mut [u8]; N]) -> A,
 ) -> (A, [Vec<u8>; N]) {
     agreed(lent, library, reference).unwrap_or_else(|difference| panic!("{difference}"))
 }
 
 /// As `compare`, or what differs.
-pub fn agreed<const N: usize, A: Debug + PartialEq>(
+pub fn agreed<const N: usize, A: Debug + PartialEq, L: Into<A>>(
     lent: [&[u8]; N],
-    library: impl FnOnce([&mut [u8]; N]) -> A,
+    library: impl FnOnce([&mut [u8]; N]) -> L,
     reference: impl FnOnce([&mut [u8]; N]) -> A,
 ) -> Result<(A, [Vec<u8>; N]), String> {
     let lengths = lent.map(<[u8]>::len);
@@ -29,10 +29,11 @@ pub fn agreed<const N: usize, A: Debug + PartialEq>(
     let answer = reference(expected.each_mut().map(|buffer| &mut buffer[..]));
 
     let mut guarded = lent.map(|bytes| [&GUARD, bytes, &GUARD].concat());
-    let given = library(guarded.each_mut().map(|buffer| {
+    let given: A = library(guarded.each_mut().map(|buffer| {
         let end = buffer.len() - GUARD.len();
         &mut buffer[GUARD.len()..end]
-    }));
+    }))
+    .into();
     if given != answer {
         return Err(format!(
             "lengths {lengths:?}: {given:?}, expected {answer:?}"
@@ -52,10 +53,10 @@ pub fn agreed<const N: usize, A: Debug + PartialEq>(
 }
 
 /// As `compare`, of a call that must be refused with this answer and leave every buffer as it was.
-pub fn compare_refused<const N: usize, A: Debug + PartialEq>(
+pub fn compare_refused<const N: usize, A: Debug + PartialEq, L: Into<A>>(
     refused: A,
     lent: [&[u8]; N],
-    library: impl FnOnce([&mut [u8]; N]) -> A,
+    library: impl FnOnce([&mut [u8]; N]) -> L,
     reference: impl FnOnce([&mut [u8]; N]) -> A,
 ) {
     let (answer, buffers) = compare(lent, library, reference);
@@ -102,16 +103,16 @@ pub fn misfits<const N: usize>(right: [usize; N], random: &mut Random) -> Vec<[u
 /// Lends every buffer in turn with 2^32 bytes too many, so that its length is right when cut to 32
 /// bits: the call must be refused with this answer. The buffers are zeros, for which the system gives
 /// no memory before they are written.
-pub fn refused_beyond_32_bits<const N: usize, A: Debug + PartialEq>(
+pub fn refused_beyond_32_bits<const N: usize, A: Debug + PartialEq, L: Into<A>>(
     refused: A,
     right: [usize; N],
-    library: impl Fn([&mut [u8]; N]) -> A,
+    library: impl Fn([&mut [u8]; N]) -> L,
 ) {
     for wrong in 0..N {
         let mut lengths = right;
         lengths[wrong] += 1 << 32;
         let mut buffers = lengths.map(|length| vec![0; length]);
-        let answer = library(buffers.each_mut().map(|buffer| &mut buffer[..]));
+        let answer: A = library(buffers.each_mut().map(|buffer| &mut buffer[..])).into();
         assert_eq!(answer, refused, "lengths {lengths:?}");
         for buffer in black_box(buffers) {
             let start = &buffer[..buffer.len().min(1 << 16)];

@@ -1,13 +1,14 @@
-//! An implementation written apart from the library under test, and the way to call that library.
-//! The two share no code, table or index formula. The comparisons stand in `tests/`.
+//! An implementation written apart from the library under test, and what compares the two. They share
+//! no code, table or index formula: the code written apart never uses the crate `ofec`, through which
+//! `chain::calls`, `library`, the programs and the comparisons in `tests/` reach the library.
 
 pub mod bits;
 pub mod cells;
 pub mod chain;
 pub mod compare;
-pub mod ffi;
 pub mod frames;
 pub mod interleaver;
+pub mod library;
 pub mod line_file;
 pub mod outcome;
 pub mod programs;

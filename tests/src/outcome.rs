@@ -1,4 +1,4 @@
-//! What a call answers, as the C interface lays it out, and the numbers of the refusals.
+//! What a call answers, and the numbers of the refusals.
 
 /// Refusal 1: a lent buffer is not of the stated length.
 pub const MISFIT: u32 = 1;
@@ -11,8 +11,7 @@ pub const NO_SUCH_FRAME: u32 = 4;
 /// Refusal 5: an illegal byte in cells that the call reads.
 pub const OFF_GRID: u32 = 5;
 
-/// `ofec_outcome`.
-#[repr(C)]
+/// As `ofec_outcome`.
 #[derive(Debug, PartialEq, Eq, Clone, Copy)]
 pub struct Outcome {
     /// Number of the refusal, or 0.
@@ -57,8 +56,7 @@ impl Outcome {
     }
 }
 
-/// `ofec_line`: an open line file's header numbers, all zero where it is refused.
-#[repr(C)]
+/// As `ofec_line`: an open line file's header numbers, all zero where it is refused.
 #[derive(Debug, PartialEq, Eq, Clone, Copy)]
 pub struct Line {
     /// Number of the refusal, or 0.

@@ -1,8 +1,8 @@
 //! `ofec_bits_to_cells` and `ofec_cells_to_bits` against the reference: answer and every buffer.
 
+use ofec::capi;
 use ofec_tests::cells::{self, CELLS_BYTES, GRID};
 use ofec_tests::compare::{compare, compare_refused, misfits, refused_beyond_32_bits};
-use ofec_tests::ffi;
 use ofec_tests::interleaver::BUFFER_BYTES;
 use ofec_tests::outcome::{Outcome, MISFIT};
 use ofec_tests::random::Random;
@@ -14,7 +14,7 @@ const TO_BITS_LENGTHS: [usize; 2] = [CELLS_BYTES, BUFFER_BYTES];
 fn bits_to_cells(bits: &[u8], random: &mut Random) -> Vec<u8> {
     let (outcome, [_, cells]) = compare(
         [bits, &random.bytes(CELLS_BYTES)],
-        |[bits, cells]| ffi::line::bits_to_cells(bits, cells),
+        |[bits, cells]| capi::bits_to_cells(bits, cells),
         |[bits, cells]| cells::bits_to_cells(bits, cells),
     );
     assert_eq!(outcome, Outcome::accepted(0));
@@ -25,7 +25,7 @@ fn bits_to_cells(bits: &[u8], random: &mut Random) -> Vec<u8> {
 fn cells_to_bits(cells: &[u8], random: &mut Random) -> Vec<u8> {
     let (outcome, [_, bits]) = compare(
         [cells, &random.bytes(BUFFER_BYTES)],
-        |[cells, bits]| ffi::line::cells_to_bits(cells, bits),
+        |[cells, bits]| capi::cells_to_bits(cells, bits),
         |[cells, bits]| cells::cells_to_bits(cells, bits),
     );
     assert_eq!(outcome, Outcome::accepted(0));
@@ -36,7 +36,7 @@ fn refused_cells_to_bits(refused: Outcome, cells: &[u8], bits: &[u8]) {
     compare_refused(
         refused,
         [cells, bits],
-        |[cells, bits]| ffi::line::cells_to_bits(cells, bits),
+        |[cells, bits]| capi::cells_to_bits(cells, bits),
         |[cells, bits]| cells::cells_to_bits(cells, bits),
     );
 }
@@ -132,7 +132,7 @@ fn wrong_lengths_are_refused_before_illegal_bytes_and_touch_nothing() {
         compare_refused(
             Outcome::refused(MISFIT),
             lent.each_ref().map(|bytes| &bytes[..]),
-            |[bits, cells]| ffi::line::bits_to_cells(bits, cells),
+            |[bits, cells]| capi::bits_to_cells(bits, cells),
             |[bits, cells]| cells::bits_to_cells(bits, cells),
         );
     }
@@ -148,9 +148,9 @@ fn wrong_lengths_are_refused_before_illegal_bytes_and_touch_nothing() {
 fn lengths_beyond_32_bits_are_refused() {
     let refused = Outcome::refused(MISFIT);
     refused_beyond_32_bits(refused, TO_CELLS_LENGTHS, |[bits, cells]| {
-        ffi::line::bits_to_cells(bits, cells)
+        capi::bits_to_cells(bits, cells)
     });
     refused_beyond_32_bits(refused, TO_BITS_LENGTHS, |[cells, bits]| {
-        ffi::line::cells_to_bits(cells, bits)
+        capi::cells_to_bits(cells, bits)
     });
 }

@@ -3,6 +3,7 @@
 
 use std::sync::LazyLock;
 
+use ofec::capi;
 use ofec_tests::bits;
 use ofec_tests::chain::calls::{Calls, Receive, LIBRARY};
 use ofec_tests::chain::claims::{check, check_frames, wrong_bits, Breach, Out, LIMIT};
@@ -13,7 +14,6 @@ use ofec_tests::chain::places::{
 use ofec_tests::chain::receiving::{receive, take, Received};
 use ofec_tests::chain::sending::{send, Sent};
 use ofec_tests::chain::{Difference, SUPERFRAME_PAIRS};
-use ofec_tests::ffi;
 use ofec_tests::frames::OVERHEAD_BYTES;
 use ofec_tests::outcome::{Outcome, COUNT_SPENT, MISFIT};
 use ofec_tests::random::Random;
@@ -164,20 +164,23 @@ fn flipped(receiver: usize, word: Name, k: usize, mark: u8, out: Out) -> Vec<Bre
     }
 }
 
-#[test]
-fn flipped_bit_of_the_newest_pair_of_a_history() {
+/// Flips bits of every sample, one at a time: at these places, and where a bit below `end` arrived
+/// wrong. Each is reported as the claim that it breaks.
+fn assert_flips_found(
+    (out, out_stage): (Out, &str),
+    places: [usize; 4],
+    end: usize,
+    flip_bit: fn(&mut Received, Name, usize),
+) {
     let mut arrived = [0; 2];
     for (receiver, word, _, mark) in samples() {
         let wrong = |&k: &usize| arrived_wrong(receiver, word, k);
-        let places = [128, 238, 239, 255].into_iter();
-        for k in places.chain((BACK..WORD_BITS).filter(wrong)) {
+        for k in places.into_iter().chain((BACK..end).filter(wrong)) {
             let mut received = SOUND.received[receiver].clone();
-            let newest = 8 * HISTORY_BYTES * word.pair() + 9 * PAIR_BITS;
-            let in_pair = index(word.bit(k)) % PAIR_BITS;
-            bits::flip(&mut received.histories, newest + in_pair);
-            let expected = flipped(receiver, word, k, mark, Out::History);
+            flip_bit(&mut received, word, k);
+            let expected = flipped(receiver, word, k, mark, out);
             assert_eq!(breaches(receiver, &received), expected);
-            assert_eq!(stage(receiver, &received), "histories");
+            assert_eq!(stage(receiver, &received), out_stage);
             arrived[usize::from(wrong(&k))] += 1;
         }
     }
@@ -185,22 +188,22 @@ fn flipped_bit_of_the_newest_pair_of_a_history() {
 }
 
 #[test]
+fn flipped_bit_of_the_newest_pair_of_a_history() {
+    let out = (Out::History, "histories");
+    assert_flips_found(out, [128, 238, 239, 255], WORD_BITS, |received, word, k| {
+        let newest = 8 * HISTORY_BYTES * word.pair() + 9 * PAIR_BITS;
+        let in_pair = index(word.bit(k)) % PAIR_BITS;
+        bits::flip(&mut received.histories, newest + in_pair);
+    });
+}
+
+#[test]
 fn flipped_bit_of_payload_out() {
-    let mut arrived = [0; 2];
-    for (receiver, word, _, mark) in samples() {
-        let wrong = |&k: &usize| arrived_wrong(receiver, word, k);
-        let places = [128, 223, 224, 238].into_iter();
-        for k in places.chain((BACK..FREE_BITS).filter(wrong)) {
-            let mut received = SOUND.received[receiver].clone();
-            let number = payload_bit(word.row, word.r, k - BACK) as usize;
-            bits::flip(&mut received.payload, number);
-            let expected = flipped(receiver, word, k, mark, Out::Payload);
-            assert_eq!(breaches(receiver, &received), expected);
-            assert_eq!(stage(receiver, &received), "payload out");
-            arrived[usize::from(wrong(&k))] += 1;
-        }
-    }
-    assert!(arrived[0] > 40 && arrived[1] > 10, "{arrived:?}");
+    let out = (Out::Payload, "payload out");
+    assert_flips_found(out, [128, 223, 224, 238], FREE_BITS, |received, word, k| {
+        let number = payload_bit(word.row, word.r, k - BACK) as usize;
+        bits::flip(&mut received.payload, number);
+    });
 }
 
 /// The claims say nothing of them, but for the mark where the next call reads them.
@@ -292,15 +295,11 @@ fn receivers_crossed() {
     }
 }
 
+/// What a receiving call writes: payload, marks and history.
+type Written<'a> = [&'a mut [u8]; 3];
+
 /// Passes every back half as received, with this mark.
-fn pass(
-    mark: u8,
-    coded: &[u8],
-    payload: &mut [u8],
-    marks: &mut [u8],
-    history: &mut [u8],
-    pair: u32,
-) -> Outcome {
+fn pass(mark: u8, coded: &[u8], [payload, marks, history]: Written, pair: u32) -> Outcome {
     let outcome = (LIBRARY.receive_pair)(coded, payload, marks, history, pair);
     if outcome.refusal == 0 {
         marks.fill(mark);
@@ -318,24 +317,24 @@ fn pass(
 #[test]
 fn repairers_that_01_shuts_out() {
     let all_lost = received_by(|coded, payload, marks, history, pair| {
-        pass(3, coded, payload, marks, history, pair)
+        pass(3, coded, [payload, marks, history], pair)
     });
     assert_kinds(&all_lost, &["lost"]);
 
     let zero_word = received_by(|coded, payload, marks, history, pair| {
         let zero = vec![0; coded.len()];
-        pass(0, &zero, payload, marks, history, pair)
+        pass(0, &zero, [payload, marks, history], pair)
     });
     assert_kinds(&zero_word, &["right bit changed", "wrong bit left", "mark"]);
 
     let handed_through = received_by(|coded, payload, marks, history, pair| {
-        pass(0, coded, payload, marks, history, pair)
+        pass(0, coded, [payload, marks, history], pair)
     });
     assert_kinds(&handed_through, &["wrong bit left", "mark"]);
 
     let first_pair_only = received_by(|coded, payload, marks, history, pair| match pair {
         0 => (LIBRARY.receive_pair)(coded, payload, marks, history, pair),
-        _ => pass(0, coded, payload, marks, history, pair),
+        _ => pass(0, coded, [payload, marks, history], pair),
     });
     assert_kinds(&first_pair_only, &["wrong bit left", "mark"]);
     for receiver in [0, 1] {
@@ -426,19 +425,30 @@ fn repaired(
     let mut bytes = word::to_bytes(&held);
     before_repair(&mut bytes);
     let front = u32::from(word.row >= FIRST_FULL_ROW);
-    let mark = ffi::word::repair_word(&mut bytes, front).value;
+    let mark = capi::repair_word(&mut bytes, front).value;
     (held, mark, word::from_bytes(&bytes))
+}
+
+/// The library's call, and the words that it received: those of the pair, or none if it is refused.
+fn received_words(
+    coded: &[u8],
+    [payload, marks, history]: Written,
+    pair: u32,
+) -> (Outcome, Vec<Name>) {
+    let outcome = (LIBRARY.receive_pair)(coded, payload, marks, history, pair);
+    let words = match outcome.refusal {
+        0 => words_of(pair as usize).to_vec(),
+        _ => vec![],
+    };
+    (outcome, words)
 }
 
 #[test]
 fn receiver_that_ignores_bit_255() {
     let received = received_by(|coded, payload, marks, history, pair| {
         let before = history.to_vec();
-        let outcome = (LIBRARY.receive_pair)(coded, payload, marks, history, pair);
-        if outcome.refusal != 0 {
-            return outcome;
-        }
-        for word in words_of(pair as usize) {
+        let (outcome, words) = received_words(coded, [payload, marks, history], pair);
+        for word in words {
             // A word whose parity alone speaks against it.
             let flip_255 = |bytes: &mut [u8; WORD_BYTES]| bits::flip(bytes, 255);
             let (_, mark, after) = repaired(coded, &before, word, flip_255);
@@ -467,11 +477,8 @@ fn receiver_that_ignores_bit_255() {
 fn receiver_that_stores_front_flips() {
     let received = received_by(|coded, payload, marks, history, pair| {
         let before = history.to_vec();
-        let outcome = (LIBRARY.receive_pair)(coded, payload, marks, history, pair);
-        if outcome.refusal != 0 {
-            return outcome;
-        }
-        for word in words_of(pair as usize) {
+        let (outcome, words) = received_words(coded, [payload, marks, history], pair);
+        for word in words {
             let (held, _, after) = repaired(coded, &before, word, |_| {});
             for k in (word.first()..BACK).filter(|&k| held[k] != after[k]) {
                 let place = word.bit(k);

@@ -1,8 +1,8 @@
 //! `ofec_frame` and `ofec_unframe` against the reference: answer and every buffer.
 
+use ofec::capi;
 use ofec_tests::cells::GRID;
 use ofec_tests::compare::{compare, compare_refused, misfit, misfits, refused_beyond_32_bits};
-use ofec_tests::ffi;
 use ofec_tests::frames::{
     self, is_overhead, overhead_cells, own_overhead, payload_bytes, FRAME_BYTES, OVERHEAD_BYTES,
     SUBFRAMES, SUBFRAME_CELLS,
@@ -22,7 +22,7 @@ fn unframe_lengths(number: u32) -> [usize; 3] {
 fn frame(number: u32, payload: &[u8], overhead: &[u8], random: &mut Random) -> Vec<u8> {
     let (outcome, [_, _, frame]) = compare(
         [payload, overhead, &random.bytes(FRAME_BYTES)],
-        |[payload, overhead, frame]| ffi::line::frame(number, payload, overhead, frame),
+        |[payload, overhead, frame]| capi::frame(number, payload, overhead, frame),
         |[payload, overhead, frame]| frames::frame(number, payload, overhead, frame),
     );
     assert_eq!(outcome, Outcome::accepted(0));
@@ -33,7 +33,7 @@ fn frame(number: u32, payload: &[u8], overhead: &[u8], random: &mut Random) -> V
 fn unframe(number: u32, frame: &[u8], overhead: &[u8], random: &mut Random) -> (u32, Vec<u8>) {
     let (outcome, [_, _, payload]) = compare(
         [frame, overhead, &random.bytes(payload_bytes(number))],
-        |[frame, overhead, payload]| ffi::line::unframe(number, frame, overhead, payload),
+        |[frame, overhead, payload]| capi::unframe(number, frame, overhead, payload),
         |[frame, overhead, payload]| frames::unframe(number, frame, overhead, payload),
     );
     assert_eq!(outcome, Outcome::accepted(outcome.value));
@@ -44,7 +44,7 @@ fn refused_frame(refused: Outcome, number: u32, lent: [&[u8]; 3]) {
     compare_refused(
         refused,
         lent,
-        |[payload, overhead, frame]| ffi::line::frame(number, payload, overhead, frame),
+        |[payload, overhead, frame]| capi::frame(number, payload, overhead, frame),
         |[payload, overhead, frame]| frames::frame(number, payload, overhead, frame),
     );
 }
@@ -53,7 +53,7 @@ fn refused_unframe(refused: Outcome, number: u32, lent: [&[u8]; 3]) {
     compare_refused(
         refused,
         lent,
-        |[frame, overhead, payload]| ffi::line::unframe(number, frame, overhead, payload),
+        |[frame, overhead, payload]| capi::unframe(number, frame, overhead, payload),
         |[frame, overhead, payload]| frames::unframe(number, frame, overhead, payload),
     );
 }
@@ -330,17 +330,18 @@ fn lengths_beyond_32_bits_are_refused() {
     for number in [0, 47] {
         let lengths = frame_lengths(number);
         refused_beyond_32_bits(refused, lengths, |[payload, overhead, frame]| {
-            ffi::line::frame(number, payload, overhead, frame)
+            capi::frame(number, payload, overhead, frame)
         });
         let lengths = unframe_lengths(number);
         refused_beyond_32_bits(refused, lengths, |[frame, overhead, payload]| {
-            ffi::line::unframe(number, frame, overhead, payload)
+            capi::unframe(number, frame, overhead, payload)
         });
     }
     // The payload of a number above 47 is not measured.
     let payload = &mut vec![0; (1 << 32) + 7_172][..];
     let (overhead, other) = (&[0; OVERHEAD_BYTES], &mut [0; FRAME_BYTES]);
     let refused = Outcome::refused(NO_SUCH_FRAME);
-    assert_eq!(ffi::line::frame(48, payload, overhead, other), refused);
-    assert_eq!(ffi::line::unframe(48, other, overhead, payload), refused);
+    let framed = Outcome::from(capi::frame(48, payload, overhead, other));
+    let unframed = Outcome::from(capi::unframe(48, other, overhead, payload));
+    assert_eq!([framed, unframed], [refused; 2]);
 }

@@ -1,8 +1,8 @@
 //! `ofec_interleave` and `ofec_deinterleave` against the reference: answer and every buffer.
 
+use ofec::capi;
 use ofec_tests::bits;
 use ofec_tests::compare::{compare, compare_refused, misfits, refused_beyond_32_bits};
-use ofec_tests::ffi;
 use ofec_tests::interleaver::{self, source, Source, BUFFER_BITS, BUFFER_BYTES, PAIRS_BYTES};
 use ofec_tests::outcome::{Outcome, MISFIT};
 use ofec_tests::random::Random;
@@ -15,7 +15,7 @@ fn interleave(pairs: [&[u8]; 2], random: &mut Random) -> Vec<u8> {
     let lent = random.bytes(BUFFER_BYTES);
     let (outcome, [_, _, bits]) = compare(
         [pairs[0], pairs[1], &lent],
-        |[pairs0, pairs1, bits]| ffi::line::interleave(pairs0, pairs1, bits),
+        |[pairs0, pairs1, bits]| capi::interleave(pairs0, pairs1, bits),
         |[pairs0, pairs1, bits]| interleaver::interleave(pairs0, pairs1, bits),
     );
     assert_eq!(outcome, Outcome::accepted(0));
@@ -27,7 +27,7 @@ fn deinterleave(bits: &[u8], random: &mut Random) -> [Vec<u8>; 2] {
     let lent = [0; 2].map(|_| random.bytes(PAIRS_BYTES));
     let (outcome, [_, pairs0, pairs1]) = compare(
         [bits, &lent[0], &lent[1]],
-        |[bits, pairs0, pairs1]| ffi::line::deinterleave(bits, pairs0, pairs1),
+        |[bits, pairs0, pairs1]| capi::deinterleave(bits, pairs0, pairs1),
         |[bits, pairs0, pairs1]| interleaver::deinterleave(bits, pairs0, pairs1),
     );
     assert_eq!(outcome, Outcome::accepted(0));
@@ -127,7 +127,7 @@ fn wrong_lengths_are_refused_and_touch_nothing() {
         compare_refused(
             Outcome::refused(MISFIT),
             lent.each_ref().map(|bytes| &bytes[..]),
-            |[pairs0, pairs1, bits]| ffi::line::interleave(pairs0, pairs1, bits),
+            |[pairs0, pairs1, bits]| capi::interleave(pairs0, pairs1, bits),
             |[pairs0, pairs1, bits]| interleaver::interleave(pairs0, pairs1, bits),
         );
     }
@@ -136,7 +136,7 @@ fn wrong_lengths_are_refused_and_touch_nothing() {
         compare_refused(
             Outcome::refused(MISFIT),
             lent.each_ref().map(|bytes| &bytes[..]),
-            |[bits, pairs0, pairs1]| ffi::line::deinterleave(bits, pairs0, pairs1),
+            |[bits, pairs0, pairs1]| capi::deinterleave(bits, pairs0, pairs1),
             |[bits, pairs0, pairs1]| interleaver::deinterleave(bits, pairs0, pairs1),
         );
     }
@@ -146,9 +146,9 @@ fn wrong_lengths_are_refused_and_touch_nothing() {
 fn lengths_beyond_32_bits_are_refused() {
     let refused = Outcome::refused(MISFIT);
     refused_beyond_32_bits(refused, INTERLEAVE_LENGTHS, |[pairs0, pairs1, bits]| {
-        ffi::line::interleave(pairs0, pairs1, bits)
+        capi::interleave(pairs0, pairs1, bits)
     });
     refused_beyond_32_bits(refused, DEINTERLEAVE_LENGTHS, |[bits, pairs0, pairs1]| {
-        ffi::line::deinterleave(bits, pairs0, pairs1)
+        capi::deinterleave(bits, pairs0, pairs1)
     });
 }

@@ -1,7 +1,7 @@
 //! `ofec_open_line`, `ofec_read_line` and `ofec_write_header` against the reference.
 
+use ofec::capi;
 use ofec_tests::compare::{compare, compare_refused, refused_beyond_32_bits};
-use ofec_tests::ffi;
 use ofec_tests::line_file::{self, Header, HEADER_BYTES, SUPERFRAME_BYTES};
 use ofec_tests::outcome::{Line, Outcome, BAD_HEADER, MISFIT, NO_SUCH_FRAME};
 use ofec_tests::random::Random;
@@ -30,14 +30,15 @@ impl File {
 
     /// The numbers of the open file, or the refusal, the same on both sides.
     fn open(&self) -> Line {
-        let line = ffi::line::open_line(self.lent());
+        let line = Line::from(capi::open_line(self.lent()));
         assert_eq!(line, line_file::open_line(self.lent()));
         line
     }
 
     /// The same on both sides.
     fn read(&self, line: Line, superframe: u32, subframe: u32) -> Outcome {
-        let outcome = ffi::line::read_line(self.lent(), line, superframe, subframe);
+        let answer = capi::read_line(self.lent(), line.into(), superframe, subframe);
+        let outcome = Outcome::from(answer);
         let expected = line_file::read_line(self.lent(), line, superframe, subframe);
         assert_eq!(outcome, expected);
         outcome
@@ -379,12 +380,12 @@ fn files_are_only_read() {
         let lent = [&file[..]];
         let (_, [opened]) = compare(
             lent,
-            |[file]| ffi::line::open_line(file),
+            |[file]| capi::open_line(file),
             |[file]| line_file::open_line(file),
         );
         let (_, [read]) = compare(
             lent,
-            |[file]| ffi::line::read_line(file, header.line(), 0, round),
+            |[file]| capi::read_line(file, header.line().into(), 0, round),
             |[file]| line_file::read_line(file, header.line(), 0, round),
         );
         assert!(opened == file && read == file);
@@ -408,7 +409,7 @@ fn headers_are_written_for_1_to_64_super_frames() {
     ]);
     numbers.extend((0..50).map(|_| random.next_u64() as u32));
     for superframes in numbers {
-        let library = |[header]: [&mut [u8]; 1]| ffi::line::write_header(superframes, header);
+        let library = |[header]: [&mut [u8]; 1]| capi::write_header(superframes, header);
         let reference = |[header]: [&mut [u8]; 1]| line_file::write_header(superframes, header);
         let lent = random.bytes(HEADER_BYTES);
         if (1..=64).contains(&superframes) {
@@ -432,7 +433,7 @@ fn headers_are_written_for_1_to_64_super_frames() {
     }
     for superframes in [1, 65] {
         refused_beyond_32_bits(Outcome::refused(MISFIT), [HEADER_BYTES], |[header]| {
-            ffi::line::write_header(superframes, header)
+            capi::write_header(superframes, header)
         });
     }
 }
@@ -441,10 +442,8 @@ fn headers_are_written_for_1_to_64_super_frames() {
 #[test]
 fn header_of_one_super_frame() {
     let mut header = [0; HEADER_BYTES];
-    assert_eq!(
-        ffi::line::write_header(1, &mut header),
-        Outcome::accepted(0)
-    );
+    let outcome = Outcome::from(capi::write_header(1, &mut header));
+    assert_eq!(outcome, Outcome::accepted(0));
     let example = [0, 0, 0, 1, 0, 0, 0, 16, 0, 0, 0x30, 0x10, 0, 5, 0xa0, 0x10];
     assert_eq!(header, example);
     let mut file = vec![0; 368_656];
@@ -455,9 +454,7 @@ fn header_of_one_super_frame() {
         overhead: 16,
         frames: 12_304,
     };
-    assert_eq!(ffi::line::open_line(&file), line);
-    assert_eq!(
-        ffi::line::read_line(&file, line, 0, 1),
-        stretch(12_304 + 7_424)
-    );
+    assert_eq!(Line::from(capi::open_line(&file)), line);
+    let outcome = Outcome::from(capi::read_line(&file, line.into(), 0, 1));
+    assert_eq!(outcome, stretch(12_304 + 7_424));
 }

@@ -3,9 +3,9 @@
 
 use std::ops::RangeInclusive;
 
+use ofec::capi;
 use ofec_tests::bits;
 use ofec_tests::compare::{compare, compare_refused, misfit, misfits, refused_beyond_32_bits};
-use ofec_tests::ffi;
 use ofec_tests::outcome::{Outcome, COUNT_SPENT, MISFIT};
 use ofec_tests::random::Random;
 use ofec_tests::rows::{
@@ -26,7 +26,7 @@ const RECEIVE_LENGTHS: [usize; 4] = [PAIR_BYTES, PAYLOAD_BYTES, MARKS, HISTORY_B
 fn encode(lent: [&[u8]; 3], pair: u32) -> (Outcome, [Vec<u8>; 3]) {
     compare(
         lent,
-        |[payload, coded, history]| ffi::rows::encode_pair(payload, coded, history, pair),
+        |[payload, coded, history]| capi::encode_pair(payload, coded, history, pair),
         |[payload, coded, history]| rows::encode_pair(payload, coded, history, pair),
     )
 }
@@ -34,9 +34,7 @@ fn encode(lent: [&[u8]; 3], pair: u32) -> (Outcome, [Vec<u8>; 3]) {
 fn receive(lent: [&[u8]; 4], pair: u32) -> (Outcome, [Vec<u8>; 4]) {
     compare(
         lent,
-        |[coded, payload, marks, history]| {
-            ffi::rows::receive_pair(coded, payload, marks, history, pair)
-        },
+        |[coded, payload, marks, history]| capi::receive_pair(coded, payload, marks, history, pair),
         |[coded, payload, marks, history]| rows::receive_pair(coded, payload, marks, history, pair),
     )
 }
@@ -45,7 +43,7 @@ fn refused_encode(refusal: u32, lent: [&[u8]; 3], pair: u32) {
     compare_refused(
         Outcome::refused_pair(refusal, pair),
         lent,
-        |[payload, coded, history]| ffi::rows::encode_pair(payload, coded, history, pair),
+        |[payload, coded, history]| capi::encode_pair(payload, coded, history, pair),
         |[payload, coded, history]| rows::encode_pair(payload, coded, history, pair),
     );
 }
@@ -54,9 +52,7 @@ fn refused_receive(refusal: u32, lent: [&[u8]; 4], pair: u32) {
     compare_refused(
         Outcome::refused_pair(refusal, pair),
         lent,
-        |[coded, payload, marks, history]| {
-            ffi::rows::receive_pair(coded, payload, marks, history, pair)
-        },
+        |[coded, payload, marks, history]| capi::receive_pair(coded, payload, marks, history, pair),
         |[coded, payload, marks, history]| rows::receive_pair(coded, payload, marks, history, pair),
     );
 }
@@ -450,13 +446,11 @@ fn wrong_lengths_are_refused_before_the_number_and_touch_nothing() {
 fn lengths_beyond_32_bits_are_refused() {
     let refused = Outcome::refused_pair(MISFIT, 10);
     refused_beyond_32_bits(refused, ENCODE_LENGTHS, |[payload, coded, history]| {
-        ffi::rows::encode_pair(payload, coded, history, 10)
+        capi::encode_pair(payload, coded, history, 10)
     });
     refused_beyond_32_bits(
         refused,
         RECEIVE_LENGTHS,
-        |[coded, payload, marks, history]| {
-            ffi::rows::receive_pair(coded, payload, marks, history, 10)
-        },
+        |[coded, payload, marks, history]| capi::receive_pair(coded, payload, marks, history, 10),
     );
 }

@@ -1,6 +1,6 @@
 //! `ofec_repair_word` against the reference: answer and bytes of every call.
 
-use ofec_tests::ffi;
+use ofec::capi;
 use ofec_tests::outcome::{Outcome, MISFIT};
 use ofec_tests::random::Random;
 use ofec_tests::word::{self, Trial, Word, BACK, LOST, WORD_BITS, WORD_BYTES};
@@ -51,7 +51,7 @@ impl Comparison {
         let mut expected = buffer;
         expected[WORD_BYTES..2 * WORD_BYTES].copy_from_slice(&repaired);
 
-        let outcome = ffi::word::repair_word(&mut buffer[WORD_BYTES..2 * WORD_BYTES], front);
+        let outcome = capi::repair_word(&mut buffer[WORD_BYTES..2 * WORD_BYTES], front).into();
         assert_eq!(
             (outcome, buffer),
             (Outcome::accepted(number), expected),
@@ -209,7 +209,7 @@ fn wrong_lengths_are_refused_and_touch_nothing() {
             let expected = buffer.clone();
             for front in [1, 0] {
                 let lent = &mut buffer[WORD_BYTES..WORD_BYTES + length];
-                let outcome = ffi::word::repair_word(lent, front);
+                let outcome = Outcome::from(capi::repair_word(lent, front));
                 assert_eq!(outcome, Outcome::refused(MISFIT), "length {length}");
                 assert!(
                     buffer == expected,

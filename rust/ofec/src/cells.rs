@@ -24,7 +24,7 @@ pub const CELLS_BYTES: usize = 2 * BITS_BYTES;
 /// # Ok::<(), ofec::Refusal>(())
 /// ```
 pub fn bits_to_cells(bits: &[u8], cells: &mut [u8]) -> Result<(), Refusal> {
-    capi::bits_to_cells(bits, cells).map(|_| ())
+    capi::bits_to_cells(bits, cells).done().map(|_| ())
 }
 
 /// Maps a buffer's `cells` to its `bits`: the inverse of [`bits_to_cells`].
@@ -46,5 +46,5 @@ pub fn bits_to_cells(bits: &[u8], cells: &mut [u8]) -> Result<(), Refusal> {
 /// # Ok::<(), ofec::Refusal>(())
 /// ```
 pub fn cells_to_bits(cells: &[u8], bits: &mut [u8]) -> Result<(), Refusal> {
-    capi::cells_to_bits(cells, bits).map(|_| ())
+    capi::cells_to_bits(cells, bits).done().map(|_| ())
 }

@@ -63,7 +63,9 @@ pub fn frame(
     overhead: &[u8],
     frame: &mut [u8],
 ) -> Result<(), Refusal> {
-    capi::frame(number, payload, overhead, frame).map(|_| ())
+    capi::frame(number, payload, overhead, frame)
+        .done()
+        .map(|_| ())
 }
 
 /// Unframes sub-frame `number`: the buffers are those of [`frame`](frame()), the payload written.
@@ -95,5 +97,7 @@ pub fn unframe(
     overhead: &[u8],
     payload: &mut [u8],
 ) -> Result<u32, Refusal> {
-    capi::unframe(number, frame, overhead, payload).map(|done| done.value)
+    capi::unframe(number, frame, overhead, payload)
+        .done()
+        .map(|done| done.value)
 }

@@ -28,7 +28,7 @@ pub const BITS_BYTES: usize = 21_504;
 /// # Ok::<(), ofec::Refusal>(())
 /// ```
 pub fn interleave(pairs0: &[u8], pairs1: &[u8], bits: &mut [u8]) -> Result<(), Refusal> {
-    capi::interleave(pairs0, pairs1, bits).map(|_| ())
+    capi::interleave(pairs0, pairs1, bits).done().map(|_| ())
 }
 
 /// Takes a buffer's `bits` apart to the pairs of two encoders: the inverse of [`interleave`].
@@ -48,5 +48,5 @@ pub fn interleave(pairs0: &[u8], pairs1: &[u8], bits: &mut [u8]) -> Result<(), R
 /// # Ok::<(), ofec::Refusal>(())
 /// ```
 pub fn deinterleave(bits: &[u8], pairs0: &mut [u8], pairs1: &mut [u8]) -> Result<(), Refusal> {
-    capi::deinterleave(bits, pairs0, pairs1).map(|_| ())
+    capi::deinterleave(bits, pairs0, pairs1).done().map(|_| ())
 }

@@ -13,6 +13,7 @@
 //! | [`frame`] | payload and overhead cells to the sub-frames of a super-frame, and back |
 //! | [`line_file`] | [`LineFile`] and the header of a line file |
 //! | [`refusal`] | why a call is refused |
+//! | [`capi`] | the C interface, call by call, on which the others stand |
 //!
 //! Each module names the lengths of its buffers. A buffer of another length is refused with
 //! [`Refusal::Misfit`]; a refused call leaves every buffer and every state as it was.
@@ -40,7 +41,7 @@
 #![deny(missing_docs)]
 #![deny(unsafe_code)]
 
-mod capi;
+pub mod capi;
 pub mod cells;
 pub mod frame;
 pub mod interleaver;

@@ -23,7 +23,7 @@ pub const HEADER_BYTES: usize = 16;
 /// # Ok::<(), ofec::Refusal>(())
 /// ```
 pub fn write_header(superframes: u32, header: &mut [u8]) -> Result<(), Refusal> {
-    capi::write_header(superframes, header).map(|_| ())
+    capi::write_header(superframes, header).done().map(|_| ())
 }
 
 /// An open line file: the file's bytes with its header numbers.
@@ -53,7 +53,7 @@ pub fn write_header(superframes: u32, header: &mut [u8]) -> Result<(), Refusal> 
 #[derive(Debug, Clone, Copy)]
 pub struct LineFile<'a> {
     bytes: &'a [u8],
-    header: capi::Header,
+    line: capi::Line,
 }
 
 impl<'a> LineFile<'a> {
@@ -61,25 +61,25 @@ impl<'a> LineFile<'a> {
     ///
     /// Refusals: [`Refusal::Misfit`] under 16 bytes, [`Refusal::BadHeader`].
     pub fn open(bytes: &'a [u8]) -> Result<Self, Refusal> {
-        let header = capi::open_line(bytes)?;
-        Ok(LineFile { bytes, header })
+        let line = capi::open_line(bytes).done()?;
+        Ok(LineFile { bytes, line })
     }
 
     /// The number of super-frames, 1 to 64.
     pub fn superframes(&self) -> u32 {
-        self.header.superframes
+        self.line.superframes
     }
 
     /// The overhead list's stretch of the file.
     pub fn overhead(&self) -> &'a [u8] {
-        &self.bytes[self.header.overhead as usize..][..OVERHEAD_BYTES]
+        &self.bytes[self.line.overhead as usize..][..OVERHEAD_BYTES]
     }
 
     /// A sub-frame's stretch of the file, [`FRAME_BYTES`](crate::frame::FRAME_BYTES) long.
     ///
     /// Refusals: [`Refusal::NoSuchFrame`].
     pub fn subframe(&self, superframe: u32, subframe: u32) -> Result<&'a [u8], Refusal> {
-        let done = capi::read_line(self.bytes, self.header, superframe, subframe)?;
+        let done = capi::read_line(self.bytes, self.line, superframe, subframe).done()?;
         Ok(&self.bytes[done.index as usize..][..done.value as usize])
     }
 }

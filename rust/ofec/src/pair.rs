@@ -75,7 +75,8 @@ impl Encoder {
     /// Refusals: [`Refusal::Misfit`], [`Refusal::CountSpent`].
     pub fn encode(&mut self, payload: &[u8], coded: &mut [u8]) -> Result<(), Refusal> {
         let State { history, pair } = &mut self.state;
-        *pair = capi::encode_pair(payload, coded, history, *pair)?.value;
+        let done = capi::encode_pair(payload, coded, history, *pair).done()?;
+        *pair = done.value;
         Ok(())
     }
 }
@@ -140,7 +141,8 @@ impl Receiver {
     pub fn receive(&mut self, coded: &[u8], payload: &mut [u8]) -> Result<[Mark; WORDS], Refusal> {
         let State { history, pair } = &mut self.state;
         let mut marks = [0; WORDS];
-        *pair = capi::receive_pair(coded, payload, &mut marks, history, *pair)?.value;
+        let done = capi::receive_pair(coded, payload, &mut marks, history, *pair).done()?;
+        *pair = done.value;
         Ok(marks.map(Mark::of))
     }
 }

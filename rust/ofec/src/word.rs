@@ -84,6 +84,7 @@ impl Mark {
 /// # Ok::<(), ofec::Refusal>(())
 /// ```
 pub fn repair(word: &mut [u8], reach: Reach) -> Result<Mark, Refusal> {
-    let done = capi::repair_word(word, reach == Reach::WholeWord)?;
+    let front = u32::from(reach == Reach::WholeWord);
+    let done = capi::repair_word(word, front).done()?;
     Ok(Mark::of(done.value as u8))
 }

@@ -1,7 +1,9 @@
 //! The eight calls of the chain.
 
+use ofec::capi;
+
 use crate::outcome::Outcome;
-use crate::{cells, ffi, frames, interleaver, rows};
+use crate::{cells, frames, interleaver, rows};
 
 pub type Encode = fn(&[u8], &mut [u8], &mut [u8], u32) -> Outcome;
 pub type Receive = fn(&[u8], &mut [u8], &mut [u8], &mut [u8], u32) -> Outcome;
@@ -21,14 +23,20 @@ pub struct Calls {
 }
 
 pub const LIBRARY: Calls = Calls {
-    encode_pair: ffi::rows::encode_pair,
-    interleave: ffi::line::interleave,
-    bits_to_cells: ffi::line::bits_to_cells,
-    frame: ffi::line::frame,
-    unframe: ffi::line::unframe,
-    cells_to_bits: ffi::line::cells_to_bits,
-    deinterleave: ffi::line::deinterleave,
-    receive_pair: ffi::rows::receive_pair,
+    encode_pair: |payload, coded, history, pair| {
+        capi::encode_pair(payload, coded, history, pair).into()
+    },
+    interleave: |pairs0, pairs1, bits| capi::interleave(pairs0, pairs1, bits).into(),
+    bits_to_cells: |bits, cells| capi::bits_to_cells(bits, cells).into(),
+    frame: |number, payload, overhead, frame| capi::frame(number, payload, overhead, frame).into(),
+    unframe: |number, frame, overhead, payload| {
+        capi::unframe(number, frame, overhead, payload).into()
+    },
+    cells_to_bits: |cells, bits| capi::cells_to_bits(cells, bits).into(),
+    deinterleave: |bits, pairs0, pairs1| capi::deinterleave(bits, pairs0, pairs1).into(),
+    receive_pair: |coded, payload, marks, history, pair| {
+        capi::receive_pair(coded, payload, marks, history, pair).into()
+    },
 };
 
 pub const REFERENCE: Calls = Calls {

@@ -1,6 +1,6 @@
 //! How times grow with the number of super-frames.
 
-use ofec_tests::ffi;
+use ofec_tests::chain::calls::LIBRARY;
 use ofec_tests::random::Random;
 use ofec_tests::rows::{self, PAIR_BYTES, PAYLOAD_BYTES};
 
@@ -20,13 +20,13 @@ pub fn run(random: &mut Random) {
     let payloads = SUPERFRAMES.map(|n| random.bytes(n * PAIRS * PAYLOAD_BYTES));
     let mut coded = SUPERFRAMES.map(|n| vec![0; n * PAIRS * PAIR_BYTES]);
     row("encode, library", |i| {
-        encode_all(ffi::rows::encode_pair, &payloads[i], &mut coded[i])
+        encode_all(LIBRARY.encode_pair, &payloads[i], &mut coded[i])
     });
     row("encode, written apart", |i| {
         encode_all(rows::encode_pair, &payloads[i], &mut coded[i])
     });
     row("receive clean pairs, library", |i| {
-        let received = receive_all(ffi::rows::receive_pair, &coded[i]);
+        let received = receive_all(LIBRARY.receive_pair, &coded[i]);
         assert!(received.payloads == payloads[i]);
     });
     row("receive clean pairs, written apart", |i| {

@@ -1,8 +1,8 @@
 //! The calls of the line, each by itself.
 
+use ofec::capi;
 use ofec_tests::cells::{self, CELLS_BYTES};
-use ofec_tests::chain::calls::Framing;
-use ofec_tests::ffi;
+use ofec_tests::chain::calls::{Framing, LIBRARY};
 use ofec_tests::frames::{self, payload_bytes, FRAME_BYTES, OVERHEAD_BYTES, SUBFRAMES};
 use ofec_tests::interleaver::{self, BUFFER_BYTES, PAIRS_BYTES};
 use ofec_tests::outcome::Outcome;
@@ -16,7 +16,7 @@ pub fn run(random: &mut Random) {
     three(
         "interleave a buffer",
         vec![0; BUFFER_BYTES],
-        |bits| done(ffi::line::interleave(&pairs[0], &pairs[1], bits)),
+        |bits| done(capi::interleave(&pairs[0], &pairs[1], bits)),
         |bits| done(interleaver::interleave(&pairs[0], &pairs[1], bits)),
         |bits| done(same_structure::interleave(&pairs[0], &pairs[1], bits)),
     );
@@ -25,7 +25,7 @@ pub fn run(random: &mut Random) {
     three(
         "take a buffer apart",
         [0; 2].map(|_| vec![0; PAIRS_BYTES]),
-        |[pairs0, pairs1]| done(ffi::line::deinterleave(&bits, pairs0, pairs1)),
+        |[pairs0, pairs1]| done(capi::deinterleave(&bits, pairs0, pairs1)),
         |[pairs0, pairs1]| done(interleaver::deinterleave(&bits, pairs0, pairs1)),
         |[pairs0, pairs1]| done(same_structure::deinterleave(&bits, pairs0, pairs1)),
     );
@@ -33,7 +33,7 @@ pub fn run(random: &mut Random) {
     two(
         "bits to cells, a buffer",
         vec![0; CELLS_BYTES],
-        |cells| done(ffi::line::bits_to_cells(&bits, cells)),
+        |cells| done(capi::bits_to_cells(&bits, cells)),
         |cells| done(cells::bits_to_cells(&bits, cells)),
     );
 
@@ -41,7 +41,7 @@ pub fn run(random: &mut Random) {
     two(
         "cells to bits, a buffer",
         vec![0; BUFFER_BYTES],
-        |bits| done(ffi::line::cells_to_bits(&cells, bits)),
+        |bits| done(capi::cells_to_bits(&cells, bits)),
         |bits| done(cells::cells_to_bits(&cells, bits)),
     );
 
@@ -50,7 +50,7 @@ pub fn run(random: &mut Random) {
     two(
         "frame a super-frame",
         vec![0; SUBFRAMES as usize * FRAME_BYTES],
-        |frames| frame_all(ffi::line::frame, &payload, &overhead, frames),
+        |frames| frame_all(LIBRARY.frame, &payload, &overhead, frames),
         |frames| frame_all(frames::frame, &payload, &overhead, frames),
     );
 
@@ -58,13 +58,13 @@ pub fn run(random: &mut Random) {
     two(
         "unframe a super-frame",
         vec![0; 8 * CELLS_BYTES],
-        |payload| unframe_all(ffi::line::unframe, &received, &overhead, payload),
+        |payload| unframe_all(LIBRARY.unframe, &received, &overhead, payload),
         |payload| unframe_all(frames::unframe, &received, &overhead, payload),
     );
 }
 
-fn done(outcome: Outcome) {
-    assert_eq!(outcome.refusal, 0);
+fn done(answer: impl Into<Outcome>) {
+    assert_eq!(answer.into().refusal, 0);
 }
 
 fn frame_all(frame: Framing, mut payload: &[u8], overhead: &[u8], frames: &mut [u8]) {

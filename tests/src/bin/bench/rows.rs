@@ -1,8 +1,7 @@
 //! Encoding and receiving the pairs of a super-frame.
 
 use ofec_tests::bits;
-use ofec_tests::chain::calls::{Encode, Receive};
-use ofec_tests::ffi;
+use ofec_tests::chain::calls::{Encode, Receive, LIBRARY};
 use ofec_tests::random::Random;
 use ofec_tests::rows::{self, HISTORY_BYTES, MARKS, PAIR_BYTES, PAYLOAD_BYTES};
 use ofec_tests::word::LOST;
@@ -19,7 +18,7 @@ pub fn run(random: &mut Random) -> String {
     let coded = three(
         "encode 336 pairs",
         vec![0; PAIRS * PAIR_BYTES],
-        |coded| encode_all(ffi::rows::encode_pair, &payloads, coded),
+        |coded| encode_all(LIBRARY.encode_pair, &payloads, coded),
         |coded| encode_all(rows::encode_pair, &payloads, coded),
         |coded| encode_all(same_structure::encode_pair, &payloads, coded),
     );
@@ -37,7 +36,7 @@ fn receive(damage: &str, coded: &[u8]) -> String {
     let received = three(
         &format!("receive 336 pairs, {damage}"),
         Received::default(),
-        |received| *received = receive_all(ffi::rows::receive_pair, coded),
+        |received| *received = receive_all(LIBRARY.receive_pair, coded),
         |received| *received = receive_all(rows::receive_pair, coded),
         |received| *received = receive_all(same_structure::receive_pair, coded),
     );

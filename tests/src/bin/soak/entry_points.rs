@@ -16,65 +16,57 @@ pub struct EntryPoint {
     pub call: fn(&mut Round) -> Verdict,
 }
 
+const fn entry_point(
+    name: &'static str,
+    refusals: &'static [u32],
+    call: fn(&mut Round) -> Verdict,
+) -> EntryPoint {
+    EntryPoint {
+        name,
+        refusals,
+        call,
+    }
+}
+
 pub const ENTRY_POINTS: [EntryPoint; 12] = [
-    EntryPoint {
-        name: "ofec_repair_word",
-        refusals: &[MISFIT],
-        call: pairs::repair_word,
-    },
-    EntryPoint {
-        name: "ofec_encode_pair",
-        refusals: &[MISFIT, COUNT_SPENT],
-        call: pairs::encode_pair,
-    },
-    EntryPoint {
-        name: "ofec_receive_pair",
-        refusals: &[MISFIT, COUNT_SPENT],
-        call: pairs::receive_pair,
-    },
-    EntryPoint {
-        name: "ofec_interleave",
-        refusals: &[MISFIT],
-        call: line::interleave,
-    },
-    EntryPoint {
-        name: "ofec_deinterleave",
-        refusals: &[MISFIT],
-        call: line::deinterleave,
-    },
-    EntryPoint {
-        name: "ofec_bits_to_cells",
-        refusals: &[MISFIT],
-        call: line::bits_to_cells,
-    },
-    EntryPoint {
-        name: "ofec_cells_to_bits",
-        refusals: &[MISFIT, OFF_GRID],
-        call: line::cells_to_bits,
-    },
-    EntryPoint {
-        name: "ofec_frame",
-        refusals: &[MISFIT, NO_SUCH_FRAME, OFF_GRID],
-        call: line::frame,
-    },
-    EntryPoint {
-        name: "ofec_unframe",
-        refusals: &[MISFIT, NO_SUCH_FRAME, OFF_GRID],
-        call: line::unframe,
-    },
-    EntryPoint {
-        name: "ofec_open_line",
-        refusals: &[MISFIT, BAD_HEADER],
-        call: file::open_line,
-    },
-    EntryPoint {
-        name: "ofec_read_line",
-        refusals: &[MISFIT, BAD_HEADER, NO_SUCH_FRAME],
-        call: file::read_line,
-    },
-    EntryPoint {
-        name: "ofec_write_header",
-        refusals: &[MISFIT, BAD_HEADER],
-        call: file::write_header,
-    },
+    entry_point("ofec_repair_word", &[MISFIT], pairs::repair_word),
+    entry_point(
+        "ofec_encode_pair",
+        &[MISFIT, COUNT_SPENT],
+        pairs::encode_pair,
+    ),
+    entry_point(
+        "ofec_receive_pair",
+        &[MISFIT, COUNT_SPENT],
+        pairs::receive_pair,
+    ),
+    entry_point("ofec_interleave", &[MISFIT], line::interleave),
+    entry_point("ofec_deinterleave", &[MISFIT], line::deinterleave),
+    entry_point("ofec_bits_to_cells", &[MISFIT], line::bits_to_cells),
+    entry_point(
+        "ofec_cells_to_bits",
+        &[MISFIT, OFF_GRID],
+        line::cells_to_bits,
+    ),
+    entry_point(
+        "ofec_frame",
+        &[MISFIT, NO_SUCH_FRAME, OFF_GRID],
+        line::frame,
+    ),
+    entry_point(
+        "ofec_unframe",
+        &[MISFIT, NO_SUCH_FRAME, OFF_GRID],
+        line::unframe,
+    ),
+    entry_point("ofec_open_line", &[MISFIT, BAD_HEADER], file::open_line),
+    entry_point(
+        "ofec_read_line",
+        &[MISFIT, BAD_HEADER, NO_SUCH_FRAME],
+        file::read_line,
+    ),
+    entry_point(
+        "ofec_write_header",
+        &[MISFIT, BAD_HEADER],
+        file::write_header,
+    ),
 ];

@@ -1,7 +1,7 @@
 //! The line file.
 
+use ofec::capi;
 use ofec_tests::compare::agreed;
-use ofec_tests::ffi;
 use ofec_tests::frames::{OVERHEAD_BYTES, SUBFRAMES};
 use ofec_tests::line_file::{self, Header, HEADER_BYTES, MOST_SUPERFRAMES, SUPERFRAME_BYTES};
 use ofec_tests::outcome::Line;
@@ -20,7 +20,7 @@ pub fn open_line(Round { random, .. }: &mut Round) -> Verdict {
     let (header, file) = any_file(random);
     let (line, _) = agreed(
         [&file],
-        |[file]| ffi::line::open_line(file),
+        |[file]| capi::open_line(file),
         |[file]| line_file::open_line(file),
     )
     .map_err(|difference| format!("{header:?}, {difference}"))?;
@@ -42,7 +42,7 @@ pub fn read_line(Round { random, .. }: &mut Round) -> Verdict {
     };
     let (outcome, _) = agreed(
         [&file],
-        |[file]| ffi::line::read_line(file, line, superframe, subframe),
+        |[file]| capi::read_line(file, line.into(), superframe, subframe),
         |[file]| line_file::read_line(file, line, superframe, subframe),
     )
     .map_err(|difference| {
@@ -62,7 +62,7 @@ pub fn write_header(Round { random, .. }: &mut Round) -> Verdict {
     let header = to_write(HEADER_BYTES, random);
     let (outcome, _) = agreed(
         [&header],
-        |[header]| ffi::line::write_header(superframes, header),
+        |[header]| capi::write_header(superframes, header),
         |[header]| line_file::write_header(superframes, header),
     )
     .map_err(|difference| format!("super-frames {superframes}, {difference}"))?;

@@ -1,8 +1,8 @@
 //! Interleaver, cells and super-frame.
 
+use ofec::capi;
 use ofec_tests::cells::{self, CELLS_BYTES};
 use ofec_tests::compare::agreed;
-use ofec_tests::ffi;
 use ofec_tests::frames::{self, payload_bytes, FRAME_BYTES, OVERHEAD_BYTES, SUBFRAMES};
 use ofec_tests::interleaver::{self, BUFFER_BYTES, PAIRS_BYTES};
 use ofec_tests::random::Random;
@@ -16,7 +16,7 @@ pub fn interleave(Round { random, .. }: &mut Round) -> Verdict {
     let bits = to_write(BUFFER_BYTES, random);
     let (outcome, _) = agreed(
         [&pairs[0], &pairs[1], &bits],
-        |[pairs0, pairs1, bits]| ffi::line::interleave(pairs0, pairs1, bits),
+        |[pairs0, pairs1, bits]| capi::interleave(pairs0, pairs1, bits),
         |[pairs0, pairs1, bits]| interleaver::interleave(pairs0, pairs1, bits),
     )?;
     Ok(outcome.refusal)
@@ -27,7 +27,7 @@ pub fn deinterleave(Round { random, .. }: &mut Round) -> Verdict {
     let pairs = [0; 2].map(|_| to_write(PAIRS_BYTES, random));
     let (outcome, _) = agreed(
         [&bits, &pairs[0], &pairs[1]],
-        |[bits, pairs0, pairs1]| ffi::line::deinterleave(bits, pairs0, pairs1),
+        |[bits, pairs0, pairs1]| capi::deinterleave(bits, pairs0, pairs1),
         |[bits, pairs0, pairs1]| interleaver::deinterleave(bits, pairs0, pairs1),
     )?;
     Ok(outcome.refusal)
@@ -38,7 +38,7 @@ pub fn bits_to_cells(Round { random, .. }: &mut Round) -> Verdict {
     let cells = to_write(CELLS_BYTES, random);
     let (outcome, _) = agreed(
         [&bits, &cells],
-        |[bits, cells]| ffi::line::bits_to_cells(bits, cells),
+        |[bits, cells]| capi::bits_to_cells(bits, cells),
         |[bits, cells]| cells::bits_to_cells(bits, cells),
     )?;
     Ok(outcome.refusal)
@@ -49,7 +49,7 @@ pub fn cells_to_bits(Round { random, .. }: &mut Round) -> Verdict {
     let bits = to_write(BUFFER_BYTES, random);
     let (outcome, _) = agreed(
         [&cells, &bits],
-        |[cells, bits]| ffi::line::cells_to_bits(cells, bits),
+        |[cells, bits]| capi::cells_to_bits(cells, bits),
         |[cells, bits]| cells::cells_to_bits(cells, bits),
     )?;
     Ok(outcome.refusal)
@@ -62,7 +62,7 @@ pub fn frame(Round { random, .. }: &mut Round) -> Verdict {
     let frame = to_write(FRAME_BYTES, random);
     let (outcome, _) = agreed(
         [&payload, &overhead, &frame],
-        |[payload, overhead, frame]| ffi::line::frame(number, payload, overhead, frame),
+        |[payload, overhead, frame]| capi::frame(number, payload, overhead, frame),
         |[payload, overhead, frame]| frames::frame(number, payload, overhead, frame),
     )
     .map_err(|difference| format!("number {number}, {difference}"))?;
@@ -76,7 +76,7 @@ pub fn unframe(Round { random, .. }: &mut Round) -> Verdict {
     let payload = to_write(payload_length(number, random), random);
     let (outcome, _) = agreed(
         [&frame, &overhead, &payload],
-        |[frame, overhead, payload]| ffi::line::unframe(number, frame, overhead, payload),
+        |[frame, overhead, payload]| capi::unframe(number, frame, overhead, payload),
         |[frame, overhead, payload]| frames::unframe(number, frame, overhead, payload),
     )
     .map_err(|difference| format!("number {number}, {difference}"))?;

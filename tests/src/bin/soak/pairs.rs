@@ -1,9 +1,9 @@
 //! Words and pairs.
 
+use ofec::capi;
 use ofec_tests::bits;
 use ofec_tests::chain::sending::List;
 use ofec_tests::compare::agreed;
-use ofec_tests::ffi;
 use ofec_tests::outcome::Outcome;
 use ofec_tests::random::Random;
 use ofec_tests::rows::{self, HISTORY_BYTES, MARKS, PAIR_BYTES, PAYLOAD_BYTES, SPENT};
@@ -21,7 +21,7 @@ pub fn repair_word(round: &mut Round) -> Verdict {
     let bytes = lent(damaged_word(random), random);
     let (outcome, _) = agreed(
         [&bytes],
-        |[word]| ffi::word::repair_word(word, front),
+        |[word]| capi::repair_word(word, front),
         |[word]| word::repair_word(word, front),
     )
     .map_err(|difference| format!("front {front}, word {bytes:02x?}, {difference}"))?;
@@ -53,7 +53,7 @@ pub fn encode_pair(round: &mut Round) -> Verdict {
     let history = lent(history, random);
     let (outcome, [_, _, history]) = agreed(
         [&payload, &coded, &history],
-        |[payload, coded, history]| ffi::rows::encode_pair(payload, coded, history, pair),
+        |[payload, coded, history]| capi::encode_pair(payload, coded, history, pair),
         |[payload, coded, history]| rows::encode_pair(payload, coded, history, pair),
     )
     .map_err(|difference| format!("pair {pair}, {difference}"))?;
@@ -81,9 +81,7 @@ pub fn receive_pair(round: &mut Round) -> Verdict {
     let history = lent(history, random);
     let (outcome, [_, _, _, history]) = agreed(
         [&coded, &payload, &marks, &history],
-        |[coded, payload, marks, history]| {
-            ffi::rows::receive_pair(coded, payload, marks, history, pair)
-        },
+        |[coded, payload, marks, history]| capi::receive_pair(coded, payload, marks, history, pair),
         |[coded, payload, marks, history]| rows::receive_pair(coded, payload, marks, history, pair),
     )
     .map_err(|difference| format!("pair {pair}, {difference}"))?;
