@@ -1,5 +1,4 @@
-//! Links the verified library, as `rt staticlib capi` leaves it. It becomes a part of this crate, so
-//! that a package which depends on it does not link the library itself.
+//! Links the verified library, as `rt staticlib capi` leaves it.
 
 use std::path::Path;
 use std::process::exit;

@@ -1,8 +1,10 @@
 //! An implementation written apart from the library under test, and what compares the two. They share
-//! no code, table or index formula: the code written apart never uses the crate `ofec`, through which
+//! no code, table or index formula: the code written apart never uses `capi`, through which
 //! `chain::calls`, `library`, the programs and the comparisons in `tests/` reach the library.
 
 pub mod bits;
+#[path = "../../rust/ofec/src/capi.rs"]
+pub mod capi;
 pub mod cells;
 pub mod chain;
 pub mod compare;

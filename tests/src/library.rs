@@ -1,6 +1,6 @@
 //! The library's answers in the types of the code written apart.
 
-use ofec::capi;
+use crate::capi;
 
 use crate::outcome::{Line, Outcome};
 

@@ -1,6 +1,6 @@
 //! `ofec_bits_to_cells` and `ofec_cells_to_bits` against the reference: answer and every buffer.
 
-use ofec::capi;
+use ofec_tests::capi;
 use ofec_tests::cells::{self, CELLS_BYTES, GRID};
 use ofec_tests::compare::{compare, compare_refused, misfits, refused_beyond_32_bits};
 use ofec_tests::interleaver::BUFFER_BYTES;

@@ -3,8 +3,8 @@
 
 use std::sync::LazyLock;
 
-use ofec::capi;
 use ofec_tests::bits;
+use ofec_tests::capi;
 use ofec_tests::chain::calls::{Calls, Receive, LIBRARY};
 use ofec_tests::chain::claims::{check, check_frames, wrong_bits, Breach, Out, LIMIT};
 use ofec_tests::chain::damage::Damage;

@@ -1,6 +1,6 @@
 //! `ofec_frame` and `ofec_unframe` against the reference: answer and every buffer.
 
-use ofec::capi;
+use ofec_tests::capi;
 use ofec_tests::cells::GRID;
 use ofec_tests::compare::{compare, compare_refused, misfit, misfits, refused_beyond_32_bits};
 use ofec_tests::frames::{

@@ -1,7 +1,7 @@
 //! `ofec_interleave` and `ofec_deinterleave` against the reference: answer and every buffer.
 
-use ofec::capi;
 use ofec_tests::bits;
+use ofec_tests::capi;
 use ofec_tests::compare::{compare, compare_refused, misfits, refused_beyond_32_bits};
 use ofec_tests::interleaver::{self, source, Source, BUFFER_BITS, BUFFER_BYTES, PAIRS_BYTES};
 use ofec_tests::outcome::{Outcome, MISFIT};

@@ -1,6 +1,6 @@
 //! `ofec_open_line`, `ofec_read_line` and `ofec_write_header` against the reference.
 
-use ofec::capi;
+use ofec_tests::capi;
 use ofec_tests::compare::{compare, compare_refused, refused_beyond_32_bits};
 use ofec_tests::line_file::{self, Header, HEADER_BYTES, SUPERFRAME_BYTES};
 use ofec_tests::outcome::{Line, Outcome, BAD_HEADER, MISFIT, NO_SUCH_FRAME};

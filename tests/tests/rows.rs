@@ -3,8 +3,8 @@
 
 use std::ops::RangeInclusive;
 
-use ofec::capi;
 use ofec_tests::bits;
+use ofec_tests::capi;
 use ofec_tests::compare::{compare, compare_refused, misfit, misfits, refused_beyond_32_bits};
 use ofec_tests::outcome::{Outcome, COUNT_SPENT, MISFIT};
 use ofec_tests::random::Random;

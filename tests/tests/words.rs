@@ -1,6 +1,6 @@
 //! `ofec_repair_word` against the reference: answer and bytes of every call.
 
-use ofec::capi;
+use ofec_tests::capi;
 use ofec_tests::outcome::{Outcome, MISFIT};
 use ofec_tests::random::Random;
 use ofec_tests::word::{self, Trial, Word, BACK, LOST, WORD_BITS, WORD_BYTES};

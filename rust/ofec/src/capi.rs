@@ -16,8 +16,6 @@
 //! ```
 #![allow(unsafe_code)]
 
-use crate::Refusal;
-
 /// `ofec_outcome`: what a call answers.
 #[repr(C)]
 #[derive(Debug, Clone, Copy, PartialEq, Eq)]
@@ -29,13 +27,6 @@ pub struct Outcome {
     /// At refusal 5 the index of the first illegal byte in its buffer; otherwise 0, but for
     /// [`read_line`].
     pub index: u64,
-}
-
-impl Outcome {
-    /// The answer of a call that is done, or why it is refused.
-    pub(crate) fn done(self) -> Result<Outcome, Refusal> {
-        Refusal::of(self.refusal, self.index).map_or(Ok(self), Err)
-    }
 }
 
 /// `ofec_line`: what opening a line file answers.
@@ -50,13 +41,6 @@ pub struct Line {
     pub overhead: u32,
     /// Where the frames start.
     pub frames: u32,
-}
-
-impl Line {
-    /// The numbers of an open file, or why it is refused.
-    pub(crate) fn done(self) -> Result<Line, Refusal> {
-        Refusal::of(self.refusal, 0).map_or(Ok(self), Err)
-    }
 }
 
 unsafe extern "C" {

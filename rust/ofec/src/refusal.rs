@@ -3,6 +3,8 @@
 use std::error::Error;
 use std::fmt;
 
+use crate::capi::{Line, Outcome};
+
 /// Why a call is refused; the first in this order that applies.
 ///
 /// ```
@@ -69,6 +71,20 @@ impl Refusal {
             }),
             _ => unreachable!("the library has no refusal {number}"),
         }
+    }
+}
+
+impl Outcome {
+    /// The answer of a call that is done, or why it is refused.
+    pub(crate) fn done(self) -> Result<Outcome, Refusal> {
+        Refusal::of(self.refusal, self.index).map_or(Ok(self), Err)
+    }
+}
+
+impl Line {
+    /// The numbers of an open file, or why it is refused.
+    pub(crate) fn done(self) -> Result<Line, Refusal> {
+        Refusal::of(self.refusal, 0).map_or(Ok(self), Err)
     }
 }
 

@@ -1,6 +1,6 @@
 //! The eight calls of the chain.
 
-use ofec::capi;
+use crate::capi;
 
 use crate::outcome::Outcome;
 use crate::{cells, frames, interleaver, rows};

@@ -1,6 +1,6 @@
 //! The calls of the line, each by itself.
 
-use ofec::capi;
+use ofec_tests::capi;
 use ofec_tests::cells::{self, CELLS_BYTES};
 use ofec_tests::chain::calls::{Framing, LIBRARY};
 use ofec_tests::frames::{self, payload_bytes, FRAME_BYTES, OVERHEAD_BYTES, SUBFRAMES};

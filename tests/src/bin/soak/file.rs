@@ -1,6 +1,6 @@
 //! The line file.
 
-use ofec::capi;
+use ofec_tests::capi;
 use ofec_tests::compare::agreed;
 use ofec_tests::frames::{OVERHEAD_BYTES, SUBFRAMES};
 use ofec_tests::line_file::{self, Header, HEADER_BYTES, MOST_SUPERFRAMES, SUPERFRAME_BYTES};

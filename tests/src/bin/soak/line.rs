@@ -1,6 +1,6 @@
 //! Interleaver, cells and super-frame.
 
-use ofec::capi;
+use ofec_tests::capi;
 use ofec_tests::cells::{self, CELLS_BYTES};
 use ofec_tests::compare::agreed;
 use ofec_tests::frames::{self, payload_bytes, FRAME_BYTES, OVERHEAD_BYTES, SUBFRAMES};

@@ -1,7 +1,7 @@
 //! Words and pairs.
 
-use ofec::capi;
 use ofec_tests::bits;
+use ofec_tests::capi;
 use ofec_tests::chain::sending::List;
 use ofec_tests::compare::agreed;
 use ofec_tests::outcome::Outcome;
