@@ -36,7 +36,7 @@ use Rattle.line.specs.Demand3.{Goes}
 use Rattle.line.specs.LineLaws.{length-buffers, getD-buffers, encoder-lt, pairsOf-side, outputBit-for, pairs-bit, OnLine, byte-buffer, byte-place, cell-lt, line-bit}
 
 -- The coded pair of an accepted call stands at its number.
-coded-at : (cs : List Encoding) {P : ℕ} {c : Encoding} → At (accepted Encodings cs) P c → getD (codedPairs cs) P [] ≡ encode c .coded
+pub coded-at : (cs : List Encoding) {P : ℕ} {c : Encoding} → At (accepted Encodings cs) P c → getD (codedPairs cs) P [] ≡ encode c .coded
 unfolding codedPairs
 coded-at cs a = At-map (λ (c : Encoding). encode c .coded) [] a
 

@@ -60,19 +60,23 @@ module _ (cs : List Encoding) where
           ap (λ (x : Encoded). state (x .history) (valueOr (x .answer) (c .pair))) (ok .1)
           ∙ ap₂ state (ap₂ shift eh (ap₂ (λ h P. encoded h P (c .payload)) eh ep ∙ ap (encoded (encoderHistory (payloads cs) i) i) ey)) (omega arith)
 
-  -- From fresh, whatever refused calls stand between, the coded pair of each accepted call holds the bits that the formulas fix.
+  -- From fresh, whatever refused calls stand between, the coded pair of each accepted call is the one of that history,
+  pub coded-made : {t : State} → Run Encodings start cs t → (P : ℕ) (c : Encoding) → At (accepted Encodings cs) P c
+      → encode c .coded ≡ encoded (encoderHistory (payloads cs) P) P (getD (payloads cs) P [])
+  coded-made run P c a =
+      let lent = encoder-lent run P c a in
+      let ok = encode-accepted c (is-accepted Encodings cs a) in
+      let eh : c .history ≡ encoderHistory (payloads cs) P = ap (λ (s : State). s .history) lent in
+      let ep : c .pair ≡ P = ap (λ (s : State). s .pair) lent in
+      ap (λ (x : Encoded). x .coded) (ok .1) ∙ ap₂ (λ h Q. encoded h Q (c .payload)) eh ep
+      ∙ ap (encoded (encoderHistory (payloads cs) P) P) (sym (given-at a))
+
+  -- and holds the bits that the formulas fix.
   pub coded-sent : {t : State} → Run Encodings start cs t → (v : RowBits) → Sent (payloads cs) v → (P : ℕ) (c : Encoding) → At (accepted Encodings cs) P c
       → Holds v P (encode c .coded)
   coded-sent run v sent P c a =
-      let lent = encoder-lent run P c a in
-      let ok = encode-accepted c (is-accepted Encodings cs a) in
       let within : P < length (payloads cs) = payloads-lt a in
-      let eh : c .history ≡ encoderHistory (payloads cs) P = ap (λ (s : State). s .history) lent in
-      let ep : c .pair ≡ P = ap (λ (s : State). s .pair) lent in
-      let same : encode c .coded ≡ encoded (encoderHistory (payloads cs) P) P (getD (payloads cs) P []) =
-      ap (λ (x : Encoded). x .coded) (ok .1) ∙ ap₂ (λ h Q. encoded h Q (c .payload)) eh ep
-      ∙ ap (encoded (encoderHistory (payloads cs) P) P) (sym (given-at a)) in
-      subst (λ q. Holds v P q) (sym same) (encoded-holds sent (encoder-right sent P (omega arith)) within)
+      subst (λ q. Holds v P q) (sym (coded-made run P c a)) (encoded-holds sent (encoder-right sent P (omega arith)) within)
 
 -- ---- one word of an accepted call on pair R div 2, whose history is right and whose pair was delivered
 

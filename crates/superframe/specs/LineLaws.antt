@@ -1,12 +1,21 @@
--- The frames of demand 3's line are super-frames made of the coded pairs of the accepted calls, 168 of either encoder each.
+-- The frames of demand 3's line are super-frames made of the coded pairs of the accepted calls, 168 of either encoder each; and so of their
+-- payloads, encoded from fresh.
 -- Assumes nothing.
 use mathlib.Core.Path.{_≡_, refl, sym, ap, ap₂, _∙_}
 use mathlib.Core.List.{List, []}
-use Prim.Native.Nat.{ℕ, _+_, _*_, _/_, _%_, _<_, _≤_}
+use Prim.Native.Nat.{ℕ, zero, suc, _+_, _*_, _/_, _%_, _<_, _≤_}
 use native.Mathlib.Omega.{arith}
 use lib.Dec.{lit<}
 use lib.ListN.{length, getD}
-use Rattle.bits.specs.ListLaws.{is-tabulate}
+use Rattle.bits.specs.ListLaws.{is-tabulate, tabulate-ext}
+use Rattle.calls.specs.Sequences.{accepted}
+use Rattle.calls.specs.SequenceLaws.{At-find}
+use Rattle.ofec.specs.History.{fresh}
+use Rattle.ofec.specs.HistoryLaws.{historyAfter}
+use Rattle.ofec.specs.Encoding.{encoded}
+use Rattle.ofec.specs.SentLaws.{encoderHistory}
+use Rattle.ofec.specs.Calls.{Encodings, payloads}
+use Rattle.ofec.specs.PromiseLaws.{coded-made}
 use Rattle.interleaving.specs.Interleaving.{interleaved}
 use Rattle.cells.specs.Cells.{toCells}
 use Rattle.frames.specs.Frames.{payloadCells, payloadStart, ownOverhead, framed}
@@ -14,9 +23,11 @@ use Rattle.frames.specs.FrameLaws.{framed-length}
 use Rattle.line.specs.Sides.{Side, side0, side1}
 use Rattle.line.specs.Outward as outward
 use Rattle.line.specs.Outward.{Outward, codedPairs, pairsOfBuffer, mapping, payloadByte, framePayload}
-use Rattle.line.specs.OutwardLaws.{cells-are, frame-is}
+use Rattle.line.specs.OutwardLaws.{coded-at, cells-are, frame-is}
 use Rattle.superframe.specs.Superframe.{part, byteOfEach, endToEnd, bufferCells, payload, subFrame, frames, superframe}
 use Rattle.superframe.specs.SuperframeLaws.{part-length, part-at, endToEnd-length, endToEnd-at, part-endToEnd, payload-within}
+use Rattle.superframe.specs.Stream.{historyAt, pairAt, pairPayload, codedOf, historyOver, historyBefore}
+use Rattle.superframe.specs.StreamLaws.{historyAt-ext, historyAt-more, from-fresh}
 
 -- The coded pairs of super-frame q, end to end.
 unfoldable pub pairsOf : Outward → ℕ → Side → List ℕ
@@ -79,3 +90,55 @@ module _ (o : Outward) (q : ℕ) where
 
       super : (48 * q + s) / 48 ≡ q
       super = omega arith
+
+-- ---- from the payloads
+
+-- S gives the payload of each super-frame of each encoder, 168 pairs of 444 bytes.
+module _ (o : Outward) (S : Side → ℕ → List ℕ)
+    (given : (e : Side) (q k : ℕ) → q < o .superframes → k < 168 → getD (payloads (o .calls e)) (168 * q + k) [] ≡ pairPayload (S e q) k) where
+  -- The history before each pair is the encoder's,
+  history-in : (e : Side) (q k : ℕ) → q < o .superframes → k ≤ 168 → historyBefore (S e) q ≡ encoderHistory (payloads (o .calls e)) (168 * q)
+      → historyAt (historyBefore (S e) q) (168 * q) (pairPayload (S e q)) k ≡ encoderHistory (payloads (o .calls e)) (168 * q + k)
+  history-in e q k lq lk is =
+      historyAt-ext (historyBefore (S e) q) (168 * q) (pairPayload (S e q)) (λ i. ys (168 * q + i)) k (λ i l. sym (given e q i lq (omega arith)))
+      ∙ ap (λ x. historyAt x (168 * q) (λ i. ys (168 * q + i)) k) (is ∙ sym (from-fresh (payloads (o .calls e)) (168 * q)))
+      ∙ ap (λ x. historyAt (historyAt (fresh 10) 0 ys (168 * q)) x (λ i. ys (168 * q + i)) k) number
+      ∙ sym (historyAt-more (fresh 10) 0 ys (168 * q) k)
+      ∙ from-fresh (payloads (o .calls e)) (168 * q + k)
+    where
+      ys : ℕ → List ℕ
+      ys i = getD (payloads (o .calls e)) i []
+
+      number : 168 * q ≡ 0 + 168 * q
+      number = omega arith
+
+  history-before : (e : Side) (q : ℕ) → q ≤ o .superframes → historyBefore (S e) q ≡ encoderHistory (payloads (o .calls e)) (168 * q)
+  unfolding historyBefore historyOver encoderHistory historyAfter
+  history-before e zero l = refl
+  history-before e (suc q) l =
+      let n : 168 * q + 168 ≡ 168 * suc q = omega arith in
+      history-in e q 168 (omega arith) (omega arith) (history-before e q (omega arith)) ∙ ap (encoderHistory (payloads (o .calls e))) n
+
+  -- so each coded pair is that of the accepted call,
+  pair-is : (e : Side) (q k : ℕ) → q < o .superframes → k < 168
+      → pairAt (historyBefore (S e) q) (168 * q) (pairPayload (S e q)) k ≡ getD (codedPairs (o .calls e)) (168 * q + k) []
+  unfolding pairAt
+  pair-is e q k lq lk =
+      let f = At-find (accepted Encodings (o .calls e)) (168 * q + k) (omega (arith, o .filled e)) in
+      ap₂ (λ x y. encoded x (168 * q + k) y) (history-in e q k lq (omega arith) (history-before e q (omega arith))) (sym (given e q k lq lk))
+      ∙ sym (coded-made (o .calls e) (o .runs e) (168 * q + k) (f .0) (f .1))
+      ∙ sym (coded-at (o .calls e) (f .1))
+
+  pairs-are : (e : Side) (q : ℕ) → q < o .superframes → codedOf (historyBefore (S e) q) (168 * q) (S e q) ≡ pairsOf o q e
+  unfolding codedOf pairsOf endToEnd
+  pairs-are e q lq =
+      tabulate-ext 86016 (byteOfEach 512 (pairAt (historyBefore (S e) q) (168 * q) (pairPayload (S e q)))) (byteOfEach 512 (λ P. getD (codedPairs (o .calls e)) (168 * q + P) []))
+      (λ y l. ap (λ x. getD x (y % 512) 0) (pair-is e q (y / 512) lq (omega arith)))
+
+  -- and the super-frame made of these payloads is the line's.
+  pub line-of-payloads : (q s : ℕ) → q < o .superframes → s < 48
+      → part (s * 7424) 7424
+      (superframe (codedOf (historyBefore (S side0) q) (168 * q) (S side0 q)) (codedOf (historyBefore (S side1) q) (168 * q) (S side1 q)) (o .overhead))
+      ≡ getD (outward.frames o) (48 * q + s) []
+  line-of-payloads q s lq ls =
+      ap₂ (λ x y. part (s * 7424) 7424 (superframe x y (o .overhead))) (pairs-are side0 q lq) (pairs-are side1 q lq) ∙ line-of-superframes o q s lq ls

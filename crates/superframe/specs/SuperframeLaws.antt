@@ -62,7 +62,7 @@ each-at f w k i pos l =
     ap₂ (λ b j. getD (f b) j 0) (mul-add-div-right pos k i ∙ ap (λ u. k + u) (div-eq-of-lt l) ∙ add-zero k) (mul-add-mod-self-right k w i ∙ mod-eq-of-lt l)
 
 -- A buffer that is f k is block k of the whole,
-each-block : (f : ℕ → List ℕ) (w k : ℕ) (ys : List ℕ) → 0 < w → length ys ≡ w → ys ≡ f k → ys ≡ tabulate w (λ i. byteOfEach w f (k * w + i))
+pub each-block : (f : ℕ → List ℕ) (w k : ℕ) (ys : List ℕ) → 0 < w → length ys ≡ w → ys ≡ f k → ys ≡ tabulate w (λ i. byteOfEach w f (k * w + i))
 each-block f w k ys pos long e =
     is-tabulate ys w (λ i. byteOfEach w f (k * w + i)) long (λ i l. ap (λ s. getD s i 0) e ∙ sym (each-at f w k i pos l))
 

@@ -1,6 +1,7 @@
 // A super-frame of the line, from the coded pairs of both encoders: the calls of interleaving, cells and framing for every buffer
 // and sub-frame.
 mod buffers;
+pub mod pairs;
 mod subframes;
 
 ghost use mathlib.Core.Path.{_≡_};

@@ -1,0 +1,20 @@
+-- `superframe::pairs::pair` meets its contract.
+-- Assumes nothing.
+use borrow.Author.Needs.{needs}
+use Rattle.superframe.specs.StreamLaws.{pairing}
+use Rattle.superframe.proofs.pairs.pair.Statement.{statement}
+use Rattle.superframe.proofs.pairs.pair.Tie as tie
+
+pub pair-spec : {M : Type 1} → statement M
+pair-spec =
+    tie.close
+    (tie.spec
+    (λ c. search needs)  -- mul-a
+    (λ c. search needs)  -- add-e
+    (λ c. search needs)  -- sub-encode-pair
+    (λ c. search needs)  -- part-encode-pair-start
+    (λ c. search needs)  -- part-encode-pair-end
+    (λ c κs. search needs)  -- encode-pair-requires
+    (λ c. search needs)  -- same-length
+    (λ c. search needs)  -- same-length-2
+    (λ c. search (needs, pairing)))  -- returns

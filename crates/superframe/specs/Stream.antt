@@ -1,0 +1,32 @@
+-- A stream of payload encoded pair by pair: the history before each pair and the coded pair, from the lent history h and pair number p on.
+-- 01, "Rows and pairs": "Encoding a pair gives its coded bytes, the shifted history and P+1."
+-- Assumes nothing.
+use mathlib.Core.List.{List}
+use Prim.Native.Nat.{ℕ, zero, suc, _+_, _*_}
+use Rattle.ofec.specs.History.{shift, fresh}
+use Rattle.ofec.specs.Encoding.{encoded}
+use Rattle.superframe.specs.Superframe.{part, endToEnd}
+
+module _ (h : List ℕ) (p : ℕ) (payloadOf : ℕ → List ℕ) where
+  unfoldable pub historyAt : ℕ → List ℕ
+  historyAt zero = h
+  historyAt (suc k) = shift (historyAt k) (encoded (historyAt k) (p + k) (payloadOf k))
+
+  unfoldable pub pairAt : ℕ → List ℕ
+  pairAt k = encoded (historyAt k) (p + k) (payloadOf k)
+
+-- The payload of pair k in that of a super-frame, 444 bytes a pair.
+abbrev pub pairPayload : List ℕ → ℕ → List ℕ
+pairPayload payload k = part (k * 444) 444 payload
+
+-- The coded pairs of a super-frame, and the history after them.
+unfoldable pub codedOf : List ℕ → ℕ → List ℕ → List ℕ
+codedOf h p payload = endToEnd 168 512 (pairAt h p (pairPayload payload))
+
+unfoldable pub historyOver : List ℕ → ℕ → List ℕ → List ℕ
+historyOver h p payload = historyAt h p (pairPayload payload) 168
+
+-- The history before super-frame q, from fresh, where S gives the payload of each super-frame.
+unfoldable pub historyBefore : (ℕ → List ℕ) → ℕ → List ℕ
+historyBefore S zero = fresh 10
+historyBefore S (suc q) = historyOver (historyBefore S q) (168 * q) (S q)
