@@ -1,9 +1,9 @@
 -- The bench values of 01 that are about single words, from the definitions.
 -- Assumes nothing.
 use mathlib.Core.Path.{_≡_, refl, sym, ap, _∙_}
-use mathlib.Core.Bool.{Bool, true, false}
+use mathlib.Core.Bool.{Bool, true}
 use mathlib.Core.List.{List, [], _∷_}
-use Prim.Native.Nat.{ℕ, zero, suc, _<_, _≤_}
+use Prim.Native.Nat.{ℕ, _<_, _≤_}
 use native.Mathlib.Omega.{arith}
 use native.Mathlib.Decide.{ℕ-discrete}
 use borrow.Author.Tests.{eq-eqb, ne-eqb}
@@ -18,12 +18,10 @@ use Rattle.bch.specs.CodeWord.{Word, generator, remainder, parity, CodeW
 use Rattle.bch.specs.Completion.{completed}
 use Rattle.bch.specs.CompletionLaws.{completed-only}
 use Rattle.bch.specs.Distance.{code-distance}
-use Rattle.bch.specs.Repair.{places, flipAll, repaired, mark, firstPlace, repair}
-use Rattle.bch.specs.Search.{Allowed}
+use Rattle.bch.specs.Repair.{places, flipAll, repaired, mark, repair}
 use Rattle.bch.specs.RepairLaws.{Bits, code-ext, mark-distance}
 use Rattle.bch.specs.RepairTheorems.{allowed-low, allowed-mark, repair-is, repair-none}
-use Rattle.bch.specs.declared.Repair.{Repair}
-use Rattle.bch.specs.declared.Repair.the-variants.{Sound, One, Two, Lost}
+use Rattle.bch.specs.declared.Repair.the-variants.{Two, Lost}
 
 -- The word whose bits are set at the places of a list.
 unfoldable pub setAt : List ℕ → Word

@@ -1,24 +1,23 @@
 -- The cases of the call that repairs a word, one law each.
 -- Assumes nothing.
 use mathlib.Core.Path.{_≡_, refl, sym, ap, _∙_}
-use mathlib.Core.Bool.{Bool, true}
+use mathlib.Core.Bool.{Bool}
 use mathlib.Core.List.{List}
-use mathlib.Core.Logic.{_≢_}
-use Prim.Native.Nat.{ℕ, _%_, _<_, _≤_}
+use Prim.Native.Nat.{ℕ, _<_}
 use native.Mathlib.Omega.{arith}
 use native.Mathlib.Decide.{ℕ-discrete}
 use borrow.Author.Tests.{eq-eqb, ne-eqb}
 use lib.ListN.{length, getD}
 use Rattle.bits.specs.Bits.{bit, pack}
-use Rattle.bits.specs.BitLaws.{bit-lt, pack-bit, pack-ext}
-use Rattle.calls.specs.Answers.{refusalOf, Accepted, TurnedBack}
+use Rattle.bits.specs.BitLaws.{pack-bit, pack-ext}
+use Rattle.calls.specs.Answers.{refusalOf, TurnedBack}
 use Rattle.calls.specs.declared.Answer.the-variants.{Done, Refused}
 use Rattle.calls.specs.declared.Refusal.the-variants.{Misfit}
 use Rattle.bch.specs.CodeWord.{Word, parity}
 use Rattle.bch.specs.Syndromes.{syndromesOf}
 use Rattle.bch.specs.Repair.{repair, repaired, mark}
 use Rattle.bch.specs.RepairLaws.{lost-unaltered}
-use Rattle.bch.specs.Calls.{Repaired, afterRepair, repairCall}
+use Rattle.bch.specs.Calls.{afterRepair, repairCall}
 use Rattle.bch.specs.declared.Repair.{Repair}
 use Rattle.bch.specs.declared.Repair.the-variants.{Sound, One, Two, Lost}
 use Rattle.bch.specs.declared.Syndromes.{Syndromes}

@@ -9,7 +9,6 @@ use Rattle.bits.specs.Bits.{bit, pack}
 use Rattle.calls.specs.declared.Answer.{Answer}
 use Rattle.calls.specs.declared.Answer.the-variants.{Done, Refused}
 use Rattle.calls.specs.declared.Refusal.the-variants.{Misfit}
-use Rattle.bch.specs.declared.Repair.{Repair}
 use Rattle.bch.specs.Repair.{repair, repaired, mark}
 
 -- The answer, and the lent word afterwards.

@@ -2,7 +2,7 @@
 -- one way to do so is a law (CompletionLaws.antt).
 -- Assumes nothing.
 use mathlib.Core.Bool.{cond}
-use Prim.Native.Nat.{ℕ, _-_, _/_, _%_, _^_}
+use Prim.Native.Nat.{_-_, _/_, _%_, _^_}
 use lib.Dec.{ltb}
 use Rattle.bits.specs.Count.{count}
 use Rattle.bch.specs.CodeWord.{Word, remainder}

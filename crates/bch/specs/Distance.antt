@@ -1,17 +1,16 @@
 -- "Two different code words differ in at least 6 bits."
 -- Assumes nothing.
-use mathlib.Core.Path.{_≡_, refl, sym, ap, ap₂, _∙_, subst}
+use mathlib.Core.Path.{_≡_, refl, sym, ap, ap₂, _∙_}
 use mathlib.Core.Logic.{_⊎_, inl, inr, ⊎-elim}
-use Prim.Native.Nat.{ℕ, zero, suc, _+_, _-_, _*_, _%_, _^_, _<_, _≤_}
-use native.Mathlib.Nat.{zero-mul, one-mul, add-zero}
+use Prim.Native.Nat.{ℕ, zero, suc, _+_, _-_, _*_, _%_, _<_, _≤_}
+use native.Mathlib.Nat.{zero-mul, one-mul}
 use native.Mathlib.Omega.{arith}
 use native.Mathlib.Decide.{ℕ-discrete, decLt}
 use lib.Dec.{lit<, lit≤}
 use Rattle.bits.specs.Count.{count, differs, distance}
-use Rattle.bits.specs.CountLaws.{Differs, same, other, tell, differs-le, differs-eq, count-zero, distance-zero}
+use Rattle.bits.specs.CountLaws.{Differs, same, other, tell, differs-le, count-zero, distance-zero}
 use Rattle.bits.specs.Xor.{_⊕_, xorSum}
 use Rattle.bits.specs.XorLaws.{⊕-zero, zero-⊕, ⊕-eq, ⊕-lt, sums, xorSum-⊕, xorSum-ext, xorSum-none, bits-⊕-times}
-use Rattle.gf256.specs.Powers.{power}
 use Rattle.gf256.specs.Field.{_·_, cube, cubes}
 use Rattle.gf256.specs.PowerLaws.{power-eq, power-lt, power-nonzero, no-zero-divisors, ·-lt}
 use Rattle.bch.specs.CodeWord.{Word, parity, CodeWord}

@@ -1,6 +1,6 @@
 -- How the syndromes tell the places: what a decoder may go by.
 -- Assumes nothing.
-use mathlib.Core.Path.{_≡_, refl, sym, ap, ap₂, _∙_, subst}
+use mathlib.Core.Path.{_≡_, refl, sym, ap, _∙_, subst}
 use mathlib.Core.Bool.{Bool, true, false, cond}
 use mathlib.Core.Logic.{_≢_}
 use Prim.Native.Nat.{ℕ, zero, suc, _+_, _-_, _*_, _%_, _<_, _≤_}
@@ -14,13 +14,11 @@ use Rattle.bits.specs.BitLaws.{flipped-at, flipped-off}
 use Rattle.bits.specs.Count.{count}
 use Rattle.bits.specs.CountLaws.{count-ext, count-suc}
 use Rattle.bits.specs.Xor.{_⊕_, xorSum}
-use Rattle.bits.specs.XorLaws.{⊕-zero, zero-⊕, ⊕-self, ⊕-eq, ⊕-cancel, ⊕-comm, ⊕-assoc, ⊕-move, sums, xorSum-⊕, xorSum-ext, xorSum-one}
+use Rattle.bits.specs.XorLaws.{⊕-zero, zero-⊕, ⊕-self, ⊕-eq, sums, xorSum-⊕, xorSum-ext, xorSum-one}
 use Rattle.gf256.specs.Field.{cube}
 use Rattle.bch.specs.CodeWord.{Word, parity, CodeWord}
-use Rattle.bch.specs.RemainderLaws.{BitsTo}
 use Rattle.bch.specs.Syndromes.{locator, S1, S3, syndromesOf}
 use Rattle.bch.specs.SyndromeLaws.{code-S1, code-S3, zero-code}
-use Rattle.bch.specs.Distance.{locator-eq}
 use Rattle.bch.specs.Repair.{places, flipAll, repaired, repair}
 use Rattle.bch.specs.Search.{Allowed}
 use Rattle.bch.specs.RepairLaws.{Bits, repaired-bits}

@@ -5,7 +5,7 @@ use mathlib.Core.Bool.{cond}
 use mathlib.Core.List.{List, [], _∷_}
 use mathlib.Core.Logic.{_≢_}
 use Prim.Native.Nat.{ℕ, zero, suc, _+_, _-_, _*_, _/_, _%_, _^_, _<_, _≤_}
-use native.Mathlib.Nat.{zero-mul, one-mul, mul-zero, mul-one, sub-zero, div-one, div-eq-of-lt, zero-lt-suc, pow-suc}
+use native.Mathlib.Nat.{zero-mul, one-mul, mul-zero, mul-one, sub-zero, div-one, div-eq-of-lt, pow-suc}
 use native.Mathlib.Omega.{arith}
 use native.Mathlib.Decide.{ℕ-discrete, decLt}
 use borrow.Author.Tests.{lt-ltb, le-ltb, ne-eqb}
@@ -15,7 +15,7 @@ use Rattle.bits.specs.Bits.{bitOf, fromBits}
 use Rattle.bits.specs.BitLaws.{fromBits-lt, bitOf-equal}
 use Rattle.bits.specs.Tests.{agree, both-left, both-right}
 use Rattle.bits.specs.Xor.{_⊕_, xorSum}
-use Rattle.bits.specs.XorLaws.{⊕-self, ⊕-zero, zero-⊕, ⊕-shr, ⊕-mod, ⊕-bit, ⊕-assoc, ⊕-comm, ⊕-cancel, ⊕-move, sums, bits-⊕-times, xorSum-first, xorSum-ext, xorSum-⊕, xorSum-none, xorSum-one}
+use Rattle.bits.specs.XorLaws.{⊕-zero, zero-⊕, ⊕-shr, ⊕-mod, sums, bits-⊕-times, xorSum-first, xorSum-ext, xorSum-⊕, xorSum-none, xorSum-one}
 use Rattle.gf256.specs.Polynomials.{coefficient, number, product, reduce}
 use Rattle.gf256.specs.Powers.{firstFactor}
 use Rattle.gf256.specs.Linear.{allBelow}

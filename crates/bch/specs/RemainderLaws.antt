@@ -1,15 +1,15 @@
 -- Laws of the remainder: it fits 16 bits, depends on the bits alone, and is linear.
 -- Assumes nothing.
 use mathlib.Core.Path.{_≡_, refl, sym, ap, ap₂, _∙_, subst}
-use mathlib.Core.List.{List, [], _∷_, map}
-use Prim.Native.Nat.{ℕ, zero, suc, _+_, _-_, _*_, _^_, _<_, _≤_}
+use mathlib.Core.List.{List, [], _∷_}
+use Prim.Native.Nat.{ℕ, zero, suc, _+_, _-_, _*_, _<_}
 use native.Mathlib.Nat.{mul-one}
 use native.Mathlib.Omega.{arith}
 use lib.Dec.{lit<}
 use Rattle.bits.specs.Xor.{_⊕_, xorSum}
 use Rattle.bits.specs.XorLaws.{⊕-lt, ⊕-four, ⊕-bit, zero-⊕, xorSum-ext}
 use Rattle.gf256.specs.Polynomials.{number, reduce}
-use Rattle.gf256.specs.Linear.{lin, units, lin-⊕, lin-lt, Linear, lin-linear, bit-through, sum-through}
+use Rattle.gf256.specs.Linear.{lin, units, lin-lt, Linear, lin-linear, bit-through, sum-through}
 use Rattle.gf256.specs.Division.{step-linear}
 use Rattle.bch.specs.CodeWord.{Word, generator, remainder}
 

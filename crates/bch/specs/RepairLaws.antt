@@ -3,22 +3,20 @@
 -- Assumes nothing.
 use mathlib.Core.Path.{_≡_, refl, sym, ap, ap₂, _∙_, subst}
 use mathlib.Core.Bool.{Bool, true, false, cond}
-use mathlib.Core.List.{List, [], _∷_, List·Memᴰ}
-use mathlib.Core.Logic.{_⊎_, inl, inr, ⊎-elim, _≢_}
-use Prim.Native.Nat.{ℕ, zero, suc, _+_, _-_, _%_, _<_, _≤_}
+use mathlib.Core.Logic.{_≢_}
+use Prim.Native.Nat.{ℕ, _+_, _-_, _%_, _<_, _≤_}
 use native.Mathlib.Omega.{arith}
-use native.Mathlib.Decide.{ℕ-discrete, decLe}
+use native.Mathlib.Decide.{ℕ-discrete}
 use borrow.Author.Tests.{eq-eqb, eqb-true}
 use lib.Dec.{eqb}
 use Rattle.bits.specs.Bits.{flipped}
 use Rattle.bits.specs.BitLaws.{flipped-at, flipped-off}
-use Rattle.bits.specs.Count.{count, differs, distance}
-use Rattle.bits.specs.CountLaws.{count-ext, count-zero, count-one, count-two, Differs, same, other, tell, differs-eq, differs-le, differs-other, differs-same, distance-none, distance-zero, distance-triangle, distance-sym, distance-ext}
+use Rattle.bits.specs.Count.{differs, distance}
+use Rattle.bits.specs.CountLaws.{count-ext, count-one, count-two, differs-other, differs-same, distance-none}
 use Rattle.bch.specs.CodeWord.{Word, remainder, parity, CodeWord, isCodeWord}
 use Rattle.bch.specs.RemainderLaws.{BitsTo, remainder-ext}
-use Rattle.bch.specs.Distance.{Last, peel, code-distance}
-use Rattle.bch.specs.Repair.{places, flipAll, repaired, mark, firstPlace, openPlaces, candidates, firstThat, repair}
-use Rattle.bch.specs.Search.{Allowed, first-passes, first-found, in-open, of-open}
+use Rattle.bch.specs.Repair.{places, flipAll, repaired, mark}
+use Rattle.bch.specs.Search.{Allowed}
 use Rattle.bch.specs.declared.Repair.{Repair}
 use Rattle.bch.specs.declared.Repair.the-variants.{Sound, One, Two, Lost}
 

@@ -1,19 +1,19 @@
 -- What repair is, over all words of 256 bits and both settings of the flag (demand 2, inward).
 -- Assumes nothing.
-use mathlib.Core.Path.{_≡_, refl, sym, ap, ap₂, _∙_, subst}
+use mathlib.Core.Path.{_≡_, refl, sym, ap, ap₂, _∙_}
 use mathlib.Core.Bool.{Bool, true, false, cond}
 use mathlib.Core.List.{List, [], _∷_}
 use mathlib.Core.Logic.{_⊎_, inl, inr, ⊎-elim, _≢_}
-use Prim.Native.Nat.{ℕ, zero, suc, _+_, _-_, _<_, _≤_}
+use Prim.Native.Nat.{ℕ, zero, suc, _-_, _<_, _≤_}
 use native.Mathlib.Omega.{arith}
 use native.Mathlib.Decide.{ℕ-discrete, decLt, decLe}
 use Rattle.bits.specs.Count.{count, differs, distance}
-use Rattle.bits.specs.CountLaws.{count-zero, Differs, same, other, tell, differs-eq, differs-le, distance-zero, distance-triangle, distance-sym, distance-ext}
+use Rattle.bits.specs.CountLaws.{count-zero, Differs, same, other, tell, differs-eq, differs-le, distance-triangle, distance-sym, distance-ext}
 use Rattle.bch.specs.CodeWord.{Word, CodeWord, isCodeWord}
 use Rattle.bch.specs.Distance.{Last, peel, code-distance}
 use Rattle.bch.specs.Repair.{repaired, mark, firstPlace, openPlaces, candidates, firstThat, repair}
 use Rattle.bch.specs.Search.{Allowed, first-passes, first-found, in-open, of-open}
-use Rattle.bch.specs.RepairLaws.{Bits, FrontKept, Off, code-ext, test-passes, test-passed, repaired-off, repaired-one, repaired-two-first, repaired-two-second, repaired-bits, repaired-ext, test-ext, lost-mark, mark-distance, same-repair}
+use Rattle.bch.specs.RepairLaws.{Bits, FrontKept, code-ext, test-passes, test-passed, repaired-off, repaired-one, repaired-two-first, repaired-two-second, repaired-bits, repaired-ext, test-ext, lost-mark, mark-distance, same-repair}
 use Rattle.bch.specs.declared.Repair.{Repair}
 use Rattle.bch.specs.declared.Repair.the-variants.{Sound, One, Two, Lost}
 

@@ -7,7 +7,7 @@ use Rattle.calls.specs.declared.Refusal.{Refusal}
 use Rattle.calls.specs.declared.Refusal.the-variants.{Misfit, BadHeader, CountSpent, NoSuchFrame, OffGrid}
 use Rattle.calls.specs.declared.Answer.{Answer}
 use Rattle.calls.specs.declared.Answer.the-variants.{Done, Refused}
-use Rattle.calls.specs.Answers.{numberOf, refusalOf, Accepted, TurnedBack}
+use Rattle.calls.specs.Answers.{Accepted, TurnedBack}
 
 -- No refusal has number 0.
 pub refused-turned : (r : Refusal) → TurnedBack (Refused r)

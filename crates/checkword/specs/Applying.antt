@@ -1,9 +1,8 @@
 -- Laws for code that flips the places of a repair in a word of bytes.
 -- Assumes nothing.
-use mathlib.Core.Path.{_≡_, refl, sym, ap, ap₂, _∙_}
+use mathlib.Core.Path.{_≡_, refl, sym, ap, _∙_}
 use mathlib.Core.List.{List}
 use mathlib.Core.Bool.{Bool, true, false, cond}
-use mathlib.Core.Logic.{_≢_}
 use Prim.Native.Nat.{ℕ, _*_, _<_}
 use native.Mathlib.Omega.{arith}
 use lib.Dec.{ltb}
@@ -12,9 +11,8 @@ use Rattle.bits.specs.Bits.{bit, pack, flipped}
 use Rattle.bits.specs.BitLaws.{bit-lt, bit-pack-of, flipped-lt, length-pack, pack-bit, pack-ext}
 use Rattle.bch.specs.CodeWord.{Word}
 use Rattle.bch.specs.Repair.{places, flipAll, repaired, repair}
-use Rattle.bch.specs.Search.{Allowed}
 use Rattle.bch.specs.RepairLaws.{flipped-ext}
-use Rattle.bch.specs.Locating.{Fits, Located, confined, located-repair, one-lost, two-lost}
+use Rattle.bch.specs.Locating.{Located, confined, located-repair, one-lost, two-lost}
 use Rattle.bch.specs.Syndromes.{syndromesOf}
 use Rattle.bch.specs.declared.Repair.{Repair}
 use Rattle.bch.specs.declared.Repair.the-variants.{Sound, One, Two, Lost}

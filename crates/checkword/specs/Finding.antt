@@ -1,14 +1,12 @@
 -- Laws for code that finds the places from the syndromes.
 -- Assumes nothing.
-use mathlib.Core.Path.{_≡_, refl, sym, ap, ap₂, _∙_, subst}
-use mathlib.Core.Bool.{Bool, true, false, cond}
+use mathlib.Core.Path.{_≡_, refl, sym, ap, ap₂, _∙_}
 use mathlib.Core.Logic.{_≢_}
-use Prim.Native.Nat.{ℕ, zero, suc, _+_, _-_, _*_, _%_, _<_, _≤_}
+use Prim.Native.Nat.{ℕ, _+_, _-_, _<_, _≤_}
 use native.Mathlib.Omega.{arith}
 use borrow.Author.Count.{below-none, below-more}
-use lib.Dec.{lit<}
 use Rattle.bits.specs.Xor.{_⊕_}
-use Rattle.bits.specs.XorLaws.{⊕-zero, zero-⊕, ⊕-self, ⊕-eq, ⊕-cancel, ⊕-comm, ⊕-assoc, ⊕-move, sums}
+use Rattle.bits.specs.XorLaws.{⊕-zero, ⊕-self, ⊕-eq, ⊕-cancel, ⊕-comm, ⊕-assoc, ⊕-move}
 use Rattle.gf256.specs.Powers.{power}
 use Rattle.gf256.specs.Field.{cube}
 use Rattle.bch.specs.Syndromes.{locator}

@@ -2,10 +2,10 @@
 -- their columns, which the checker computes.
 -- Assumes nothing.
 use mathlib.Core.Path.{_≡_, refl, sym, ap, ap₂, _∙_}
-use mathlib.Core.Bool.{Bool, true, false}
+use mathlib.Core.Bool.{Bool, true}
 use mathlib.Core.List.{List, [], _∷_, map}
 use Prim.Native.Nat.{ℕ, zero, suc, _+_, _-_, _*_, _/_, _%_, _^_, _<_, _≤_}
-use native.Mathlib.Nat.{mod-lt, zero-lt-suc, pow-suc, mul-div-cancel, mul-mod-left, div-add-mod', div-lt-iff-lt-mul, add-zero, one-mul, zero-mul, mul-one}
+use native.Mathlib.Nat.{mod-lt, zero-lt-suc, pow-suc, div-add-mod', div-lt-iff-lt-mul, add-zero, one-mul, zero-mul, mul-one}
 use native.Mathlib.Omega.{arith}
 use lib.Arith.{lt-one}
 use lib.Bits.{bitXor, xor-comm, xor-shifted}
@@ -13,7 +13,7 @@ use lib.Dec.{T, ltb, ltb→lt}
 use lib.Pow.{pow-pos}
 use Rattle.bits.specs.Tests.{both, both-left, both-right}
 use Rattle.bits.specs.Xor.{_⊕_, xorSum}
-use Rattle.bits.specs.XorLaws.{⊕-lt, ⊕-half, ⊕-mod, ⊕-zero, zero-⊕, ⊕-self, ⊕-double, ⊕-four, sums, bit-times-⊕, bits-⊕-times}
+use Rattle.bits.specs.XorLaws.{⊕-lt, ⊕-half, ⊕-mod, zero-⊕, ⊕-self, ⊕-double, ⊕-four, sums, bits-⊕-times}
 
 -- The sum of the columns at the bits of x.
 unfoldable pub lin : List ℕ → ℕ → ℕ

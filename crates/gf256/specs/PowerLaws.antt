@@ -1,10 +1,10 @@
 -- Laws of the powers of a: the table's step rule, logarithms, and no zero divisors.
 -- Assumes nothing.
-use mathlib.Core.Path.{_≡_, refl, sym, ap, ap₂, _∙_, subst}
-use mathlib.Core.Bool.{Bool, true, false}
-use mathlib.Core.List.{List, [], _∷_, map}
+use mathlib.Core.Path.{_≡_, refl, sym, ap, _∙_, subst}
+use mathlib.Core.Bool.{Bool, true}
+use mathlib.Core.List.{List, [], _∷_}
 use mathlib.Core.Logic.{_⊎_, inl, inr}
-use Prim.Native.Nat.{ℕ, zero, suc, _+_, _-_, _*_, _/_, _%_, _^_, _<_, _≤_}
+use Prim.Native.Nat.{ℕ, zero, suc, _+_, _-_, _*_, _/_, _%_, _<_}
 use native.Mathlib.Nat.{add-zero, zero-add, div-add-mod', add-suc, suc-add, le-of-suc-le-suc, not-suc-le-zero}
 use native.Mathlib.Omega.{arith}
 use lib.Dec.{T, eqb, eqb→eq, ltb, ltb→lt, lit<}
@@ -13,8 +13,8 @@ use Rattle.bits.specs.Tests.{both, both-left, both-right, entries, entry}
 use Rattle.bits.specs.Xor.{_⊕_}
 use Rattle.gf256.specs.Polynomials.{number, reduce}
 use Rattle.gf256.specs.Powers.{firstFactor, timesA, power}
-use Rattle.gf256.specs.Linear.{lin, units, lin-lt}
-use Rattle.gf256.specs.Field.{shiftA, a-columns, timesA-shiftA, byte, byte-id, byte-shiftA, byte-·, _·_, ·-comm, ·-one, ·-shiftA, ·-assoc, zero-·, ·-zero, cube}
+use Rattle.gf256.specs.Linear.{units, lin-lt}
+use Rattle.gf256.specs.Field.{shiftA, a-columns, timesA-shiftA, byte, byte-id, byte-·, _·_, ·-comm, ·-one, ·-shiftA, ·-assoc, zero-·, ·-zero, cube}
 use Rattle.gf256.specs.Tables.{powers, logs}
 
 -- ---- the table of powers

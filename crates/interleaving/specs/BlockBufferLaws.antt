@@ -14,10 +14,9 @@ use Rattle.bits.specs.BitLaws.{bit-lt, fromBits-ext, pack-ext}
 use Rattle.interleaving.specs.declared.BlockRow.{BlockRow}
 use Rattle.interleaving.specs.declared.BitRow.{BitRow}
 use Rattle.interleaving.specs.NumberLaws.{two-bytes, half-is}
-use Rattle.interleaving.specs.Rows.{blockRow, blockRowOf, within}
+use Rattle.interleaving.specs.Rows.{blockRow, blockRowOf}
 use Rattle.interleaving.specs.Block.{bitAt, rowWord, block, sourceRow, sourceColumn, reordered, restored}
 use Rattle.interleaving.specs.BlockLaws.{bitAt-block-of, bitAt-reordered, bitAt-restored, targetRow, targetColumn, targetRow-lt, targetColumn-lt, sourceRow-lt, sourceColumn-lt}
-use Rattle.interleaving.specs.SubsetLaws.{subsetIn, bitRowIn}
 use Rattle.interleaving.specs.Positions.{outColumn, tOf, subsetOf, bOf, outBlockRow, placeRow, placeColumn, encoderOf, rowOf, blockOf, bitRowOf, columnOf}
 use Rattle.interleaving.specs.PositionLaws.{outputAt, outputFor, outBlockRow-lt}
 use Rattle.interleaving.specs.Interleaving.{pairsBit, pairsOf, sourceOf, interleavedBit, interleaved, outputOf, apart}

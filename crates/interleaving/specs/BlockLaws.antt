@@ -1,16 +1,15 @@
 -- Laws of blocks: bits and rows, the inverse of the reordering, each undoing the other.
 -- Assumes nothing.
-use mathlib.Core.Path.{_≡_, refl, sym, ap, ap₂, _∙_}
+use mathlib.Core.Path.{_≡_, sym, ap, ap₂, _∙_}
 use mathlib.Core.List.{List}
 use Prim.Native.Nat.{ℕ, _+_, _-_, _*_, _/_, _%_, _^_, _<_}
 use native.Mathlib.Omega.{arith}
 use lib.ListN.{length, getD}
 use lib.Seq.{ext-getD}
 use Rattle.bits.specs.ListLaws.{length-tabulate, getD-tabulate, tabulate-below, tabulate-ext}
-use Rattle.bits.specs.Bits.{bitOf, fromBits}
+use Rattle.bits.specs.Bits.{bitOf}
 use Rattle.bits.specs.BitLaws.{bitOf-lt, bitOf-fromBits, bitOf-equal, fromBits-lt, fromBits-ext}
 use Rattle.bits.specs.Tests.{agree, grid}
-use Rattle.bits.specs.Least.{least}
 use Rattle.bits.specs.LeastLaws.{least-pair}
 use Rattle.interleaving.specs.Block.{bitAt, rowWord, block, shift, sourceRow, sourceColumn, reorderedBit, reordered, placeFrom, restoredBit, restored}
 

@@ -1,14 +1,12 @@
 -- Laws of interleaving: where each bit goes, each way undoing the other, and either encoder's pairs by themselves.
 -- Assumes nothing.
-use mathlib.Core.Path.{_≡_, refl, sym, ap, ap₂, _∙_, subst}
-use mathlib.Core.Bool.{cond}
+use mathlib.Core.Path.{_≡_, refl, sym, ap, ap₂, _∙_}
 use mathlib.Core.List.{List}
 use Prim.Native.Nat.{ℕ, zero, suc, _+_, _*_, _/_, _%_, _<_}
 use native.Mathlib.Omega.{arith}
 use lib.ListN.{length, getD}
-use Rattle.bits.specs.Bits.{bit, pack}
+use Rattle.bits.specs.Bits.{bit}
 use Rattle.bits.specs.BitLaws.{bit-lt, length-pack, pack-below, bit-pack-of, pack-ext, pack-bit}
-use Rattle.bits.specs.Least.{least}
 use Rattle.bits.specs.LeastLaws.{least-pair}
 use Rattle.interleaving.specs.Positions.{encoderOf, rowOf, blockOf, bitRowOf, columnOf}
 use Rattle.interleaving.specs.PositionLaws.{outputFor, outputFor-lt, encoder-for, row-for, block-for, bitRow-for, column-for, encoderOf-lt, rowOf-lt, blockOf-lt, bitRowOf-lt, columnOf-lt, for-out}

@@ -5,7 +5,7 @@ use Prim.Native.Nat.{ℕ, _+_, _-_, _*_, _/_, _%_, _<_}
 use native.Mathlib.Omega.{arith}
 use Rattle.interleaving.specs.declared.BlockRow.{BlockRow}
 use Rattle.interleaving.specs.declared.BitRow.{BitRow}
-use Rattle.interleaving.specs.Rows.{blockRow, encoderIn, rowIn, firstOf, subsetRow, blockRowOf, within}
+use Rattle.interleaving.specs.Rows.{blockRow, firstOf}
 use Rattle.interleaving.specs.SubsetLaws.{firstOf-is, subsetIn, bitRowIn}
 use Rattle.interleaving.specs.Block.{sourceRow, sourceColumn}
 use Rattle.interleaving.specs.BlockLaws.{targetRow, targetColumn, targetRow-lt, targetColumn-lt, sourceRow-lt, sourceColumn-lt, source-target-row, source-target-column, target-source-row, target-source-column}

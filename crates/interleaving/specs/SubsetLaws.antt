@@ -1,12 +1,12 @@
 -- Laws of subsets: the subset of a block row, and where its bit rows stand in it.
 -- Assumes nothing.
-use mathlib.Core.Path.{_≡_, refl, ap, _∙_}
+use mathlib.Core.Path.{_≡_, refl}
 use Prim.Native.Nat.{ℕ, _+_, _*_, _/_, _%_, _<_}
 use native.Mathlib.Omega.{arith}
 use Rattle.bits.specs.Tests.{agree}
 use Rattle.interleaving.specs.declared.BlockRow.{BlockRow}
 use Rattle.interleaving.specs.declared.BitRow.{BitRow}
-use Rattle.interleaving.specs.Rows.{blockRow, encoderIn, rowIn, firstOf, subsetRow, blockRowOf, within}
+use Rattle.interleaving.specs.Rows.{blockRow, encoderIn, rowIn, firstOf, subsetRow, blockRowOf}
 
 -- ---- an encoder's row and its block row
 

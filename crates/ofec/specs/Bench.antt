@@ -1,13 +1,11 @@
 -- The bench values of 01 about rows, from the definitions.
 -- Assumes nothing.
 use mathlib.Core.Path.{_≡_, refl, sym, _∙_}
-use mathlib.Core.Bool.{cond}
 use Prim.Native.Nat.{ℕ, _+_, _-_, _*_, _/_, _%_, _<_, _≤_}
 use native.Mathlib.Omega.{arith}
 use native.Mathlib.Decide.{decLt}
-use lib.Bits.{bitXor}
 use Rattle.bits.specs.Xor.{_⊕_}
-use Rattle.ofec.specs.Rows.{RowBits, frontBit, backBit, frontCounts, wordOf, payloadIndex}
+use Rattle.ofec.specs.Rows.{RowBits, frontBit, frontCounts, wordOf, payloadIndex}
 use Rattle.ofec.specs.RowLaws.{word-front, word-start}
 
 -- "Word (20,0): bit 0 is V(1,0,0,0), bit 127 is V(15,7,15,0)."

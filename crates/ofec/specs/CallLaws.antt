@@ -1,16 +1,13 @@
 -- Laws of the two calls: one for each case, what an accepted call is, and that a refused one leaves everything as it was lent.
 -- Assumes nothing.
-use mathlib.Core.Path.{_≡_, refl, sym, ap, ap₂, _∙_}
+use mathlib.Core.Path.{_≡_, refl, sym, ap}
 use mathlib.Core.List.{List}
 use mathlib.Core.Logic.{_≢_}
 use Prim.Native.Nat.{ℕ, _+_}
-use native.Mathlib.Omega.{arith}
 use native.Mathlib.Decide.{ℕ-discrete}
 use borrow.Author.Tests.{eq-eqb, ne-eqb}
 use lib.ListN.{length}
-use Rattle.calls.specs.declared.Answer.{Answer}
 use Rattle.calls.specs.declared.Answer.the-variants.{Done, Refused}
-use Rattle.calls.specs.declared.Refusal.{Refusal}
 use Rattle.calls.specs.declared.Refusal.the-variants.{Misfit, CountSpent}
 use Rattle.calls.specs.Answers.{refusalOf, valueOr, Accepted, TurnedBack}
 use Rattle.calls.specs.Cases.{Case, done, refused, case-accepted, case-turned}
@@ -18,7 +15,7 @@ use Rattle.calls.specs.Sequences.{Keeping}
 use Rattle.ofec.specs.History.{shift}
 use Rattle.ofec.specs.Encoding.{encoded}
 use Rattle.ofec.specs.Receiving.{newestPair, payloadOut, marks}
-use Rattle.ofec.specs.Calls.{Encoded, afterEncode, encodeCall, Received, afterReceive, receiveCall, State, state, Encoding, Receiving, encode, receive, Encodings, Receivings}
+use Rattle.ofec.specs.Calls.{Encoded, afterEncode, encodeCall, Received, afterReceive, receiveCall, state, Encoding, Receiving, encode, receive, Encodings, Receivings}
 
 -- ---- encoding: the cases
 

@@ -3,7 +3,7 @@
 use mathlib.Core.Path.{_≡_, refl, sym, ap, ap₂, _∙_}
 use mathlib.Core.Bool.{Bool, true, false, cond}
 use mathlib.Core.List.{List, []}
-use Prim.Native.Nat.{ℕ, zero, suc, _+_, _-_, _*_, _/_, _%_, _<_, _≤_}
+use Prim.Native.Nat.{ℕ, _+_, _-_, _*_, _/_, _%_, _<_}
 use native.Mathlib.Omega.{arith}
 use native.Mathlib.Decide.{decLt}
 use borrow.Author.Tests.{lt-ltb, le-ltb}
@@ -11,13 +11,11 @@ use lib.Dec.{ltb}
 use lib.ListN.{length, getD}
 use Rattle.bits.specs.Bits.{bit}
 use Rattle.bits.specs.BitLaws.{bit-lt}
-use Rattle.bits.specs.Xor.{_⊕_}
-use Rattle.bch.specs.CodeWord.{Word, CodeWord}
-use Rattle.bch.specs.Completion.{completed}
+use Rattle.bch.specs.CodeWord.{CodeWord}
 use Rattle.bch.specs.CompletionLaws.{completed-code, completed-first, completed-only}
-use Rattle.ofec.specs.Rows.{RowBits, backBit, wordOf, payloadIndex}
-use Rattle.ofec.specs.RowLaws.{word-lt, word-back, word-at, backPlace, backPlace-lt, backPlace-of, xor-16, payloadIndex-own, payloadIndex-lt}
-use Rattle.ofec.specs.Pairs.{pairBit, rowOf, bitRowOf, ownIndex, codedPair}
+use Rattle.ofec.specs.Rows.{RowBits, wordOf, payloadIndex}
+use Rattle.ofec.specs.RowLaws.{word-lt, word-at, backPlace, backPlace-lt, payloadIndex-own, payloadIndex-lt}
+use Rattle.ofec.specs.Pairs.{pairBit, rowOf, bitRowOf, ownIndex}
 use Rattle.ofec.specs.PairLaws.{codedPair-bit, length-codedPair}
 use Rattle.ofec.specs.History.{heldBits}
 use Rattle.ofec.specs.HistoryLaws.{heldBits-lt, Right, RightPair, near-front}

@@ -1,12 +1,11 @@
 -- Laws of histories, over the number n of pairs held: what a shift keeps, and the invariant of a list of calls.
 -- Assumes nothing.
-use mathlib.Core.Path.{_≡_, refl, sym, ap, _∙_}
+use mathlib.Core.Path.{_≡_, sym, _∙_}
 use mathlib.Core.List.{List, _++_}
 use Prim.Native.Nat.{ℕ, zero, suc, _+_, _-_, _*_, _/_, _%_, _<_, _≤_}
 use native.Mathlib.Omega.{arith}
 use native.Mathlib.Decide.{ℕ-discrete}
-use lib.ListN.{length, drop, replicate, length-append, length-drop, length-replicate}
-use Rattle.bits.specs.Bits.{bit}
+use lib.ListN.{length, length-append, length-drop, length-replicate}
 use Rattle.bits.specs.BitLaws.{bit-lt}
 use Rattle.ofec.specs.Rows.{RowBits, wordOf}
 use Rattle.ofec.specs.RowLaws.{Place, zeros, before, own, place}

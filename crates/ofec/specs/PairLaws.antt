@@ -2,7 +2,6 @@
 -- Assumes nothing.
 use mathlib.Core.Path.{_≡_, refl, sym, ap, ap₂, _∙_}
 use mathlib.Core.Bool.{Bool, true, false, cond}
-use mathlib.Core.List.{List}
 use mathlib.Core.Logic.{_≢_}
 use Prim.Native.Nat.{ℕ, zero, suc, _+_, _-_, _*_, _/_, _%_, _<_, _≤_}
 use native.Mathlib.Nat.{mod-lt, div-add-mod', div-lt-iff-lt-mul}
@@ -12,12 +11,12 @@ use borrow.Author.Tests.{eq-eqb, eqb-true, lt-ltb, le-ltb}
 use lib.Arith.{digits-lt, digits-div, digits-mod}
 use lib.Dec.{eqb, ltb}
 use lib.ListN.{length}
-use Rattle.bits.specs.Bits.{bit, pack}
-use Rattle.bits.specs.BitLaws.{bit-pack, length-pack, pack-ext}
+use Rattle.bits.specs.Bits.{bit}
+use Rattle.bits.specs.BitLaws.{bit-pack, length-pack}
 use Rattle.bits.specs.Xor.{_⊕_}
 use Rattle.bch.specs.CodeWord.{Word}
-use Rattle.ofec.specs.Rows.{RowBits, backBit, payloadIndex}
-use Rattle.ofec.specs.RowLaws.{xor-16, xor-back, backPlace, backBit-at, payloadIndex-low, payloadIndex-high, payloadIndex-lt}
+use Rattle.ofec.specs.Rows.{backBit}
+use Rattle.ofec.specs.RowLaws.{xor-16, xor-back, backPlace, payloadIndex-low, payloadIndex-high, payloadIndex-lt}
 use Rattle.ofec.specs.Pairs.{pairIndex, pairBit, the, seat, laidOut, codedIndex, ownIndex, codedPair, payloadOf}
 
 -- ---- the number that passes a test

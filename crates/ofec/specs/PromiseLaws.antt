@@ -4,13 +4,12 @@
 use mathlib.Core.Path.{_≡_, refl, sym, ap, ap₂, _∙_, subst}
 use mathlib.Core.List.{List, [], _++_, map}
 use mathlib.Core.Logic.{_≢_}
-use Prim.Native.Nat.{ℕ, zero, suc, _+_, _-_, _*_, _/_, _%_, _<_, _≤_}
+use Prim.Native.Nat.{ℕ, suc, _+_, _-_, _*_, _/_, _%_, _<_, _≤_}
 use native.Mathlib.Omega.{arith}
 use lib.ListN.{length, getD, length-map}
 use Rattle.bits.specs.Bits.{bit}
-use Rattle.bits.specs.Count.{distance}
 use Rattle.bits.specs.CountLaws.{distance-mono, distance-zero}
-use Rattle.calls.specs.Answers.{valueOr, Accepted}
+use Rattle.calls.specs.Answers.{valueOr}
 use Rattle.calls.specs.Sequences.{At, Run, accepted}
 use Rattle.calls.specs.SequenceLaws.{At-lt, At-find, At-map, is-accepted, lent-at}
 use Rattle.bits.specs.Xor.{_⊕_}
@@ -18,19 +17,18 @@ use Rattle.bch.specs.CodeWord.{Word, CodeWord}
 use Rattle.bch.specs.Repair.{repair, repaired, mark}
 use Rattle.bch.specs.declared.Repair.{Repair}
 use Rattle.ofec.specs.Rows.{RowBits, frontCounts, backBit, wordOf, payloadIndex}
-use Rattle.ofec.specs.RowLaws.{word-back, backPlace, backPlace-of, xor-16, Place, zeros, before, own, place}
-use Rattle.ofec.specs.Pairs.{pairBit}
-use Rattle.ofec.specs.History.{fresh, heldBits, shift}
+use Rattle.ofec.specs.RowLaws.{word-back, backPlace-of, xor-16, Place, zeros, before, own, place}
+use Rattle.ofec.specs.History.{heldBits, shift}
 use Rattle.ofec.specs.HistoryLaws.{held-shifted, held-newest, near, Right, right-after, historyAfter}
 use Rattle.ofec.specs.Sent.{Sent}
 use Rattle.ofec.specs.Encoding.{encoded}
-use Rattle.ofec.specs.EncodingLaws.{numbered, encoded-holds}
-use Rattle.ofec.specs.SentLaws.{encoderHistory, encoder-right, madeBits, sent-exists}
-use Rattle.ofec.specs.Receiving.{mendedWord, repairOf, newestPair, payloadOut, marks}
+use Rattle.ofec.specs.EncodingLaws.{encoded-holds}
+use Rattle.ofec.specs.SentLaws.{encoderHistory, encoder-right}
+use Rattle.ofec.specs.Receiving.{mendedWord, newestPair, payloadOut, marks}
 use Rattle.ofec.specs.ReceivingLaws.{newest-bit, payload-bit, mark-is, repair-of, mended-word, word-outcome, newest-right}
 use Rattle.ofec.specs.WordLaws.{Outcome}
 use Rattle.ofec.specs.Calls.{Encoded, Received, State, state, start, Encoding, Receiving, encode, receive, Encodings, Receivings, payloads}
-use Rattle.ofec.specs.CallLaws.{EncodeFits, encodeDone, encode-accepted, encode-keeps, ReceiveFits, receiveDone, receive-accepted, receive-keeps}
+use Rattle.ofec.specs.CallLaws.{encode-accepted, encode-keeps, receiveDone, receive-accepted, receive-keeps}
 use Rattle.ofec.specs.Promise.{Holds, Takes, wrongBits, Limit, markOf, NotLost, AsSent, Promise}
 
 -- ---- what each accepted call is lent

@@ -1,6 +1,6 @@
 -- Laws of receiving a pair: where each bit of a word goes, and what its repair gives where the history is right.
 -- Assumes nothing.
-use mathlib.Core.Path.{_≡_, refl, sym, ap, ap₂, _∙_, subst}
+use mathlib.Core.Path.{_≡_, refl, sym, ap, ap₂, _∙_}
 use mathlib.Core.Bool.{Bool, true, false}
 use mathlib.Core.List.{List, _++_}
 use Prim.Native.Nat.{ℕ, _+_, _-_, _*_, _/_, _%_, _<_, _≤_}
@@ -8,9 +8,7 @@ use native.Mathlib.Omega.{arith}
 use borrow.Author.Tests.{leb-false}
 use lib.ListN.{length, getD}
 use Rattle.bits.specs.Bits.{bit}
-use Rattle.bits.specs.Lists.{tabulate}
 use Rattle.bits.specs.ListLaws.{getD-tabulate}
-use Rattle.bits.specs.Count.{distance}
 use Rattle.bch.specs.CodeWord.{Word, CodeWord}
 use Rattle.bch.specs.Repair.{repair, repaired, mark}
 use Rattle.bch.specs.RepairLaws.{FrontKept, repaired-bits}
@@ -21,7 +19,7 @@ use Rattle.ofec.specs.PairLaws.{codedPair-bit, length-codedPair, payload
 use Rattle.ofec.specs.History.{heldBits}
 use Rattle.ofec.specs.HistoryLaws.{heldBits-lt, Right, RightPair, near}
 use Rattle.ofec.specs.WordLaws.{Outcome, outcome}
-use Rattle.ofec.specs.EncodingLaws.{Numbered, numbered}
+use Rattle.ofec.specs.EncodingLaws.{numbered}
 use Rattle.ofec.specs.Receiving.{heldWord, repairOf, mendedWord, newestPair, payloadOut, marks}
 use Rattle.ofec.specs.Promise.{Holds, wrongBits}
 

@@ -1,6 +1,6 @@
 -- Laws of rows: where each bit of a word stands, and where a row's bit stands in its word.
 -- Assumes nothing.
-use mathlib.Core.Path.{_≡_, refl, sym, ap, ap₂, _∙_}
+use mathlib.Core.Path.{_≡_, refl, _∙_}
 use mathlib.Core.Bool.{Bool, true, false, cond}
 use Prim.Native.Nat.{ℕ, zero, suc, _+_, _-_, _*_, _/_, _%_, _<_, _≤_}
 use native.Mathlib.Omega.{arith}
@@ -10,7 +10,6 @@ use lib.Bits.{differ}
 use lib.Dec.{ltb}
 use Rattle.bits.specs.Xor.{_⊕_}
 use Rattle.bits.specs.XorLaws.{sums, ⊕-lt, ⊕-half, ⊕-last, ⊕-zero}
-use Rattle.bch.specs.CodeWord.{Word}
 use Rattle.ofec.specs.Rows.{RowBits, frontBit, backBit, frontCounts, wordOf, payloadIndex}
 
 -- ---- exclusive or of columns and rows

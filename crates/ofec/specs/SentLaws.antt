@@ -1,6 +1,6 @@
 -- Laws of the sent bits: they can be met, the encoder's step from fresh meets them, and they are fixed.
 -- Assumes nothing.
-use mathlib.Core.Path.{_≡_, refl, sym, ap, ap₂, _∙_, subst}
+use mathlib.Core.Path.{_≡_, refl, sym, ap, ap₂, _∙_}
 use mathlib.Core.List.{List, []}
 use Prim.Native.Nat.{ℕ, zero, suc, _+_, _-_, _*_, _/_, _%_, _<_, _≤_}
 use native.Mathlib.Omega.{arith}
@@ -11,13 +11,13 @@ use Rattle.bits.specs.Xor.{_⊕_}
 use Rattle.bch.specs.CodeWord.{Word, CodeWord}
 use Rattle.bch.specs.RepairLaws.{code-ext}
 use Rattle.ofec.specs.Rows.{RowBits, backBit, wordOf, payloadIndex}
-use Rattle.ofec.specs.RowLaws.{word-back, backPlace, backPlace-of, xor-16}
-use Rattle.ofec.specs.Pairs.{pairBit, rowOf, bitRowOf, ownIndex}
+use Rattle.ofec.specs.RowLaws.{word-back, backPlace-of, xor-16}
+use Rattle.ofec.specs.Pairs.{pairBit, ownIndex}
 use Rattle.ofec.specs.History.{heldBits}
-use Rattle.ofec.specs.HistoryLaws.{Right, RightPair, right-fresh, right-shift, right-after, historyAfter, near-front}
-use Rattle.ofec.specs.Sent.{payloadBit, PayloadInPlace, CodeWords, Sent}
-use Rattle.ofec.specs.Encoding.{openWord, encodedWord, encoded}
-use Rattle.ofec.specs.EncodingLaws.{Numbered, numbered, of-pair, open-front, open-back, encoded-code, encoded-open, length-encoded, encoded-bit, encoded-holds, encoded-right, payloadBit-own}
+use Rattle.ofec.specs.HistoryLaws.{Right, right-fresh, right-shift, right-after, historyAfter, near-front}
+use Rattle.ofec.specs.Sent.{payloadBit, Sent}
+use Rattle.ofec.specs.Encoding.{encodedWord, encoded}
+use Rattle.ofec.specs.EncodingLaws.{Numbered, numbered, open-front, open-back, encoded-code, encoded-open, length-encoded, encoded-bit, encoded-holds, encoded-right, payloadBit-own}
 use Rattle.ofec.specs.Promise.{Holds}
 
 -- The history of an encoder before pair P.

@@ -3,13 +3,13 @@
 use mathlib.Core.Path.{_≡_, refl, sym, ap, ap₂, _∙_}
 use mathlib.Core.List.{List}
 use mathlib.Core.Logic.{_≢_}
-use Prim.Native.Nat.{ℕ, zero, suc, _+_, _-_, _*_, _/_, _%_, _<_, _≤_}
+use Prim.Native.Nat.{ℕ, zero, suc, _+_, _-_, _*_, _%_, _<_, _≤_}
 use native.Mathlib.Nat.{add-zero, suc-mul, mul-le-mul-right, div-eq-of-lt, mod-eq-of-lt, mul-add-div-right, mul-add-mod-self-right}
 use native.Mathlib.Omega.{arith}
 use native.Mathlib.Numerals.{add-one}
 use borrow.Author.Tests.{lt-leb}
 use lib.Dec.{lit<}
-use lib.ListN.{length, getD, take, drop, length-drop}
+use lib.ListN.{length, getD, drop, length-drop}
 use lib.Seq.{ext-getD, length-take-le, getD-take, getD-drop}
 use Rattle.bits.specs.Count.{count}
 use Rattle.bits.specs.Lists.{tabulate}
@@ -19,13 +19,13 @@ use Rattle.interleaving.specs.Interleaving.{interleaved}
 use Rattle.interleaving.specs.InterleavingLaws.{length-interleaved}
 use Rattle.interleaving.specs.Calls.{Interleaved, joined, interleave}
 use Rattle.interleaving.specs.CallLaws.{interleave-bits}
-use Rattle.cells.specs.Cells.{toCells, illegal, Legal}
+use Rattle.cells.specs.Cells.{illegal, Legal}
 use Rattle.cells.specs.CellLaws.{toCells-length, toCells-below}
 use Rattle.cells.specs.Calls.{After, after, bitsToCells}
 use Rattle.cells.specs.CallLaws.{map-accepts}
-use Rattle.frames.specs.Frames.{payloadCells, payloadStart, ownOverhead, framed}
+use Rattle.frames.specs.Frames.{payloadCells, payloadStart, ownOverhead}
 use Rattle.frames.specs.FrameLaws.{framed-length, own-legal}
-use Rattle.frames.specs.LayoutLaws.{payloadStart-closed, payload-all}
+use Rattle.frames.specs.LayoutLaws.{payloadStart-closed}
 use Rattle.frames.specs.Calls.{frameCall}
 use Rattle.frames.specs.CallLaws.{frame-accepts}
 use Rattle.superframe.specs.Superframe.{part, byteOfEach, endToEnd, bufferCells, payload, subFrame, frames, superframe}
