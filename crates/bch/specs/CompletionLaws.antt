@@ -2,7 +2,7 @@
 -- Assumes nothing.
 use mathlib.Core.Path.{_≡_, refl, sym, ap, ap₂, _∙_, subst}
 use Prim.Native.Nat.{ℕ, zero, suc, _+_, _-_, _*_, _/_, _%_, _^_, _<_, _≤_}
-use native.Mathlib.Nat.{mod-lt, zero-lt-suc, div-eq-of-lt, div-div-eq-div-mul}
+use native.Mathlib.Nat.{mod-lt, zero-lt-suc, zero-div, div-eq-of-lt, div-div-eq-div-mul}
 use native.Mathlib.Omega.{arith}
 use native.Mathlib.Decide.{decLt}
 use borrow.Author.Tests.{lt-ltb, le-ltb}
@@ -90,6 +90,10 @@ tail-high v k h = simp (le-ltb k 239 h)
 pub tail-bits : (v k : ℕ) → tail v k < 2
 unfolding tail
 tail-bits v k = either (λ u. u < 2) (ltb k 239) _ _ (lit< tt) (mod-lt _ (zero-lt-suc 1))
+
+pub tail-zero : (k : ℕ) → tail 0 k ≡ 0
+unfolding tail
+tail-zero k = either (λ u. u ≡ 0) (ltb k 239) _ _ refl (ap (λ u. u % 2) (zero-div (2 ^ (255 - k))))
 
 -- The first sixteen are those of the half.
 tail-half : (v k : ℕ) → 239 ≤ k → k < 255 → tail v k ≡ v / 2 / 2 ^ (254 - k) % 2

@@ -15,10 +15,10 @@ use Rattle.gf256.specs.Field.{cube}
 use Rattle.bch.specs.CodeWord.{Word}
 use Rattle.bch.specs.Syndromes.{locator, syndromesOf}
 use Rattle.bch.specs.Checks.{checks, check, tail}
-use Rattle.bch.specs.CompletionLaws.{tail-low, tail-high}
+use Rattle.bch.specs.CompletionLaws.{tail-low, tail-high, tail-zero}
 use Rattle.bch.specs.CheckLaws.{check-lt, check-syndromes}
 use Rattle.bch.specs.declared.Syndromes.{Syndromes}
-use Rattle.checkword.specs.Partial.{Absorbing, partial, syndromes, syndromes-eq}
+use Rattle.checkword.specs.Partial.{Absorbing, partial, syndromes, syndromes-eq, absorb-done}
 
 pub taken-none : (b e : ℕ) → b ≡ 0 → 0 ≡ b * e
 taken-none b e z = rw z (sym (zero-mul e))
@@ -74,4 +74,13 @@ tail-bit v k b l e = e ∙ sym (tail-high v k l)
 pub syndromes-are : (s : List ℕ) (v : ℕ) (y : Syndromes) → (v ≡ check (bit s)) × (v < 131072) → y ≡ syndromesOf (tail v) → y ≡ syndromesOf (bit s)
 syndromes-are s v y e f = f ∙ ap (λ u. syndromesOf (tail u)) (e .0) ∙ check-syndromes (bit s) (λ k l. bit-lt s k)
 
-pub ruleset tailing = (absorb-tail, tail-bit, syndromes-are)
+-- A word without check bits.
+pub syndromes-none : (s : List ℕ) (v : ℕ) → (v ≡ check (bit s)) × (v < 131072) → v ≡ 0 → syndromes 0 0 0 ≡ syndromesOf (bit s)
+syndromes-none s v e z =
+    syndromes-are s v (syndromes 0 0 0) e
+    (absorb-done {w = tail v} {n = 256} (record { upto = omega arith; is = sym (zeros-absorbed 256 (tail v) none); bit = omega arith }) (omega arith))
+  where
+    none : (k : ℕ) → k < 256 → tail v k ≡ 0
+    none k l = ap (λ u. tail u k) z ∙ tail-zero k
+
+pub ruleset tailing = (absorb-tail, tail-bit, syndromes-are, syndromes-none)

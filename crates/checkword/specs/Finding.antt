@@ -1,14 +1,18 @@
 -- Laws for code that finds the places from the syndromes.
 -- Assumes nothing.
 use mathlib.Core.Path.{_≡_, refl, sym, ap, ap₂, _∙_}
+use mathlib.Core.List.{List}
 use mathlib.Core.Logic.{_≢_}
 use Prim.Native.Nat.{ℕ, _+_, _-_, _<_, _≤_}
 use native.Mathlib.Omega.{arith}
 use borrow.Author.Count.{below-none, below-more}
+use lib.ListN.{getD}
 use Rattle.bits.specs.Xor.{_⊕_}
 use Rattle.bits.specs.XorLaws.{⊕-zero, ⊕-self, ⊕-eq, ⊕-cancel, ⊕-comm, ⊕-assoc, ⊕-move}
 use Rattle.gf256.specs.Powers.{power}
 use Rattle.gf256.specs.Field.{cube}
+use Rattle.gf256.specs.Tables.{powers}
+use Rattle.gf256.specs.PowerLaws.{powers-at}
 use Rattle.bch.specs.Syndromes.{locator}
 use Rattle.bch.specs.SyndromeLaws.{locator-power, locator-last}
 use Rattle.bch.specs.Distance.{locator-eq}
@@ -27,6 +31,11 @@ pub place-log : (x k : ℕ) → k < 255 → power k ≡ x → locator (254 - k) 
 place-log x k l e = let d : 254 - (254 - k) ≡ k = omega arith in locator-power (254 - k) (omega arith) ∙ ap power d ∙ e
 
 pub ruleset placing = (place-zero, place-log)
+
+-- ---- a lookup in a lent table
+
+pub locator-in : (k : ℕ) (t : List ℕ) → t ≡ powers → k < 255 → getD t (254 - k) 0 ≡ locator k
+locator-in k t e l = ap (λ s. getD s (254 - k) 0) e ∙ powers-at (254 - k) (omega arith) ∙ sym (locator-power k l)
 
 -- ---- the first pair
 

@@ -6,6 +6,7 @@ ghost use mathlib.Core.Path.{_≡_};
 ghost use Prim.Native.Nat.{_<_};
 ghost use Rattle.bch.specs.Syndromes.{locator};
 ghost use Rattle.bch.specs.Locating.{Located};
+ghost use Rattle.gf256.specs.Tables.{powers, cubed};
 ghost use Rattle.checkword.specs.Finding.{pairSum, FirstPair};
 
 // The place that an element of GF(256) stands for.
@@ -19,12 +20,13 @@ fn place_of(x: u8) -> usize
 }
 
 // The first place whose locator x, with its partner x ^ s1, has cubes that add up to s3; 256 where there is none.
-fn find_pair(s1: u8, s3: u8) -> usize
+fn find_pair(s1: u8, s3: u8, table: &[u8; 255], cubes: &[u8; 256]) -> usize
+    requires { ⌜ (now table ≡ powers) × (now cubes ≡ cubed) ⌝ }
     ensures { λ r. ⌜ FirstPair s1 s3 r ⌝ }
 {
     let mut k = 0;
     while k < 256 {
-        if pair_sum(s1, k) == s3 {
+        if pair_sum(s1, k, table, cubes) == s3 {
             return k;
         }
         k += 1;
@@ -33,12 +35,12 @@ fn find_pair(s1: u8, s3: u8) -> usize
 }
 
 // What the cubes of a place's locator and of its partner add up to.
-fn pair_sum(s1: u8, k: usize) -> u8
-    requires { ⌜ k < 256 ⌝ }
+fn pair_sum(s1: u8, k: usize, table: &[u8; 255], cubes: &[u8; 256]) -> u8
+    requires { ⌜ (k < 256) × (now table ≡ powers) × (now cubes ≡ cubed) ⌝ }
     ensures { λ r. ⌜ r ≡ pairSum s1 k ⌝ }
 {
-    let x = syndrome::locator(k);
-    gf256::cube(x) ^ gf256::cube(x ^ s1)
+    let x = syndrome::locator(k, table);
+    gf256::cube_in(cubes, x) ^ gf256::cube_in(cubes, x ^ s1)
 }
 
 // The places that the syndromes tell: one of an odd word, none or two of an even one.
@@ -60,9 +62,11 @@ pub fn locate(s: Syndromes) -> Repair
         }
         return Repair::Lost;
     }
-    let i = find_pair(s1, s3);
+    let table = gf256::powers();
+    let cubes = gf256::cubes();
+    let i = find_pair(s1, s3, &table, &cubes);
     if i < 256 {
-        let j = place_of(syndrome::locator(i) ^ s1);
+        let j = place_of(syndrome::locator(i, &table) ^ s1);
         return Repair::Two(i, j);
     }
     Repair::Lost

@@ -5,7 +5,7 @@ use mathlib.Core.Bool.{Bool, true}
 use mathlib.Core.List.{List, [], _∷_}
 use mathlib.Core.Logic.{_⊎_, inl, inr}
 use Prim.Native.Nat.{ℕ, zero, suc, _+_, _-_, _*_, _/_, _%_, _<_}
-use native.Mathlib.Nat.{add-zero, zero-add, div-add-mod', add-suc, suc-add, le-of-suc-le-suc, not-suc-le-zero}
+use native.Mathlib.Nat.{mod-lt, add-zero, zero-add, div-add-mod', add-suc, suc-add, le-of-suc-le-suc, not-suc-le-zero}
 use native.Mathlib.Omega.{arith}
 use lib.Dec.{T, eqb, eqb→eq, ltb, ltb→lt, lit<}
 use lib.ListN.{getD, length}
@@ -14,8 +14,8 @@ use Rattle.bits.specs.Xor.{_⊕_}
 use Rattle.gf256.specs.Polynomials.{number, reduce}
 use Rattle.gf256.specs.Powers.{firstFactor, timesA, power}
 use Rattle.gf256.specs.Linear.{units, lin-lt}
-use Rattle.gf256.specs.Field.{shiftA, a-columns, timesA-shiftA, byte, byte-id, byte-·, _·_, ·-comm, ·-one, ·-shiftA, ·-assoc, zero-·, ·-zero, cube}
-use Rattle.gf256.specs.Tables.{powers, logs}
+use Rattle.gf256.specs.Field.{shiftA, a-columns, timesA-shiftA, byte, byte-id, byte-·, _·_, ·-comm, ·-one, ·-shiftA, ·-assoc, zero-·, ·-zero, cube, cube-zero}
+use Rattle.gf256.specs.Tables.{powers, logs, cubed}
 
 -- ---- the table of powers
 
@@ -172,3 +172,28 @@ cube-log x e p = ap cube (sym p) ∙ cube-power e ∙ sym (power-mod (e * 3))
 pub cube-lt : (x : ℕ) → cube x < 256
 unfolding cube
 cube-lt x = ·-lt x (x · x)
+
+-- The rule of the table of cubes, computed once over all of it: three times the exponent.
+cubeRight : ℕ → ℕ → Bool
+cubeRight zero v = eqb v 0
+cubeRight (suc x) v = eqb v (getD powers (getD logs (suc x) 0 * 3 % 255) 0)
+
+cube-test : T (entries cubeRight 0 cubed)
+unfolding cubeRight cubed powers logs
+cube-test = tt
+
+256-cubes : length cubed ≡ 256
+unfolding cubed
+256-cubes = refl
+
+pub cubed-at : (x : ℕ) → x < 256 → getD cubed x 0 ≡ cube x
+unfolding cubeRight
+cubed-at zero h = eqb→eq (getD cubed 0 0) 0 (entry cubeRight cubed cube-test 0 (rw 256-cubes h)) ∙ sym cube-zero
+cubed-at (suc x) h =
+    let k = getD logs (suc x) 0 * 3 % 255 in
+    eqb→eq (getD cubed (suc x) 0) (getD powers k 0) (entry cubeRight cubed cube-test (suc x) (rw 256-cubes h))
+    ∙ powers-at k (mod-lt _ (lit< tt)) ∙ sym (cube-log (suc x) (getD logs (suc x) 0) (power-log x h .1))
+
+-- A lookup in a lent table.
+pub cube-in : (t : List ℕ) (x : ℕ) → t ≡ cubed → x < 256 → getD t x 0 ≡ cube x
+cube-in t x e l = ap (λ s. getD s x 0) e ∙ cubed-at x l

@@ -5,13 +5,13 @@ ghost use mathlib.Core.Path.{_≡_};
 ghost use Prim.Native.Nat.{_<_};
 ghost use Rattle.gf256.specs.Powers.{power};
 ghost use Rattle.gf256.specs.Field.{cube};
+ghost use Rattle.gf256.specs.Tables.{powers, cubed};
 
-// a^k, from the table.
-pub fn power(k: usize) -> u8
-    requires { ⌜ k < 255 ⌝ }
-    ensures { λ r. ⌜ r ≡ power k ⌝ }
+// The table of powers.
+pub fn powers() -> [u8; 255]
+    ensures { λ r. ⌜ r ≡ powers ⌝ }
 {
-    tables::POWERS[k]
+    tables::POWERS
 }
 
 // The exponent of an element that is not 0.
@@ -22,12 +22,24 @@ pub fn log(x: u8) -> usize
     tables::LOGS[x as usize] as usize
 }
 
-// x times x times x.
+// x times x times x, from the table.
 pub fn cube(x: u8) -> u8
     ensures { λ r. ⌜ r ≡ cube x ⌝ }
 {
-    if x == 0 {
-        return 0;
-    }
-    power(log(x) * 3 % 255)
+    tables::CUBES[x as usize]
+}
+
+// The table of cubes, for those that look up much.
+pub fn cubes() -> [u8; 256]
+    ensures { λ r. ⌜ r ≡ cubed ⌝ }
+{
+    tables::CUBES
+}
+
+// x times x times x, from a lent table.
+pub fn cube_in(cubes: &[u8; 256], x: u8) -> u8
+    requires { ⌜ now cubes ≡ cubed ⌝ }
+    ensures { λ r. ⌜ r ≡ cube x ⌝ }
+{
+    cubes[x as usize]
 }

@@ -9,10 +9,10 @@ use Rattle.checkword.proofs.locating.find_pair.Tie as tie
 ruleset kit = (needs, pairing)
 
 abbrev Inv-loop : tie.InvT-loop
-Inv-loop s1 s3 k₀ k = NoPair s1 s3 k
+Inv-loop s1 s3 table cubes k₀ k = NoPair s1 s3 k
 
 abbrev μ-loop : tie.MeasureT-loop
-μ-loop s1 s3 k₀ k = 256 - k
+μ-loop s1 s3 table cubes k₀ k = 256 - k
 
 pub find-pair-spec : {M : Type 1} → statement M
 find-pair-spec =

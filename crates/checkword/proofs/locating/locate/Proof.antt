@@ -19,6 +19,8 @@ locate-spec =
     (λ c. search kit)  -- returns-2
     (λ c. search kit)  -- returns-3
     (λ c. search kit)  -- returns-4
+    (λ c κs. search kit)  -- powers-requires
+    (λ c κs. search kit)  -- cubes-requires
     (λ c κs. search kit)  -- find-pair-requires
     (λ c κs. search kit)  -- locator-requires
     (λ c κs. search kit)  -- place-of-requires-2

@@ -14,6 +14,6 @@ pair-sum-spec =
     tie.close
     (tie.spec
     (λ c κs. search kit)  -- locator-requires
-    (λ c κs. search kit)  -- cube-requires
-    (λ c κs. search kit)  -- cube-requires-2
+    (λ c κs. search kit)  -- cube-in-requires
+    (λ c κs. search kit)  -- cube-in-requires-2
     (λ c. search kit))  -- returns

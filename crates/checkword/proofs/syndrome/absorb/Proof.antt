@@ -15,6 +15,6 @@ absorb-spec =
     (tie.spec
     (λ c. search kit)  -- returns
     (λ c κs. search kit)  -- locator-requires
-    (λ c κs. search kit)  -- cube-requires
+    (λ c κs. search kit)  -- cube-in-requires
     (λ c. search kit)  -- sub-t9
     (λ c. search kit))  -- returns-2

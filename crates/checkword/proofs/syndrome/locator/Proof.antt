@@ -2,16 +2,17 @@
 -- Assumes nothing.
 use borrow.Author.Needs.{needs}
 use Rattle.bch.specs.SyndromeLaws.{locators}
+use Rattle.checkword.specs.Finding.{locator-in}
 use Rattle.checkword.proofs.syndrome.locator.Statement.{statement}
 use Rattle.checkword.proofs.syndrome.locator.Tie as tie
 
-ruleset kit = (needs, locators)
+ruleset kit = (needs, locators, locator-in)
 
 pub locator-spec : {M : Type 1} → statement M
 locator-spec =
     tie.close
     (tie.spec
-    (λ c. search kit)  -- sub-power
-    (λ c κs. search kit)  -- power-requires
+    (λ c. search kit)  -- sub-array-read
+    (λ c. search kit)  -- array-read
     (λ c. search kit)  -- returns
     (λ c. search kit))  -- returns-2

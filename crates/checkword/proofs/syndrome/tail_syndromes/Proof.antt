@@ -13,10 +13,10 @@ use Rattle.checkword.proofs.syndrome.tail_syndromes.Tie as tie
 ruleset kit = (needs, absorbing, tailing)
 
 abbrev Inv-loop : tie.InvT-loop
-Inv-loop v s₀ k₀ s k = (239 ≤ k) × Absorbing (tail v) k s
+Inv-loop v table cubes s₀ k₀ s k = (239 ≤ k) × Absorbing (tail v) k s
 
 abbrev μ-loop : tie.MeasureT-loop
-μ-loop v s₀ k₀ s k = 256 - k
+μ-loop v table cubes s₀ k₀ s k = 256 - k
 
 pub tail-syndromes-spec : {M : Type 1} → statement M
 tail-syndromes-spec =

@@ -36,11 +36,21 @@ fn log(x: u8) -> usize {
     LOGS[x as usize] as usize
 }
 
-fn cube(x: u8) -> u8 {
-    if x == 0 {
-        return 0;
+/// Entry x is the cube of x.
+const CUBES: [u8; 256] = cubes();
+
+const fn cubes() -> [u8; 256] {
+    let mut cubes = [0; 256];
+    let mut x = 1;
+    while x < 256 {
+        cubes[x] = POWERS[LOGS[x] as usize * 3 % 255];
+        x += 1;
     }
-    POWERS[log(x) * 3 % 255]
+    cubes
+}
+
+fn cube(x: u8) -> u8 {
+    CUBES[x as usize]
 }
 
 /// Entry i: the check bits of a word whose one set bit is bit 255 - i.
@@ -140,7 +150,15 @@ fn tail_syndromes(v: u32) -> Syndromes {
 }
 
 fn syndromes_of(w: &[u8]) -> Syndromes {
-    tail_syndromes(check_of(w))
+    let v = check_of(w);
+    if v == 0 {
+        return Syndromes {
+            s1: 0,
+            s3: 0,
+            parity: 0,
+        };
+    }
+    tail_syndromes(v)
 }
 
 #[derive(Clone, Copy)]
