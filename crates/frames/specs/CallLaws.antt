@@ -2,16 +2,20 @@
 -- Assumes nothing.
 use mathlib.Core.Path.{_≡_, refl, ap, ap₂, sym, _∙_}
 use mathlib.Core.Bool.{true, false, not}
-use mathlib.Core.List.{List}
+use mathlib.Core.List.{List, []}
 use mathlib.Core.Logic.{_≢_}
 use Prim.Native.Nat.{ℕ, _+_, _*_, _<_, _≤_}
 use native.Mathlib.Omega.{arith}
+use native.Mathlib.Decide.{ℕ-discrete, decLt}
 use borrow.Author.Tests.{eq-eqb, ne-eqb, lt-ltb, le-ltb}
 use lib.Dec.{eqb, ltb}
 use lib.ListN.{length, getD}
+use Rattle.calls.specs.declared.Answer.{Answer}
 use Rattle.calls.specs.declared.Answer.the-variants.{Done, Refused}
+use Rattle.calls.specs.declared.Refusal.{Refusal}
 use Rattle.calls.specs.declared.Refusal.the-variants.{Misfit, NoSuchFrame, OffGrid}
-use Rattle.calls.specs.Answers.{TurnedBack}
+use Rattle.calls.specs.Answers.{refusalOf, TurnedBack}
+use Rattle.calls.specs.AnswerLaws.{refused-turned}
 use Rattle.cells.specs.Cells.{firstIllegal, Legal}
 use Rattle.cells.specs.CellLaws.{none-illegal}
 use Rattle.cells.specs.Calls.{After, after}
@@ -83,24 +87,105 @@ module _ (number : ℕ) (overhead frame payload read lent : List ℕ) (done : Af
 
 pub ruleset sub-frame-cases = (list-misfit, frame-misfit, no-such-frame, payload-misfit, overhead-off-grid, read-off-grid, passes)
 
+-- ---- what the tests come to
+
+module _ (number : ℕ) (overhead frame payload read : List ℕ) where
+  -- Where all tests pass, a call leaves what it does.
+  record Passed : Type 0 where
+    pub fits : number ≤ 47
+    pub overhead-long : length overhead ≡ 12288
+    pub frame-long : length frame ≡ 7424
+    pub payload-long : length payload ≡ payloadCells number * 2
+    pub does : (lent : List ℕ) (done : After) → subFrameCall number overhead frame payload read lent done ≡ done
+
+  -- Refused, whatever is lent and would be done, or passed.
+  data Verdict : Type 0 where
+    turned : (r : Refusal) → ((lent : List ℕ) (done : After) → after (Refused r) lent ≡ subFrameCall number overhead frame payload read lent done) → Verdict
+    passed : Passed → Verdict
+
+  verdict : Verdict
+  verdict = go (ℕ-discrete (length overhead) 12288) (ℕ-discrete (length frame) 7424) (decLt 47 number) (ℕ-discrete (length payload) (payloadCells number * 2))
+      (decLt (firstIllegal (ownOverhead number overhead)) (length (ownOverhead number overhead))) (decLt (firstIllegal read) (length read))
+    where
+      go : Dec (length overhead ≡ 12288) → Dec (length frame ≡ 7424) → Dec (47 < number) → Dec (length payload ≡ payloadCells number * 2)
+          → Dec (firstIllegal (ownOverhead number overhead) < length (ownOverhead number overhead)) → Dec (firstIllegal read < length read) → Verdict
+      go (no o) f n p w r = turned Misfit (λ lent done. list-misfit number overhead frame payload read lent done o)
+      go (yes o) (no f) n p w r = turned Misfit (λ lent done. frame-misfit number overhead frame payload read lent done o f)
+      go (yes o) (yes f) (yes n) p w r = turned NoSuchFrame (λ lent done. no-such-frame number overhead frame payload read lent done o f n)
+      go (yes o) (yes f) (no n) (no p) w r =
+          turned Misfit (λ lent done. payload-misfit number overhead frame payload read lent done o f (omega arith) (payloadCells number) refl p)
+      go (yes o) (yes f) (no n) (yes p) (yes w) r =
+          turned (OffGrid _) (λ lent done. overhead-off-grid number overhead frame payload read lent done o f (omega arith) (payloadCells number) refl p
+          (ownOverhead number overhead) refl _ refl (overheadStart number) refl w)
+      go (yes o) (yes f) (no n) (yes p) (no w) (yes r) =
+          turned (OffGrid _) (λ lent done. read-off-grid number overhead frame payload read lent done o f (omega arith) (payloadCells number) refl p
+          (ownOverhead number overhead) refl _ refl (omega arith) _ refl r)
+      go (yes o) (yes f) (no n) (yes p) (no w) (no r) =
+          passed
+          (record {
+            fits = omega arith;
+            overhead-long = o;
+            frame-long = f;
+            payload-long = p;
+            does = λ lent done. sym
+                (passes number overhead frame payload read lent done o f (omega arith) (payloadCells number) refl p (ownOverhead number overhead) refl _ refl
+                (omega arith) _ refl done (omega arith) refl);
+          })
+
+  -- From the answer of a call that is lent nothing and does nothing: what a refused one leaves,
+  pub judged-refused : (a : Answer) (r : Refusal) → after a [] ≡ subFrameCall number overhead frame payload read [] (after (Done 0) []) → a ≡ Refused r
+      → (lent : List ℕ) (done : After) → after (Refused r) lent ≡ subFrameCall number overhead frame payload read lent done
+  judged-refused a r is ea lent done = go verdict
+    where
+      e : after (Refused r) [] ≡ subFrameCall number overhead frame payload read [] (after (Done 0) [])
+      e = ap (λ x. after x []) (sym ea) ∙ is
+
+      go : Verdict → after (Refused r) lent ≡ subFrameCall number overhead frame payload read lent done
+      go (turned q f) = ap (λ (x : After). after (x .answer) lent) (e ∙ sym (f [] (after (Done 0) []))) ∙ f lent done
+      go (passed p) = absurd (refused-turned r (ap (λ (x : After). refusalOf (x .answer)) (e ∙ p .does [] (after (Done 0) []))))
+
+  -- and that one that passes fits.
+  module _ (a : Answer) (v : ℕ) (is : after a [] ≡ subFrameCall number overhead frame payload read [] (after (Done 0) [])) (ea : a ≡ Done v) where
+    judged : Passed
+    judged = go verdict
+      where
+        e : after (Done v) [] ≡ subFrameCall number overhead frame payload read [] (after (Done 0) [])
+        e = ap (λ x. after x []) (sym ea) ∙ is
+
+        go : Verdict → Passed
+        go (turned q f) = absurd (refused-turned q (sym (ap (λ (x : After). refusalOf (x .answer)) (e ∙ sym (f [] (after (Done 0) []))))))
+        go (passed p) = p
+
+    pub judged-fits : number ≤ 47
+    judged-fits = judged .fits
+
+    pub judged-overhead : length overhead ≡ 12288
+    judged-overhead = judged .overhead-long
+
+    pub judged-frame : length frame ≡ 7424
+    judged-frame = judged .frame-long
+
+    pub judged-payload : length payload ≡ payloadCells number * 2
+    judged-payload = judged .payload-long
+
+    pub judged-does : (lent : List ℕ) (done : After) → subFrameCall number overhead frame payload read lent done ≡ done
+    judged-does = judged .does
+
+pub ruleset judging = (judged-refused, judged-fits, judged-overhead, judged-frame, judged-payload)
+
 -- ---- calls that pass
 
-module _ (number : ℕ) (overhead frame payload own : List ℕ) (n at to : ℕ) (eo : own ≡ ownOverhead number overhead) (ea : at ≡ firstIllegal own)
-    (en : n ≡ payloadCells number) (lo : length overhead ≡ 12288) (lf : length frame ≡ 7424) (ln : number ≤ 47) (lp : length payload ≡ n * 2)
-    (ok : length own ≤ at) where
-  pub frame-done : (d : List ℕ) → d ≡ framed number payload own → to ≡ firstIllegal payload → length payload ≤ to
+module _ (number v : ℕ) (a : Answer) (ea : a ≡ Done v) (overhead frame payload own : List ℕ) (eo : own ≡ ownOverhead number overhead) where
+  pub frame-done : after a [] ≡ subFrameCall number overhead frame payload payload [] (after (Done 0) []) → (d : List ℕ) → d ≡ framed number payload own
       → after (Done 0) d ≡ frameCall number payload overhead frame
-  frame-done d e et h =
-      passes number overhead frame payload payload frame (after (Done 0) (framed number payload (ownOverhead number overhead)))
-      lo lf ln n en lp own eo at ea ok to et (after (Done 0) d) h
-      (ap (after (Done 0)) (e ∙ ap (framed number payload) eo))
+  frame-done is d e =
+      ap (after (Done 0)) (e ∙ ap (framed number payload) eo) ∙ sym (judged-does number overhead frame payload payload a v is ea frame (after (Done 0) (framed number payload (ownOverhead number overhead))))
 
-  pub unframe-done : (d : List ℕ) (v : ℕ) → d ≡ unframed number frame → v ≡ differing number frame own → to ≡ firstIllegal frame → length frame ≤ to
-      → after (Done v) d ≡ unframeCall number frame overhead payload
-  unframe-done d v e ev et h =
-      passes number overhead frame payload frame payload (after (Done (differing number frame (ownOverhead number overhead))) (unframed number frame))
-      lo lf ln n en lp own eo at ea ok to et (after (Done v) d) h
-      (ap₂ (λ x y. after (Done x) y) (ev ∙ ap (differing number frame) eo) e)
+  pub unframe-done : after a [] ≡ subFrameCall number overhead frame payload frame [] (after (Done 0) []) → (d : List ℕ) (n : ℕ) → d ≡ unframed number frame
+      → n ≡ differing number frame own → after (Done n) d ≡ unframeCall number frame overhead payload
+  unframe-done is d n e en =
+      ap₂ (λ x y. after (Done x) y) (en ∙ ap (differing number frame) eo) e
+      ∙ sym (judged-does number overhead frame payload frame a v is ea payload (after (Done (differing number frame (ownOverhead number overhead))) (unframed number frame)))
 
 -- ---- refused calls leave the buffer as it was
 
@@ -129,18 +214,17 @@ unframe-keeps number frame overhead payload =
 
 module _ (number : ℕ) (overhead frame payload : List ℕ) (ln : number ≤ 47) (lo : length overhead ≡ 12288) (lf : length frame ≡ 7424)
     (lp : length payload ≡ payloadCells number * 2) (own : Legal (ownOverhead number overhead)) where
+  legal-passes : (read lent : List ℕ) (done : After) → Legal read → done ≡ subFrameCall number overhead frame payload read lent done
+  legal-passes read lent done legal =
+      passes number overhead frame payload read lent done lo lf ln (payloadCells number) refl lp (ownOverhead number overhead) refl _ refl
+      (none-illegal (ownOverhead number overhead) own) _ refl done (none-illegal read legal) refl
+
   pub frame-accepts : Legal payload → frameCall number payload overhead frame ≡ after (Done 0) (framed number payload (ownOverhead number overhead))
-  frame-accepts legal =
-      sym
-      (frame-done number overhead frame payload (ownOverhead number overhead) (payloadCells number) (firstIllegal (ownOverhead number overhead)) (firstIllegal payload)
-      refl refl refl lo lf ln lp (none-illegal (ownOverhead number overhead) own) _ refl refl (none-illegal payload legal))
+  frame-accepts legal = sym (legal-passes payload frame _ legal)
 
   pub unframe-accepts : Legal frame
       → unframeCall number frame overhead payload ≡ after (Done (differing number frame (ownOverhead number overhead))) (unframed number frame)
-  unframe-accepts legal =
-      sym
-      (unframe-done number overhead frame payload (ownOverhead number overhead) (payloadCells number) (firstIllegal (ownOverhead number overhead)) (firstIllegal frame)
-      refl refl refl lo lf ln lp (none-illegal (ownOverhead number overhead) own) _ _ refl refl refl (none-illegal frame legal))
+  unframe-accepts legal = sym (legal-passes frame payload _ legal)
 
 -- ---- each call undoes the other
 

@@ -6,8 +6,10 @@ use subframe::comparing;
 use subframe::layout;
 use subframe::placing;
 ghost use mathlib.Core.Path.{_≡_};
+ghost use mathlib.Core.List.{[]};
+ghost use Rattle.calls.specs.declared.Answer.the-variants.{Done};
 ghost use Rattle.cells.specs.Calls.{after};
-ghost use Rattle.frames.specs.Calls.{frameCall, unframeCall};
+ghost use Rattle.frames.specs.Calls.{subFrameCall, frameCall, unframeCall};
 
 // The bytes of the overhead list: 6,144 cells.
 const OVERHEAD: usize = 12288;
@@ -18,9 +20,9 @@ const FRAME: usize = 7424;
 // The last sub-frame of a super-frame.
 const LAST: u32 = 47;
 
-// A sub-frame, of its payload and its part of the overhead list.
-pub fn frame(number: u32, payload: &[u8], overhead: &[u8], frame: &mut [u8]) -> Answer
-    ensures { λ r. ⌜ after r (now (frame .exit)) ≡ frameCall number (now (payload .entry)) (now (overhead .entry)) (now (frame .entry)) ⌝ }
+// What both calls test, in the order of the table; `read` is the buffer that the call reads beside the overhead list.
+fn judge(number: u32, overhead: &[u8], frame: &[u8], payload: &[u8], read: &[u8]) -> Answer
+    ensures { λ r. ⌜ after r [] ≡ subFrameCall number (now (overhead .entry)) (now (frame .entry)) (now (payload .entry)) (now (read .entry)) [] (after (Done 0) []) ⌝ }
 {
     if overhead.len() != OVERHEAD {
         return Answer::Refused(Refusal::Misfit);
@@ -40,11 +42,26 @@ pub fn frame(number: u32, payload: &[u8], overhead: &[u8], frame: &mut [u8]) -> 
     if at < own.len() {
         return Answer::Refused(Refusal::OffGrid(layout::overhead_start(number) * 2 + at));
     }
-    let in_payload = first_illegal(payload);
-    if in_payload < payload.len() {
-        return Answer::Refused(Refusal::OffGrid(in_payload));
+    let to = first_illegal(read);
+    if to < read.len() {
+        return Answer::Refused(Refusal::OffGrid(to));
     }
-    placing::place(number, payload, own, frame);
+    Answer::Done(0)
+}
+
+// A sub-frame, of its payload and its part of the overhead list.
+pub fn frame(number: u32, payload: &[u8], overhead: &[u8], frame: &mut [u8]) -> Answer
+    ensures { λ r. ⌜ after r (now (frame .exit)) ≡ frameCall number (now (payload .entry)) (now (overhead .entry)) (now (frame .entry)) ⌝ }
+{
+    if let Answer::Refused(r) = judge(number, overhead, frame, payload, payload) {
+        return Answer::Refused(r);
+    }
+    placing::place(
+        number,
+        payload,
+        layout::own_overhead(number, overhead),
+        frame,
+    );
     Answer::Done(0)
 }
 
@@ -52,28 +69,10 @@ pub fn frame(number: u32, payload: &[u8], overhead: &[u8], frame: &mut [u8]) -> 
 pub fn unframe(number: u32, frame: &[u8], overhead: &[u8], payload: &mut [u8]) -> Answer
     ensures { λ r. ⌜ after r (now (payload .exit)) ≡ unframeCall number (now (frame .entry)) (now (overhead .entry)) (now (payload .entry)) ⌝ }
 {
-    if overhead.len() != OVERHEAD {
-        return Answer::Refused(Refusal::Misfit);
-    }
-    if frame.len() != FRAME {
-        return Answer::Refused(Refusal::Misfit);
-    }
-    // The payload of a number above 47 is not measured.
-    if LAST < number {
-        return Answer::Refused(Refusal::NoSuchFrame);
-    }
-    if payload.len() != layout::payload_cells(number) * 2 {
-        return Answer::Refused(Refusal::Misfit);
-    }
-    let own = layout::own_overhead(number, overhead);
-    let at = first_illegal(own);
-    if at < own.len() {
-        return Answer::Refused(Refusal::OffGrid(layout::overhead_start(number) * 2 + at));
-    }
-    let in_frame = first_illegal(frame);
-    if in_frame < frame.len() {
-        return Answer::Refused(Refusal::OffGrid(in_frame));
+    if let Answer::Refused(r) = judge(number, overhead, frame, payload, frame) {
+        return Answer::Refused(r);
     }
     placing::extract(number, frame, payload);
+    let own = layout::own_overhead(number, overhead);
     Answer::Done(comparing::differing(number, frame, own))
 }

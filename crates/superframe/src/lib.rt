@@ -1,5 +1,5 @@
-// A super-frame of the line, from the coded pairs of both encoders: the calls of interleaving, cells and framing for every buffer
-// and sub-frame.
+// Super-frames of the line: payload encoded (`pairs`), and the coded pairs of both encoders made into frames, by the calls of
+// interleaving, cells and framing for every buffer and sub-frame.
 mod buffers;
 pub mod pairs;
 mod subframes;

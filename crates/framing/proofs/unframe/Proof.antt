@@ -1,31 +1,23 @@
--- `framing::unframe` meets its contract: one law for each case of its definition.
+-- `framing::unframe` meets its contract.
 -- Assumes nothing.
 use borrow.Author.Needs.{needs}
-use Rattle.frames.specs.CallLaws.{sub-frame-cases, unframe-done}
+use Rattle.frames.specs.CallLaws.{judging, unframe-done}
 use Rattle.framing.proofs.unframe.Statement.{statement}
 use Rattle.framing.proofs.unframe.Tie as tie
 
-ruleset kit = (needs, sub-frame-cases)
+ruleset kit = (needs, judging)
 
 pub unframe-spec : {M : Type 1} → statement M
 unframe-spec =
     tie.close
     (tie.spec
-    (λ c. search kit)  -- returns
-    (λ c. search kit)  -- returns-2
-    (λ c. search kit)  -- returns-3
-    (λ c κs. search needs)  -- payload-cells-requires
-    (λ c. search needs)  -- mul-if4
-    (λ c. search kit)  -- returns-4
-    (λ c κs. search needs)  -- own-overhead-requires
-    (λ c κs. search needs)  -- first-illegal-requires
-    (λ c κs. search needs)  -- overhead-start-requires
-    (λ c. search needs)  -- mul-t17
-    (λ c. search needs)  -- add-t18
-    (λ c. search kit)  -- returns-5
-    (λ c κs. search needs)  -- first-illegal-requires-2
-    (λ c. search kit)  -- returns-6
-    (λ c κs. search needs)  -- extract-requires
-    (λ c κs. search needs)  -- differing-requires
+    (λ c κs. search needs)  -- judge-requires
+    (λ c. search needs)  -- enum-known-r
     (λ c. search needs)  -- same-length
-    (λ c. search (needs, unframe-done)))  -- returns-7
+    (λ c. search kit)  -- returns
+    (λ c. search needs)  -- enum-told
+    (λ c κs. search kit)  -- extract-requires
+    (λ c κs. search kit)  -- own-overhead-requires
+    (λ c κs. search kit)  -- differing-requires
+    (λ c. search needs)  -- same-length-2
+    (λ c. search (needs, unframe-done)))  -- returns-2

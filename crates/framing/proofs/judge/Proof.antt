@@ -1,0 +1,28 @@
+-- `framing::judge` meets its contract: one law for each case of the calls' definition.
+-- Assumes nothing.
+use borrow.Author.Needs.{needs}
+use Rattle.frames.specs.CallLaws.{sub-frame-cases}
+use Rattle.framing.proofs.judge.Statement.{statement}
+use Rattle.framing.proofs.judge.Tie as tie
+
+ruleset kit = (needs, sub-frame-cases)
+
+pub judge-spec : {M : Type 1} → statement M
+judge-spec =
+    tie.close
+    (tie.spec
+    (λ c. search kit)  -- returns
+    (λ c. search kit)  -- returns-2
+    (λ c. search kit)  -- returns-3
+    (λ c κs. search needs)  -- payload-cells-requires
+    (λ c. search needs)  -- mul-if4
+    (λ c. search kit)  -- returns-4
+    (λ c κs. search needs)  -- own-overhead-requires
+    (λ c κs. search needs)  -- first-illegal-requires
+    (λ c κs. search needs)  -- overhead-start-requires
+    (λ c. search needs)  -- mul-t17
+    (λ c. search needs)  -- add-t18
+    (λ c. search kit)  -- returns-5
+    (λ c κs. search needs)  -- first-illegal-requires-2
+    (λ c. search kit)  -- returns-6
+    (λ c. search kit))  -- returns-7
