@@ -1,8 +1,8 @@
 -- Laws of the least number that passes a test.
 -- Assumes nothing.
-use mathlib.Core.Path.{_≡_, refl, ap}
-use mathlib.Core.Bool.{Bool, true, false}
-use Prim.Native.Nat.{ℕ, zero, suc, _<_}
+use mathlib.Core.Path.{_≡_, refl, ap, ap₂}
+use mathlib.Core.Bool.{Bool, true, false, cond}
+use Prim.Native.Nat.{ℕ, zero, suc, _<_, _≤_}
 use native.Mathlib.Nat.{not-suc-le-zero, le-of-suc-le-suc}
 use native.Mathlib.Omega.{arith}
 use borrow.Author.Tests.{eq-eqb, eqb-true}
@@ -18,6 +18,25 @@ least-is (suc n) p zero l e none = simp e
 least-is (suc n) p (suc i) l e none =
     let z : p 0 ≡ false = none 0 (omega arith) in
     simp z (ap suc (least-is n (λ k. p (suc k)) i (le-of-suc-le-suc l) e (λ k lk. none (suc k) (omega arith))))
+
+-- Where none passes it is n, and where it is n none passes.
+pub least-none : (n : ℕ) (p : ℕ → Bool) → ((k : ℕ) → k < n → p k ≡ false) → least n p ≡ n
+unfolding least
+least-none zero p none = refl
+least-none (suc n) p none =
+    let z : p 0 ≡ false = none 0 (omega arith) in
+    simp z (ap suc (least-none n (λ k. p (suc k)) (λ k l. none (suc k) (omega arith))))
+
+pub least-past : (n : ℕ) (p : ℕ → Bool) → n ≤ least n p → (k : ℕ) → k < n → p k ≡ false
+unfolding least
+least-past zero p h k l = absurd (not-suc-le-zero l)
+least-past (suc n) p h k l = step (p zero) refl (least-past n (λ i. p (suc i))) h k l
+  where
+    step : (b : Bool) → p zero ≡ b → (n ≤ least n (λ i. p (suc i)) → (j : ℕ) → j < n → p (suc j) ≡ false)
+        → suc n ≤ cond b 0 (suc (least n (λ i. p (suc i)))) → (i : ℕ) → i < suc n → p i ≡ false
+    step true e r g i li = absurd (not-suc-le-zero g)
+    step false e r g zero li = e
+    step false e r g (suc i) li = r (le-of-suc-le-suc g) i (le-of-suc-le-suc li)
 
 -- The only number below n that passes.
 pub least-only : (n : ℕ) (p : ℕ → Bool) (k : ℕ) → k < n → p k ≡ true → ((j : ℕ) → j < n → p j ≡ true → j ≡ k) → least n p ≡ k
@@ -50,3 +69,10 @@ pub least-pair : (n : ℕ) (f g : ℕ → ℕ) (a b k : ℕ) → k < n → f k �
 least-pair n f g a b k l p q only =
     least-only n (λ j. both (eqb (f j) a) (eqb (g j) b)) k l (both-equal (f k) a (g k) b p q)
     (λ j lj h. only j lj (equal-left (f j) a (g j) b h) (equal-right (f j) a (g j) b h))
+
+-- Tests that agree have one least number.
+pub least-ext : (n : ℕ) (p q : ℕ → Bool) → ((k : ℕ) → k < n → p k ≡ q k) → least n p ≡ least n q
+unfolding least
+least-ext zero p q same = refl
+least-ext (suc n) p q same =
+    ap₂ (λ b m. cond b 0 (suc m)) (same 0 (omega arith)) (least-ext n (λ k. p (suc k)) (λ k. q (suc k)) (λ k l. same (suc k) (omega arith)))

@@ -3,6 +3,7 @@ pub mod Lists
 pub mod ListLaws
 pub mod Bits
 pub mod BitLaws
+pub mod DigitLaws
 pub mod Count
 pub mod CountLaws
 pub mod Xor

@@ -5,6 +5,7 @@ ghost use Rattle.bch.specs.Calls.{repairCall};
 ghost use Rattle.ofec.specs.Calls.{encodeCall, receiveCall};
 ghost use Rattle.interleaving.specs.Calls.{interleave, deinterleave};
 ghost use Rattle.cells.specs.Calls.{bitsToCells, cellsToBits};
+ghost use Rattle.cells.specs.Profiles.{qam16};
 ghost use Rattle.frames.specs.Calls.{frameCall, unframeCall};
 ghost use Rattle.lineformat.specs.Opening.{headerOf};
 ghost use Rattle.lineformat.specs.Reading.{readAnswer};
@@ -96,7 +97,7 @@ pub extern "C" fn ofec_deinterleave(bits: &[u8], pairs0: &mut [u8], pairs1: &mut
 // Maps a buffer's bits to cells.
 #[no_mangle]
 pub extern "C" fn ofec_bits_to_cells(bits: &[u8], cells: &mut [u8]) -> Outcome
-    ensures { λ r. ⌜ (r ≡ outcomeOf (bitsToCells (now (bits .entry)) (now (cells .entry)) .answer) 0) × (now (cells .exit) ≡ bitsToCells (now (bits .entry)) (now (cells .entry)) .written) ⌝ }
+    ensures { λ r. ⌜ (r ≡ outcomeOf (bitsToCells qam16 (now (bits .entry)) (now (cells .entry)) .answer) 0) × (now (cells .exit) ≡ bitsToCells qam16 (now (bits .entry)) (now (cells .entry)) .written) ⌝ }
 {
     outcome_of(symbols::bits_to_cells(bits, cells), 0)
 }
@@ -104,7 +105,7 @@ pub extern "C" fn ofec_bits_to_cells(bits: &[u8], cells: &mut [u8]) -> Outcome
 // Maps a buffer's cells back to bits.
 #[no_mangle]
 pub extern "C" fn ofec_cells_to_bits(cells: &[u8], bits: &mut [u8]) -> Outcome
-    ensures { λ r. ⌜ (r ≡ outcomeOf (cellsToBits (now (cells .entry)) (now (bits .entry)) .answer) 0) × (now (bits .exit) ≡ cellsToBits (now (cells .entry)) (now (bits .entry)) .written) ⌝ }
+    ensures { λ r. ⌜ (r ≡ outcomeOf (cellsToBits qam16 (now (cells .entry)) (now (bits .entry)) .answer) 0) × (now (bits .exit) ≡ cellsToBits qam16 (now (cells .entry)) (now (bits .entry)) .written) ⌝ }
 {
     outcome_of(symbols::cells_to_bits(cells, bits), 0)
 }
@@ -117,7 +118,7 @@ pub extern "C" fn ofec_frame(
     overhead: &[u8],
     frame: &mut [u8],
 ) -> Outcome
-    ensures { λ r. ⌜ (r ≡ outcomeOf (frameCall number (now (payload .entry)) (now (overhead .entry)) (now (frame .entry)) .answer) 0) × (now (frame .exit) ≡ frameCall number (now (payload .entry)) (now (overhead .entry)) (now (frame .entry)) .written) ⌝ }
+    ensures { λ r. ⌜ (r ≡ outcomeOf (frameCall qam16 number (now (payload .entry)) (now (overhead .entry)) (now (frame .entry)) .answer) 0) × (now (frame .exit) ≡ frameCall qam16 number (now (payload .entry)) (now (overhead .entry)) (now (frame .entry)) .written) ⌝ }
 {
     outcome_of(framing::frame(number, payload, overhead, frame), 0)
 }
@@ -130,7 +131,7 @@ pub extern "C" fn ofec_unframe(
     overhead: &[u8],
     payload: &mut [u8],
 ) -> Outcome
-    ensures { λ r. ⌜ (r ≡ outcomeOf (unframeCall number (now (frame .entry)) (now (overhead .entry)) (now (payload .entry)) .answer) 0) × (now (payload .exit) ≡ unframeCall number (now (frame .entry)) (now (overhead .entry)) (now (payload .entry)) .written) ⌝ }
+    ensures { λ r. ⌜ (r ≡ outcomeOf (unframeCall qam16 number (now (frame .entry)) (now (overhead .entry)) (now (payload .entry)) .answer) 0) × (now (payload .exit) ≡ unframeCall qam16 number (now (frame .entry)) (now (overhead .entry)) (now (payload .entry)) .written) ⌝ }
 {
     outcome_of(framing::unframe(number, frame, overhead, payload), 0)
 }

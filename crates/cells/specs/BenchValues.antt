@@ -3,10 +3,12 @@
 use mathlib.Core.Path.{_≡_, refl}
 use mathlib.Core.List.{[], _∷_}
 use Rattle.bits.specs.Lists.{tabulate}
-use Rattle.bits.specs.Bits.{bitOf}
-use Rattle.cells.specs.Levels.{level, ordinal}
-use Rattle.cells.specs.Cells.{rails, xOf, yOf, cellByte, cellsAt, toCells}
+use Rattle.bits.specs.Bits.{bitOf, bit, fromBits}
+use Rattle.cells.specs.Levels.{level, ordinal, rails}
+use Rattle.cells.specs.Cells.{symbolAt, cellsAt, toCells}
+use Rattle.cells.specs.Qam16 as Q16
+use Rattle.cells.specs.Profiles.{qam16}
 
-pub bench-cells : toCells (255 ∷ 128 ∷ 8 ∷ 1 ∷ []) ≡ 10 ∷ 10 ∷ 12 ∷ 0 ∷ 3 ∷ 0 ∷ 0 ∷ 1 ∷ []
-unfolding toCells tabulate cellsAt cellByte xOf yOf rails ordinal level bitOf
+pub bench-cells : toCells qam16 (255 ∷ 128 ∷ 8 ∷ 1 ∷ []) ≡ 10 ∷ 10 ∷ 12 ∷ 0 ∷ 3 ∷ 0 ∷ 0 ∷ 1 ∷ []
+unfolding qam16 toCells tabulate cellsAt symbolAt fromBits bit Q16.cellByte Q16.xOf Q16.yOf rails ordinal level bitOf
 bench-cells = refl

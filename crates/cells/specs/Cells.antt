@@ -1,82 +1,54 @@
--- Cells. 01, "Cells": "A byte's bits c0 (most significant) to c7 are one symbol. (c0,c2) is I of X, (c4,c6) Q of X, (c1,c3) I of Y,
--- (c5,c7) Q of Y." "A cell is two bytes, X then Y, each 4×(I+3)/2 + (Q+3)/2."
+-- Cells, over a profile. Symbol i of a buffer of bits is its bits from w i on, w being the bits of a symbol: a byte for w = 8, and for
+-- w = 4 the upper half of a byte, then the lower. Its cell is cell i of the buffer's cells.
 -- Assumes nothing.
 use mathlib.Core.Path.{_≡_}
-use mathlib.Core.Bool.{Bool, false, cond}
-use mathlib.Core.List.{List, [], _∷_}
+use mathlib.Core.Bool.{Bool, false}
+use mathlib.Core.List.{List}
 use Prim.Native.Nat.{ℕ, _+_, _*_, _/_, _%_, _<_}
-use lib.Dec.{eqb, leb}
-use lib.IntN.{ℤ}
+use lib.Dec.{leb}
 use lib.ListN.{length, getD}
 use Rattle.bits.specs.Lists.{tabulate}
-use Rattle.bits.specs.Bits.{bitOf, fromBits}
+use Rattle.bits.specs.Bits.{bitOf, bit, fromBits, pack}
 use Rattle.bits.specs.Seeking.{first}
-use Rattle.cells.specs.Levels.{level, ordinal, levelAt, firstBit, secondBit}
-
--- ---- a symbol's cell
-
--- "each 4×(I+3)/2 + (Q+3)/2"
-unfoldable pub rails : ℤ → ℤ → ℕ
-rails i q = 4 * ordinal i + ordinal q
-
--- X and Y of the byte b.
-unfoldable pub xOf : ℕ → ℕ
-xOf b = rails (level (bitOf 8 b 0) (bitOf 8 b 2)) (level (bitOf 8 b 4) (bitOf 8 b 6))
-
-unfoldable pub yOf : ℕ → ℕ
-yOf b = rails (level (bitOf 8 b 1) (bitOf 8 b 3)) (level (bitOf 8 b 5) (bitOf 8 b 7))
-
--- "A cell is two bytes, X then Y": byte h of it.
-unfoldable pub cellByte : ℕ → ℕ → ℕ
-cellByte b h = cond (eqb h 0) (xOf b) (yOf b)
-
--- The cells of a buffer of bits: byte j of them, and all.
-unfoldable pub cellsAt : List ℕ → ℕ → ℕ
-cellsAt bits j = cellByte (getD bits (j / 2) 0) (j % 2)
-
-unfoldable pub toCells : List ℕ → List ℕ
-toCells bits = tabulate (length bits * 2) (cellsAt bits)
+use Rattle.cells.specs.Profile.{Profile}
 
 -- ---- legal cells
 
--- "A byte of 16 or more is illegal." (A byte of a payload cell, of this profile.)
-abbrev pub illegal : ℕ → Bool
-illegal v = leb 16 v
+-- A rule says of the byte v at place j of a buffer whether it is illegal there. The rule of overhead cells: "A byte of 16 or more is illegal."
+unfoldable pub overheadRule : ℕ → ℕ → Bool
+overheadRule j v = leb 16 v
+
+-- The rule of payload cells.
+unfoldable pub payloadRule : Profile → ℕ → ℕ → Bool
+payloadRule p j v = p .illegal v
 
 -- The index of the first illegal byte; the length where there is none.
-unfoldable pub firstIllegal : List ℕ → ℕ
-firstIllegal cells = first illegal cells
+unfoldable pub firstIllegal : (ℕ → ℕ → Bool) → List ℕ → ℕ
+firstIllegal rule cells = first rule cells
 
 -- Every byte is legal.
-pub record Legal (cells : List ℕ) : Type 0 where
-  pub legal : (k : ℕ) → k < length cells → illegal (getD cells k 0) ≡ false
+pub record Legal (rule : ℕ → ℕ → Bool) (cells : List ℕ) : Type 0 where
+  pub legal : (k : ℕ) → k < length cells → rule k (getD cells k 0) ≡ false
 
--- ---- read backwards
+module _ (p : Profile) where
+  -- ---- bits to cells
 
--- The levels I and Q of a cell's X or Y byte.
-unfoldable pub iOf : ℕ → ℤ
-iOf v = levelAt (v / 4)
+  -- Symbol i of a buffer of bits.
+  unfoldable pub symbolAt : List ℕ → ℕ → ℕ
+  symbolAt bits i = fromBits (p .bits) (λ k. bit bits (i * p .bits + k))
 
-unfoldable pub qOf : ℕ → ℤ
-qOf v = levelAt (v % 4)
+  -- The cells of a buffer of bits: byte j of them, and all.
+  unfoldable pub cellsAt : List ℕ → ℕ → ℕ
+  cellsAt bits j = p .cell (symbolAt bits (j / 2)) (j % 2)
 
--- The bits c0 to c7 of the symbol whose cell is x, y.
-unfoldable pub symbol : ℕ → ℕ → List ℕ
-symbol x y =
-    firstBit (iOf x) ∷ firstBit (iOf y) ∷ secondBit (iOf x) ∷ secondBit (iOf y)
-    ∷ firstBit (qOf x) ∷ firstBit (qOf y) ∷ secondBit (qOf x) ∷ secondBit (qOf y) ∷ []
+  unfoldable pub toCells : List ℕ → List ℕ
+  toCells bits = tabulate (length bits * 8 / p .bits * 2) (cellsAt bits)
 
--- The byte whose cell is x, y.
-unfoldable pub byteOfCell : ℕ → ℕ → ℕ
-byteOfCell x y = fromBits 8 (λ k. getD (symbol x y) k 0)
+  -- ---- read backwards
 
--- The bits of the X or Y byte v of a cell by themselves: I's pair, then Q's.
-unfoldable pub railBits : ℕ → List ℕ
-railBits v = firstBit (iOf v) ∷ secondBit (iOf v) ∷ firstBit (qOf v) ∷ secondBit (qOf v) ∷ []
+  -- The bits of a buffer of cells: bit n of them, and all.
+  unfoldable pub bitAt : List ℕ → ℕ → ℕ
+  bitAt cells n = bitOf (p .bits) (p .symbol (getD cells (n / p .bits * 2) 0) (getD cells (n / p .bits * 2 + 1) 0)) (n % p .bits)
 
--- The bits of a buffer of cells: byte i of them, and all.
-unfoldable pub byteAt : List ℕ → ℕ → ℕ
-byteAt cells i = byteOfCell (getD cells (i * 2) 0) (getD cells (i * 2 + 1) 0)
-
-unfoldable pub toBits : List ℕ → List ℕ
-toBits cells = tabulate (length cells / 2) (byteAt cells)
+  unfoldable pub toBits : List ℕ → List ℕ
+  toBits cells = pack (length cells / 2 * p .bits / 8) (bitAt cells)

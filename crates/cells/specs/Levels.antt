@@ -2,7 +2,7 @@
 -- A level is a signed number.
 -- Assumes nothing.
 use mathlib.Core.Bool.{cond}
-use Prim.Native.Nat.{ℕ, zero, suc, _*_, _/_}
+use Prim.Native.Nat.{ℕ, zero, suc, _+_, _*_, _/_, _%_}
 use lib.Dec.{eqb}
 use lib.IntN.{ℤ, pos, negsuc, negℤ, natAbs, _+ℤ_, _-ℤ_}
 
@@ -37,3 +37,16 @@ firstBit (negsuc n) = 0
 
 unfoldable pub secondBit : ℤ → ℕ
 secondBit l = cond (eqb (natAbs l) 1) 1 0
+
+-- ---- the X or Y byte of a cell
+
+-- "A cell is two bytes, X then Y, each 4×(I+3)/2 + (Q+3)/2."
+unfoldable pub rails : ℤ → ℤ → ℕ
+rails i q = 4 * ordinal i + ordinal q
+
+-- Its levels I and Q.
+unfoldable pub iOf : ℕ → ℤ
+iOf v = levelAt (v / 4)
+
+unfoldable pub qOf : ℕ → ℤ
+qOf v = levelAt (v % 4)

@@ -7,14 +7,15 @@ use Prim.Native.Nat.{ℕ, zero, suc, _+_, _*_, _/_, _%_, _<_, _≤_}
 use native.Mathlib.Omega.{arith}
 use native.Mathlib.Decide.{ℕ-discrete}
 use borrow.Author.Tests.{eq-eqb, ne-eqb}
-use lib.Dec.{eqb}
+use lib.Dec.{eqb, leb}
 use lib.ListN.{length, getD, drop, length-take, length-drop}
 use lib.Seq.{ext-getD, getD-take, getD-drop}
 use Rattle.bits.specs.ListLaws.{length-tabulate, getD-tabulate}
 use Rattle.bits.specs.CountLaws.{count-none, count-zero, count-mono, differs-same, differs-eq, differs-le}
 use Rattle.bits.specs.TestLaws.{either, cond-yes, cond-no}
-use Rattle.cells.specs.Cells.{illegal, Legal}
-use Rattle.frames.specs.Frames.{isOverhead, overheadBefore, payloadBefore, overheadCells, payloadCells, overheadStart, ownOverhead, frameByte, frameAt, framed, payloadCell, payloadAt, unframed, cellDiffers, overheadDiffers, differing}
+use Rattle.cells.specs.Profile.{Profile}
+use Rattle.cells.specs.Cells.{overheadRule, payloadRule, Legal}
+use Rattle.frames.specs.Frames.{isOverhead, overheadBefore, payloadBefore, overheadCells, payloadCells, overheadStart, ownOverhead, frameByte, frameAt, framed, cellRule, frameRule, payloadCell, payloadAt, unframed, cellDiffers, overheadDiffers, differing}
 use Rattle.frames.specs.LayoutLaws.{own-within}
 use Rattle.frames.specs.PlaceLaws.{overhead-index-lt, payload-index-lt, Carried, carried, payloadCell-of}
 
@@ -177,31 +178,53 @@ own-at s overhead i l =
 
 -- ---- legal cells
 
-pub own-legal : (s : ℕ) (overhead : List ℕ) → s ≤ 47 → length overhead ≡ 12288 → Legal overhead → Legal (ownOverhead s overhead)
+pub own-legal : (s : ℕ) (overhead : List ℕ) → s ≤ 47 → length overhead ≡ 12288 → Legal overheadRule overhead → Legal overheadRule (ownOverhead s overhead)
+unfolding overheadRule
 own-legal s overhead l e h =
     record {
       legal = λ k lk. let i : k < overheadCells s * 2 = omega (arith, own-length s overhead l e) in
-          ap illegal (own-at s overhead k i) ∙ h .legal (overheadStart s * 2 + k) (omega (arith, own-within s l));
+          ap (leb 16) (own-at s overhead k i) ∙ h .legal (overheadStart s * 2 + k) (omega (arith, own-within s l));
     }
 
--- A buffer of n cells whose every byte is legal.
-legal-cells : (a : List ℕ) (n : ℕ) → length a ≡ n * 2 → ((m h : ℕ) → m < n → h < 2 → illegal (getD a (m * 2 + h) 0) ≡ false) → Legal a
-legal-cells a n la all =
-    record { legal = λ j l. let e : j ≡ j / 2 * 2 + j % 2 = omega arith in ap (λ k. illegal (getD a k 0)) e ∙ all (j / 2) (j % 2) (omega arith) (omega arith) }
+-- A buffer of n cells whose every byte is legal, by a rule that goes by cells.
+legal-cells : (rule : ℕ → ℕ → Bool) (a : List ℕ) (n : ℕ) → length a ≡ n * 2 → ((m h : ℕ) → m < n → h < 2 → rule m (getD a (m * 2 + h) 0) ≡ false)
+    → Legal (λ j. rule (j / 2)) a
+legal-cells rule a n la all =
+    record { legal = λ j l. let e : j ≡ j / 2 * 2 + j % 2 = omega arith in ap (λ k. rule (j / 2) (getD a k 0)) e ∙ all (j / 2) (j % 2) (omega arith) (omega arith) }
 
--- Legal cells in, legal cells out.
-pub framed-legal : (s : ℕ) (payload own : List ℕ) → length payload ≡ payloadCells s * 2 → length own ≡ overheadCells s * 2 → Legal payload → Legal own → Legal (framed s payload own)
-framed-legal s payload own lp lo hp ho =
-    legal-cells (framed s payload own) 3712 (framed-length s payload own) (λ m h lm lh. at m h lm lh (isOverhead s m) refl)
-  where
-    at : (m h : ℕ) → m < 3712 → h < 2 → (t : Bool) → isOverhead s m ≡ t → illegal (getD (framed s payload own) (m * 2 + h) 0) ≡ false
-    at m h lm lh true t =
-        ap illegal (framed-overhead s payload own m h lm lh t) ∙ ho .legal (overheadBefore s m * 2 + h) (omega (arith, overhead-index-lt s m lm t))
-    at m h lm lh false t =
-        ap illegal (framed-payload s payload own m h lm lh t) ∙ hp .legal (payloadBefore s m * 2 + h) (omega (arith, payload-index-lt s m lm t))
+module _ (p : Profile) (s : ℕ) where
+  -- The rule of a frame at its overhead and payload cells.
+  rule-overhead : (m v : ℕ) → isOverhead s m ≡ true → cellRule p s m v ≡ leb 16 v
+  unfolding cellRule
+  rule-overhead m v e = simp e
 
-pub unframed-legal : (s : ℕ) (frame : List ℕ) → length frame ≡ 7424 → Legal frame → Legal (unframed s frame)
-unframed-legal s frame lf hf =
-    legal-cells (unframed s frame) (payloadCells s) (unframed-length s frame)
-    (λ y h ly lh. let c : Carried s y (payloadCell s y) = carried s y ly in
-    ap illegal (unframed-byte s frame y h ly lh) ∙ hf .legal (payloadCell s y * 2 + h) (omega (arith, c .inside)))
+  rule-payload : (m v : ℕ) → isOverhead s m ≡ false → cellRule p s m v ≡ p .illegal v
+  unfolding cellRule
+  rule-payload m v e = simp e
+
+  -- Legal cells in, legal cells out.
+  pub framed-legal : (payload own : List ℕ) → length payload ≡ payloadCells s * 2 → length own ≡ overheadCells s * 2 → Legal (payloadRule p) payload → Legal overheadRule own
+      → Legal (frameRule p s) (framed s payload own)
+  unfolding frameRule overheadRule payloadRule
+  framed-legal payload own lp lo hp ho =
+      legal-cells (cellRule p s) (framed s payload own) 3712 (framed-length s payload own) (λ m h lm lh. at m h lm lh (isOverhead s m) refl)
+    where
+      at : (m h : ℕ) → m < 3712 → h < 2 → (t : Bool) → isOverhead s m ≡ t → cellRule p s m (getD (framed s payload own) (m * 2 + h) 0) ≡ false
+      at m h lm lh true t =
+          rule-overhead m _ t ∙ ap (leb 16) (framed-overhead s payload own m h lm lh t) ∙ ho .legal (overheadBefore s m * 2 + h) (omega (arith, overhead-index-lt s m lm t))
+      at m h lm lh false t =
+          rule-payload m _ t ∙ ap (p .illegal) (framed-payload s payload own m h lm lh t) ∙ hp .legal (payloadBefore s m * 2 + h) (omega (arith, payload-index-lt s m lm t))
+
+  -- The bytes of a legal frame's payload cells are legal.
+  pub payload-cell-legal : (frame : List ℕ) → length frame ≡ 7424 → Legal (frameRule p s) frame → (m h : ℕ) → m < 3712 → h < 2 → isOverhead s m ≡ false
+      → p .illegal (getD frame (m * 2 + h) 0) ≡ false
+  unfolding frameRule
+  payload-cell-legal frame lf hf m h lm lh e =
+      sym (ap (λ k. cellRule p s k (getD frame (m * 2 + h) 0)) (cell-of m h lh) ∙ rule-payload m _ e) ∙ hf .legal (m * 2 + h) (omega arith)
+
+  pub unframed-legal : (frame : List ℕ) → length frame ≡ 7424 → Legal (frameRule p s) frame → Legal (payloadRule p) (unframed s frame)
+  unfolding payloadRule
+  unframed-legal frame lf hf =
+      legal-cells (λ y. p .illegal) (unframed s frame) (payloadCells s) (unframed-length s frame)
+      (λ y h ly lh. let c : Carried s y (payloadCell s y) = carried s y ly in
+      ap (p .illegal) (unframed-byte s frame y h ly lh) ∙ payload-cell-legal frame lf hf (payloadCell s y) h (c .inside) lh (c .payload))

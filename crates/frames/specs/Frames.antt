@@ -5,11 +5,12 @@
 use mathlib.Core.Bool.{Bool, cond, not, _&&_, _||_}
 use mathlib.Core.List.{List}
 use Prim.Native.Nat.{ℕ, suc, _+_, _-_, _*_, _/_, _%_}
-use lib.Dec.{eqb, ltb}
+use lib.Dec.{eqb, leb, ltb}
 use lib.ListN.{getD, take, drop}
 use Rattle.bits.specs.Lists.{tabulate}
 use Rattle.bits.specs.Count.{count, differs}
 use Rattle.bits.specs.Least.{least}
+use Rattle.cells.specs.Profile.{Profile}
 
 -- ---- overhead and payload cells
 
@@ -53,6 +54,16 @@ frameAt s payload own j = frameByte s payload own (j / 2) (j % 2)
 
 unfoldable pub framed : ℕ → List ℕ → List ℕ → List ℕ
 framed s payload own = tabulate 7424 (frameAt s payload own)
+
+-- ---- legal cells
+
+-- A frame is judged cell by cell: an illegal byte of cell m of sub-frame s, by the rule of overhead or by the profile's rule of payload, ..
+unfoldable pub cellRule : Profile → ℕ → ℕ → ℕ → Bool
+cellRule p s m v = cond (isOverhead s m) (leb 16 v) (p .illegal v)
+
+-- .. and of its byte j.
+unfoldable pub frameRule : Profile → ℕ → ℕ → ℕ → Bool
+frameRule p s j v = cellRule p s (j / 2) v
 
 -- ---- unframing
 

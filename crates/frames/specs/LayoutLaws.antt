@@ -9,6 +9,8 @@ use native.Mathlib.Decide.{ℕ-discrete, decLt}
 use borrow.Author.Tests.{eq-eqb, ne-eqb, lt-ltb, le-ltb}
 use Rattle.bits.specs.Count.{count}
 use Rattle.bits.specs.TestLaws.{cond-yes, cond-no}
+use Rattle.cells.specs.Profile.{Profile, cellsPerBuffer, buffersIn}
+use Rattle.cells.specs.CellLaws.{buffer-whole}
 use Rattle.frames.specs.Frames.{isOverhead, overheadBefore, payloadBefore, overheadCells, payloadCells, overheadStart, payloadStart}
 use Rattle.frames.specs.Layout.{edge, gap, spot}
 
@@ -221,9 +223,10 @@ overhead-all = overheadStart-closed 47
 pub payload-all : payloadStart 48 ≡ 172032
 payload-all = payloadStart-closed 47
 
--- "eight buffers": a buffer is 21,504 cells.
-pub eight-buffers : payloadStart 48 ≡ 8 * 21504
-eight-buffers = payload-all
+-- "eight buffers" in 16-QAM: the buffers of a super-frame fill its payload cells, in any profile.
+pub buffers-fill : (p : Profile) → payloadStart 48 ≡ buffersIn p 1 * cellsPerBuffer p
+unfolding buffersIn
+buffers-fill p = omega (arith, payload-all, buffer-whole p)
 
 -- ---- the cell of a payload cell
 

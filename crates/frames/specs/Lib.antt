@@ -7,3 +7,4 @@ pub mod FrameLaws
 pub mod ByteLaws
 pub mod Calls
 pub mod CallLaws
+pub mod Qam16Flat

@@ -9,7 +9,8 @@ ghost use mathlib.Core.Path.{_≡_};
 ghost use mathlib.Core.List.{[]};
 ghost use Rattle.calls.specs.declared.Answer.the-variants.{Done};
 ghost use Rattle.cells.specs.Calls.{after};
-ghost use Rattle.frames.specs.Calls.{subFrameCall, frameCall, unframeCall};
+ghost use Rattle.cells.specs.Profiles.{qam16};
+ghost use Rattle.frames.specs.Calls.{tested, frameCall, unframeCall};
 
 // The bytes of the overhead list: 6,144 cells.
 const OVERHEAD: usize = 12288;
@@ -20,9 +21,9 @@ const FRAME: usize = 7424;
 // The last sub-frame of a super-frame.
 const LAST: u32 = 47;
 
-// What both calls test, in the order of the table; `read` is the buffer that the call reads beside the overhead list.
-fn judge(number: u32, overhead: &[u8], frame: &[u8], payload: &[u8], read: &[u8]) -> Answer
-    ensures { λ r. ⌜ after r [] ≡ subFrameCall number (now (overhead .entry)) (now (frame .entry)) (now (payload .entry)) (now (read .entry)) [] (after (Done 0) []) ⌝ }
+// What both calls test first, in the order of the table.
+fn judge(number: u32, overhead: &[u8], frame: &[u8], payload: &[u8]) -> Answer
+    ensures { λ r. ⌜ after r [] ≡ tested number (now (overhead .entry)) (now (frame .entry)) (now (payload .entry)) [] (after (Done 0) []) ⌝ }
 {
     if overhead.len() != OVERHEAD {
         return Answer::Refused(Refusal::Misfit);
@@ -42,19 +43,19 @@ fn judge(number: u32, overhead: &[u8], frame: &[u8], payload: &[u8], read: &[u8]
     if at < own.len() {
         return Answer::Refused(Refusal::OffGrid(layout::overhead_start(number) * 2 + at));
     }
-    let to = first_illegal(read);
-    if to < read.len() {
-        return Answer::Refused(Refusal::OffGrid(to));
-    }
     Answer::Done(0)
 }
 
 // A sub-frame, of its payload and its part of the overhead list.
 pub fn frame(number: u32, payload: &[u8], overhead: &[u8], frame: &mut [u8]) -> Answer
-    ensures { λ r. ⌜ after r (now (frame .exit)) ≡ frameCall number (now (payload .entry)) (now (overhead .entry)) (now (frame .entry)) ⌝ }
+    ensures { λ r. ⌜ after r (now (frame .exit)) ≡ frameCall qam16 number (now (payload .entry)) (now (overhead .entry)) (now (frame .entry)) ⌝ }
 {
-    if let Answer::Refused(r) = judge(number, overhead, frame, payload, payload) {
+    if let Answer::Refused(r) = judge(number, overhead, frame, payload) {
         return Answer::Refused(r);
+    }
+    let to = first_illegal(payload);
+    if to < payload.len() {
+        return Answer::Refused(Refusal::OffGrid(to));
     }
     placing::place(
         number,
@@ -67,10 +68,14 @@ pub fn frame(number: u32, payload: &[u8], overhead: &[u8], frame: &mut [u8]) -> 
 
 // The payload of a sub-frame, and the number of its overhead cells that differ from the overhead list.
 pub fn unframe(number: u32, frame: &[u8], overhead: &[u8], payload: &mut [u8]) -> Answer
-    ensures { λ r. ⌜ after r (now (payload .exit)) ≡ unframeCall number (now (frame .entry)) (now (overhead .entry)) (now (payload .entry)) ⌝ }
+    ensures { λ r. ⌜ after r (now (payload .exit)) ≡ unframeCall qam16 number (now (frame .entry)) (now (overhead .entry)) (now (payload .entry)) ⌝ }
 {
-    if let Answer::Refused(r) = judge(number, overhead, frame, payload, frame) {
+    if let Answer::Refused(r) = judge(number, overhead, frame, payload) {
         return Answer::Refused(r);
+    }
+    let to = first_illegal(frame);
+    if to < frame.len() {
+        return Answer::Refused(Refusal::OffGrid(to));
     }
     placing::extract(number, frame, payload);
     let own = layout::own_overhead(number, overhead);

@@ -11,6 +11,7 @@ use Rattle.bch.specs.BenchValues.{setAt}
 use Rattle.ofec.specs.Rows.{RowBits, wordOf, payloadIndex}
 use Rattle.interleaving.specs.BenchValues.{ComesFrom}
 use Rattle.cells.specs.Cells.{toCells}
+use Rattle.cells.specs.Profiles.{qam16}
 
 pub record BenchValues : Type 0 where
   -- "Only bit 238 set among 0 to 238: parity bits set are 240, 241, 243, 244, 245, 246, 248, 249, 253, 254, 255."
@@ -40,4 +41,4 @@ pub record BenchValues : Type 0 where
   pub output-32 : ComesFrom 32 0 0 0 15 7
   pub output-172031 : ComesFrom 172031 1 41 7 0 15
   -- "Bytes to cells: 255 gives 10, 10; 128 gives 12, 0; 8 gives 3, 0; 1 gives 0, 1."
-  pub cells : toCells (255 ∷ 128 ∷ 8 ∷ 1 ∷ []) ≡ 10 ∷ 10 ∷ 12 ∷ 0 ∷ 3 ∷ 0 ∷ 0 ∷ 1 ∷ []
+  pub cells : toCells qam16 (255 ∷ 128 ∷ 8 ∷ 1 ∷ []) ≡ 10 ∷ 10 ∷ 12 ∷ 0 ∷ 3 ∷ 0 ∷ 0 ∷ 1 ∷ []

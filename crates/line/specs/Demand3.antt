@@ -6,36 +6,37 @@ use Rattle.calls.specs.Answers.{Accepted, TurnedBack, valueOr}
 use Rattle.calls.specs.Sequences.{At, accepted}
 use Rattle.ofec.specs.Calls.{Encoding, encode, Receiving, receive, Receivings}
 use Rattle.ofec.specs.Promise.{Promise}
+use Rattle.cells.specs.Profile.{Profile, buffersIn, rowsIn}
 use Rattle.line.specs.Sides.{Side}
 use Rattle.line.specs.Line.{lineBit}
 use Rattle.line.specs.Outward.{Outward, interleaving, mapping, framing, frames}
 use Rattle.line.specs.Inward.{Inward, unframing, demapping, parting}
 
 -- What goes out, by itself.
-pub record Goes (o : Outward) : Type 0 where
+pub record Goes (p : Profile) (o : Outward p) : Type 0 where
   -- "each is made for every buffer or sub-frame and accepted"
-  pub interleaved : (b : ℕ) → b < 8 * o .superframes → Accepted (interleaving o b .answer)
-  pub mapped : (b : ℕ) → b < 8 * o .superframes → Accepted (mapping o b .answer)
-  pub framed : (f : ℕ) → f < 48 * o .superframes → Accepted (framing o f .answer)
+  pub interleaved : (b : ℕ) → b < buffersIn p (o .superframes) → Accepted (interleaving p o b .answer)
+  pub mapped : (b : ℕ) → b < buffersIn p (o .superframes) → Accepted (mapping p o b .answer)
+  pub framed : (f : ℕ) → f < 48 * o .superframes → Accepted (framing p o f .answer)
   -- "The frames, read backwards, hold every sent bit of both encoders in its place"
-  pub holds : (e : Side) (R C r c : ℕ) → R < 336 * o .superframes → C < 8 → r < 16 → c < 16 → lineBit (frames o) e R C r c ≡ o .sent e R C r c
+  pub holds : (e : Side) (R C r c : ℕ) → R < rowsIn p (o .superframes) → C < 8 → r < 16 → c < 16 → lineBit p (frames p o) e R C r c ≡ o .sent e R C r c
   -- "Refused calls .. leave both as they were": history and pair number, and the other buffer that the call may write.
   pub refused : (e : Side) (i : ℕ) (c : Encoding) → At (o .calls e) i c → TurnedBack (encode c .answer)
       → (encode c .history ≡ c .history) × (encode c .coded ≡ c .coded) × (valueOr (encode c .answer) (c .pair) ≡ c .pair)
 
 -- What comes in.
-pub record Comes (o : Outward) (i : Inward o) : Type 0 where
-  pub unframed : (f : ℕ) → f < 48 * o .superframes → Accepted (unframing (o .superframes) (i .heard) f .answer)
-  pub demapped : (b : ℕ) → b < 8 * o .superframes → Accepted (demapping (o .superframes) (i .heard) b .answer)
-  pub parted : (b : ℕ) → b < 8 * o .superframes → Accepted (parting (o .superframes) (i .heard) b .answer)
+pub record Comes (p : Profile) (o : Outward p) (i : Inward p o) : Type 0 where
+  pub unframed : (f : ℕ) → f < 48 * o .superframes → Accepted (unframing p (o .superframes) (i .heard) f .answer)
+  pub demapped : (b : ℕ) → b < buffersIn p (o .superframes) → Accepted (demapping p (o .superframes) (i .heard) b .answer)
+  pub parted : (b : ℕ) → b < buffersIn p (o .superframes) → Accepted (parting p (o .superframes) (i .heard) b .answer)
   -- Of each word (R, r) of each accepted receiving call, that on pair P, the code layer's promise, with the received bits off the line.
   pub words : (e : Side) (P : ℕ) (c : Receiving) → At (accepted Receivings (i .calls e)) P c → (R r : ℕ) → R / 2 ≡ P → r < 16
-      → Promise (o .sent e) (lineBit (i .heard .frames) e) c R r
+      → Promise (o .sent e) (lineBit p (i .heard .frames) e) c R r
   pub refused : (e : Side) (j : ℕ) (c : Receiving) → At (i .calls e) j c → TurnedBack (receive c .answer)
       → (receive c .history ≡ c .history) × (receive c .payload ≡ c .payload) × (receive c .marks ≡ c .marks)
       × (valueOr (receive c .answer) (c .pair) ≡ c .pair)
 
 -- "This is a single claim about the four lists together, and not one for each call."
-pub record Demand3 (o : Outward) (i : Inward o) : Type 0 where
-  pub goes : Goes o
-  pub comes : Comes o i
+pub record Demand3 (p : Profile) (o : Outward p) (i : Inward p o) : Type 0 where
+  pub goes : Goes p o
+  pub comes : Comes p o i

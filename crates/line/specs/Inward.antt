@@ -10,9 +10,10 @@ use Rattle.calls.specs.Sequences.{At, Run, accepted}
 use Rattle.ofec.specs.Calls.{Receiving, Receivings, State, start}
 use Rattle.ofec.specs.Promise.{Limit}
 use Rattle.interleaving.specs.Calls.{Apart, deinterleave}
-use Rattle.cells.specs.Cells.{Legal}
+use Rattle.cells.specs.Profile.{Profile, cellsPerBuffer, pairsIn}
+use Rattle.cells.specs.Cells.{overheadRule, Legal}
 use Rattle.cells.specs.Calls.{After, cellsToBits}
-use Rattle.frames.specs.Frames.{payloadCells, payloadStart, subFrameOf}
+use Rattle.frames.specs.Frames.{payloadCells, payloadStart, frameRule, subFrameOf}
 use Rattle.frames.specs.Calls.{unframeCall}
 use Rattle.line.specs.Sides.{Side, side0, side1}
 use Rattle.line.specs.Line.{lineBit}
@@ -29,30 +30,30 @@ pub record LentIn : Type 0 where
   pub pairs-long : (e : Side) (b : ℕ) → length (pairs e b) ≡ 10752
 
 -- What came off a line of n super-frames, legal but otherwise of any kind; the overhead list that unframing is lent, and the buffers.
-pub record Heard (n : ℕ) : Type 0 where
+pub record Heard (p : Profile) (n : ℕ) : Type 0 where
   pub frames : List (List ℕ)
   pub many : length frames ≡ 48 * n
   pub long : (f : ℕ) → f < 48 * n → length (getD frames f []) ≡ 7424
-  pub legal : (f : ℕ) → f < 48 * n → Legal (getD frames f [])
+  pub legal : (f : ℕ) → f < 48 * n → Legal (frameRule p (f % 48)) (getD frames f [])
   pub overhead : List ℕ
   pub overhead-long : length overhead ≡ 12288
-  pub overhead-legal : Legal overhead
+  pub overhead-legal : Legal overheadRule overhead
   pub lent : LentIn
 
 -- The calls, "each is made for every buffer or sub-frame".
-module _ (n : ℕ) (h : Heard n) where
+module _ (p : Profile) (n : ℕ) (h : Heard p n) where
   unfoldable pub unframing : ℕ → After
-  unframing f = unframeCall (f % 48) (getD (h .frames) f []) (h .overhead) (h .lent .payload f)
+  unframing f = unframeCall p (f % 48) (getD (h .frames) f []) (h .overhead) (h .lent .payload f)
 
-  -- "Payload runs on from buffer to buffer and sub-frame to sub-frame": byte y of the payload of super-frame q, and the cells of buffer b.
-  unfoldable pub heardByte : ℕ → ℕ → ℕ
-  heardByte q y = getD (unframing (48 * q + subFrameOf (y / 2)) .written) (y - payloadStart (subFrameOf (y / 2)) * 2) 0
+  -- "Payload runs on from buffer to buffer and sub-frame to sub-frame": byte k of payload cell x of super-frame q, and the cells of buffer b.
+  unfoldable pub heardByte : ℕ → ℕ → ℕ → ℕ
+  heardByte q x k = getD (unframing (48 * q + subFrameOf x) .written) ((x - payloadStart (subFrameOf x)) * 2 + k) 0
 
   unfoldable pub bufferCells : ℕ → List ℕ
-  bufferCells b = tabulate 43008 (λ i. heardByte (b / 8) (b % 8 * 43008 + i))
+  bufferCells b = tabulate (cellsPerBuffer p * 2) (λ i. heardByte (b / p .bits) (b % p .bits * cellsPerBuffer p + i / 2) (i % 2))
 
   unfoldable pub demapping : ℕ → After
-  demapping b = cellsToBits (bufferCells b) (h .lent .bits b)
+  demapping b = cellsToBits p (bufferCells b) (h .lent .bits b)
 
   unfoldable pub parting : ℕ → Apart
   parting b = deinterleave (demapping b .written) (h .lent .pairs side0 b) (h .lent .pairs side1 b)
@@ -66,13 +67,13 @@ module _ (n : ℕ) (h : Heard n) where
   receivedPair e P = tabulate 512 (λ i. getD (pairsBack e (P / 21)) (512 * (P % 21) + i) 0)
 
 -- The two lists of receiving calls on it.
-pub record Inward (o : Outward) : Type 0 where
-  pub heard : Heard (o .superframes)
+pub record Inward (p : Profile) (o : Outward p) : Type 0 where
+  pub heard : Heard p (o .superframes)
   pub calls : Side → List Receiving
   pub last : Side → State
   pub runs : (e : Side) → Run Receivings start (calls e) (last e)
   -- "The accepted calls of a receiver take its encoder's received pairs in order from pair 0, all or only the first so many."
-  pub some : (e : Side) → length (accepted Receivings (calls e)) ≤ 168 * o .superframes
-  pub in-order : (e : Side) (P : ℕ) (c : Receiving) → At (accepted Receivings (calls e)) P c → c .coded ≡ receivedPair (o .superframes) heard e P
+  pub some : (e : Side) → length (accepted Receivings (calls e)) ≤ pairsIn p (o .superframes)
+  pub in-order : (e : Side) (P : ℕ) (c : Receiving) → At (accepted Receivings (calls e)) P c → c .coded ≡ receivedPair p (o .superframes) heard e P
   -- "The three wrong bits are a limit on the words of the pairs that it took."
-  pub limit : (e : Side) → Limit (o .sent e) (lineBit (heard .frames) e) (length (accepted Receivings (calls e)))
+  pub limit : (e : Side) → Limit (o .sent e) (lineBit p (heard .frames) e) (length (accepted Receivings (calls e)))

@@ -1,5 +1,6 @@
 -- The statement of demand 3, top down: Demand3 (the claims), Outward and Inward (what goes out and what comes in), Line (the bit that
--- the cells of a line give), Sides. Theorem is its proof, over LineLaws, OutwardLaws and InwardLaws.
+-- the cells of a line give), Sides. Theorem is its proof, over LineLaws, OutwardLaws and InwardLaws,
+-- for every profile; Profiles names it for each.
 -- Witness shows that it says something: Runs (what runs are made of), CallLists (calls one after the other, refused ones among them).
 -- BenchValues are those of 01 with a dagger, together.
 pub mod Sides
@@ -11,6 +12,7 @@ pub mod LineLaws
 pub mod OutwardLaws
 pub mod InwardLaws
 pub mod Theorem
+pub mod Profiles
 pub mod CallLists
 pub mod CallListLaws
 pub mod Runs

@@ -4,9 +4,10 @@
 use mathlib.Core.List.{List, []}
 use Prim.Native.Nat.{ℕ, _+_, _*_, _/_, _%_}
 use lib.ListN.{getD}
+use Rattle.bits.specs.Bits.{bitOf}
 use Rattle.ofec.specs.Rows.{RowBits}
 use Rattle.interleaving.specs.Interleaving.{pairsBit, outputOf}
-use Rattle.cells.specs.Cells.{symbol}
+use Rattle.cells.specs.Profile.{Profile, cellsPerBuffer}
 use Rattle.frames.specs.Frames.{subFrameOf, cellOf}
 use Rattle.line.specs.Sides.{Side, encoder}
 
@@ -14,17 +15,18 @@ use Rattle.line.specs.Sides.{Side, encoder}
 unfoldable pub outputBit : Side → ℕ → ℕ → ℕ → ℕ → ℕ
 outputBit e R C r c = outputOf (encoder e) (pairsBit (R % 42) C r c)
 
--- "A byte's bits .. are one symbol", and a cell: output bit n is in cell n div 8 of its buffer. "eight buffers" fill a super-frame, so
--- that is this payload cell of super-frame R div 42 div 8.
-unfoldable pub payloadCellOf : Side → ℕ → ℕ → ℕ → ℕ → ℕ
-payloadCellOf e R C r c = R / 42 % 8 * 21504 + outputBit e R C r c / 8
+-- Output bit n is in symbol n div w of its buffer, w being the bits of a symbol, and a symbol is a cell. A super-frame is w buffers, so that
+-- is this payload cell of super-frame R div 42 div w.
+unfoldable pub payloadCellOf : Profile → Side → ℕ → ℕ → ℕ → ℕ → ℕ
+payloadCellOf p e R C r c = R / 42 % p .bits * cellsPerBuffer p + outputBit e R C r c / p .bits
 
 -- Byte h (X or Y) of payload cell x of super-frame q, on a line that is the list of its sub-frames, 48 a super-frame.
 unfoldable pub lineByte : List (List ℕ) → ℕ → ℕ → ℕ → ℕ
 lineByte frames q x h = getD (getD frames (48 * q + subFrameOf x) []) (cellOf x * 2 + h) 0
 
--- The bit of (R, C, r, c) of an encoder that a line of frames gives.
-unfoldable pub lineBit : List (List ℕ) → Side → RowBits
-lineBit frames e R C r c =
-    getD (symbol (lineByte frames (R / 42 / 8) (payloadCellOf e R C r c) 0) (lineByte frames (R / 42 / 8) (payloadCellOf e R C r c) 1))
-    (outputBit e R C r c % 8) 0
+-- The bit of (R, C, r, c) of an encoder that a line of frames gives: bit n mod w of the symbol of that cell.
+unfoldable pub lineBit : Profile → List (List ℕ) → Side → RowBits
+lineBit p frames e R C r c =
+    bitOf (p .bits)
+    (p .symbol (lineByte frames (R / 42 / p .bits) (payloadCellOf p e R C r c) 0) (lineByte frames (R / 42 / p .bits) (payloadCellOf p e R C r c) 1))
+    (outputBit e R C r c % p .bits)

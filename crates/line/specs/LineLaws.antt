@@ -10,12 +10,14 @@ use lib.ListN.{length, getD}
 use Rattle.bits.specs.Lists.{tabulate}
 use Rattle.bits.specs.ListLaws.{getD-tabulate}
 use Rattle.bits.specs.Bits.{bitOf, bit}
+use Rattle.bits.specs.DigitLaws.{digit-lt, digits, group-of, place-of, place-lt, group-lt}
 use Rattle.ofec.specs.Pairs.{pairIndex, pairBit}
 use Rattle.interleaving.specs.Interleaving.{pairsBit, pairsOf}
 use Rattle.interleaving.specs.PositionLaws.{outputFor}
 use Rattle.interleaving.specs.InterleavingLaws.{pairsBit-lt, outputOf-lt, output-for}
-use Rattle.cells.specs.Cells.{symbol, toBits}
-use Rattle.cells.specs.CellLaws.{toBits-bit}
+use Rattle.cells.specs.Profile.{Profile, cellsPerBuffer, buffersIn}
+use Rattle.cells.specs.Cells.{toBits}
+use Rattle.cells.specs.CellLaws.{width-pos, buffer-whole, cells-pos, toBits-bit, buffer-bits}
 use Rattle.line.specs.Sides.{Side, side0, side1, encoder, buffers}
 use Rattle.line.specs.Line.{outputBit, payloadCellOf, lineByte, lineBit}
 use Rattle.line.specs.Outward.{pairsOfBuffer}
@@ -61,10 +63,6 @@ module _ (e : Side) (R C r c : ℕ) (lC : C < 8) (lr : r < 16) (lc : c < 16) whe
   pub outputBit-for : outputBit e R C r c ≡ outputFor (encoder e) (R % 42) C r c
   unfolding outputBit
   outputBit-for = output-for (encoder e) (R % 42) C r c (encoder-lt e) row-lt lC lr lc
-
-  pub payloadCellOf-lt : payloadCellOf e R C r c < 172032
-  unfolding payloadCellOf
-  payloadCellOf-lt = omega (arith, outputBit-lt)
 
 -- ---- a pair among the pairs of a buffer
 
@@ -124,52 +122,52 @@ module _ (R C r c : ℕ) (lC : C < 8) (lr : r < 16) (lc : c < 16) where
 
 -- ---- the bits of a line by the cells of its buffers
 
--- The cells of buffer b, as they lie on a line.
-pub record OnLine (frames : List (List ℕ)) (b : ℕ) (cells : List ℕ) : Type 0 where
-  pub size : length cells ≡ 43008
-  pub bytes : (i : ℕ) → i < 43008 → getD cells i 0 ≡ lineByte frames (b / 8) (b % 8 * 21504 + i / 2) (i % 2)
+module _ (p : Profile) where
+  -- The cells of buffer b, as they lie on a line.
+  pub record OnLine (frames : List (List ℕ)) (b : ℕ) (cells : List ℕ) : Type 0 where
+    pub size : length cells ≡ cellsPerBuffer p * 2
+    pub bytes : (i : ℕ) → i < cellsPerBuffer p * 2 → getD cells i 0 ≡ lineByte frames (b / p .bits) (b % p .bits * cellsPerBuffer p + i / 2) (i % 2)
 
--- Byte i of buffer b among the bytes of its super-frame.
-module _ (b i : ℕ) (li : i < 43008) where
-  pub byte-lt : b % 8 * 43008 + i < 344064
-  byte-lt = omega arith
+  -- The super-frame of a buffer.
+  pub buffer-lt : (b n : ℕ) → b < buffersIn p n → b / p .bits < n
+  unfolding buffersIn
+  buffer-lt b n l = group-lt (p .bits) (width-pos p) b n l
 
-  pub byte-cell : (b % 8 * 43008 + i) / 2 ≡ b % 8 * 21504 + i / 2
-  byte-cell = omega arith
+  -- Cell c of buffer b among the cells of its super-frame.
+  module _ (b c : ℕ) (lc : c < cellsPerBuffer p) where
+    pub cell-lt : b % p .bits * cellsPerBuffer p + c < 172032
+    cell-lt = omega (arith, place-lt (cellsPerBuffer p) (cells-pos p) (b % p .bits) c (p .bits) (digit-lt (p .bits) (width-pos p) b) lc, buffer-whole p)
 
-  pub byte-half : (b % 8 * 43008 + i) % 2 ≡ i % 2
-  byte-half = omega arith
+    pub cell-buffer : buffersIn p (b / p .bits) + (b % p .bits * cellsPerBuffer p + c) / cellsPerBuffer p ≡ b
+    unfolding buffersIn
+    cell-buffer = omega (arith, group-of (cellsPerBuffer p) (cells-pos p) (b % p .bits) c lc, digits (p .bits) (width-pos p) b)
 
-  pub byte-buffer : 8 * (b / 8) + (b % 8 * 43008 + i) / 43008 ≡ b
-  byte-buffer = omega arith
+    pub cell-place : (b % p .bits * cellsPerBuffer p + c) % cellsPerBuffer p ≡ c
+    cell-place = place-of (cellsPerBuffer p) (cells-pos p) (b % p .bits) c lc
 
-  pub byte-place : (b % 8 * 43008 + i) % 43008 ≡ i
-  byte-place = omega arith
+  -- The line's bit is that of the buffer's cells made bits.
+  pub line-bit : (frames : List (List ℕ)) (e : Side) (R C r c : ℕ) → C < 8 → r < 16 → c < 16 → (cells : List ℕ) → OnLine frames (R / 42) cells
+      → lineBit p frames e R C r c ≡ bit (toBits p cells) (outputBit e R C r c)
+  unfolding lineBit payloadCellOf
+  line-bit frames e R C r c lC lr lc cells on =
+      sym
+      (toBits-bit p cells n (omega (arith, ln, buffer-bits p cells (on .size)))
+      ∙ ap₂ (λ x y. bitOf (p .bits) (p .symbol x y) (n % p .bits)) (half 0 (k * 2) (omega arith) (omega arith)) (half 1 (k * 2 + 1) (omega arith) (omega arith)))
+    where
+      n : ℕ
+      n = outputBit e R C r c
 
-  pub cell-lt : b % 8 * 21504 + i / 2 < 172032
-  cell-lt = omega arith
+      k : ℕ
+      k = n / p .bits
 
--- The line's bit is that of the buffer's cells made bits.
-pub line-bit : (frames : List (List ℕ)) (e : Side) (R C r c : ℕ) → C < 8 → r < 16 → c < 16 → (cells : List ℕ) → OnLine frames (R / 42) cells
-    → lineBit frames e R C r c ≡ bit (toBits cells) (outputBit e R C r c)
-unfolding lineBit payloadCellOf
-line-bit frames e R C r c lC lr lc cells on =
-    sym
-    (ap (bit (toBits cells)) (parts n)
-    ∙ toBits-bit cells (n / 8) (n % 8) (omega (arith, ln, on .size)) (omega arith)
-    ∙ ap₂ (λ x y. getD (symbol x y) (n % 8) 0) (half 0 (n / 8 * 2) (omega arith) (omega arith)) (half 1 (n / 8 * 2 + 1) (omega arith) (omega arith)))
-  where
-    n : ℕ
-    n = outputBit e R C r c
+      ln : n < 172032
+      ln = outputBit-lt e R C r c lC lr lc
 
-    ln : n < 172032
-    ln = outputBit-lt e R C r c lC lr lc
+      lk : k < cellsPerBuffer p
+      lk = group-lt (p .bits) (width-pos p) n (cellsPerBuffer p) (omega (arith, ln, buffer-whole p))
 
-    parts : (k : ℕ) → k ≡ k / 8 * 8 + k % 8
-    parts k = omega arith
-
-    half : (h i : ℕ) → h < 2 → i ≡ n / 8 * 2 + h → getD cells i 0 ≡ lineByte frames (R / 42 / 8) (R / 42 % 8 * 21504 + n / 8) h
-    half h i lh is =
-        let d : i / 2 ≡ n / 8 = omega arith in
-        let m : i % 2 ≡ h = omega arith in
-        on .bytes i (omega (arith, ln)) ∙ ap₂ (λ x k. lineByte frames (R / 42 / 8) (R / 42 % 8 * 21504 + x) k) d m
+      half : (h i : ℕ) → h < 2 → i ≡ k * 2 + h → getD cells i 0 ≡ lineByte frames (R / 42 / p .bits) (R / 42 % p .bits * cellsPerBuffer p + k) h
+      half h i lh is =
+          let d : i / 2 ≡ k = omega arith in
+          let m : i % 2 ≡ h = omega arith in
+          on .bytes i (omega (arith, lk)) ∙ ap₂ (λ x b. lineByte frames (R / 42 / p .bits) (R / 42 % p .bits * cellsPerBuffer p + x) b) d m

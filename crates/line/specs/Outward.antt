@@ -11,7 +11,8 @@ use Rattle.ofec.specs.Rows.{RowBits}
 use Rattle.ofec.specs.Sent.{Sent}
 use Rattle.ofec.specs.Calls.{Encoding, encode, Encodings, State, start, payloads}
 use Rattle.interleaving.specs.Calls.{Interleaved, interleave}
-use Rattle.cells.specs.Cells.{Legal}
+use Rattle.cells.specs.Profile.{Profile, cellsPerBuffer, buffersIn, pairsIn}
+use Rattle.cells.specs.Cells.{overheadRule, Legal}
 use Rattle.cells.specs.Calls.{After, bitsToCells}
 use Rattle.frames.specs.Frames.{payloadCells, payloadStart}
 use Rattle.frames.specs.Calls.{frameCall}
@@ -19,25 +20,25 @@ use Rattle.line.specs.Sides.{Side, side0, side1, buffers}
 
 -- Output buffers lent to the line calls, of any content and the stated length: bits and cells for each buffer b, a frame for each
 -- sub-frame f of the line.
-pub record LentOut : Type 0 where
+pub record LentOut (p : Profile) : Type 0 where
   pub bits : ℕ → List ℕ
   pub cells : ℕ → List ℕ
   pub frame : ℕ → List ℕ
   pub bits-long : (b : ℕ) → length (bits b) ≡ 21504
-  pub cells-long : (b : ℕ) → length (cells b) ≡ 43008
+  pub cells-long : (b : ℕ) → length (cells b) ≡ cellsPerBuffer p * 2
   pub frame-long : (f : ℕ) → length (frame f) ≡ 7424
 
 -- "Payloads are free. The two encoding lists have equally many accepted calls, filling whole super-frames, none at all included."
-pub record Outward : Type 0 where
+pub record Outward (p : Profile) : Type 0 where
   pub superframes : ℕ
   pub calls : Side → List Encoding
   pub last : Side → State
   pub runs : (e : Side) → Run Encodings start (calls e) (last e)
-  pub filled : (e : Side) → length (accepted Encodings (calls e)) ≡ 168 * superframes
+  pub filled : (e : Side) → length (accepted Encodings (calls e)) ≡ pairsIn p superframes
   pub overhead : List ℕ
   pub overhead-long : length overhead ≡ 12288
-  pub overhead-legal : Legal overhead
-  pub lent : LentOut
+  pub overhead-legal : Legal overheadRule overhead
+  pub lent : LentOut p
   -- "an encoder's sent bit of (R, C, r, c) is V by the formulas above, over the payloads of its accepted calls"
   pub sent : Side → RowBits
   pub formulas : (e : Side) → Sent (payloads (calls e)) (sent e)
@@ -51,24 +52,24 @@ unfoldable pub pairsOfBuffer : List (List ℕ) → ℕ → List ℕ
 pairsOfBuffer pairs b = tabulate 10752 (λ i. getD (getD pairs (21 * b + i / 512) []) (i % 512) 0)
 
 -- The calls, "each is made for every buffer or sub-frame".
-module _ (o : Outward) where
+module _ (p : Profile) (o : Outward p) where
   unfoldable pub interleaving : ℕ → Interleaved
   interleaving b =
       interleave (pairsOfBuffer (codedPairs (o .calls side0)) b) (pairsOfBuffer (codedPairs (o .calls side1)) b) (o .lent .bits b)
 
   unfoldable pub mapping : ℕ → After
-  mapping b = bitsToCells (interleaving b .bits) (o .lent .cells b)
+  mapping b = bitsToCells p (interleaving b .bits) (o .lent .cells b)
 
-  -- "Payload runs on from buffer to buffer and sub-frame to sub-frame": byte y of the payload of super-frame q, of eight buffers of
-  -- 43,008 bytes; and the payload of sub-frame f of the line.
-  unfoldable pub payloadByte : ℕ → ℕ → ℕ
-  payloadByte q y = getD (mapping (8 * q + y / 43008) .written) (y % 43008) 0
+  -- "Payload runs on from buffer to buffer and sub-frame to sub-frame": byte h of payload cell x of super-frame q; and the payload of
+  -- sub-frame f of the line.
+  unfoldable pub payloadByte : ℕ → ℕ → ℕ → ℕ
+  payloadByte q x h = getD (mapping (buffersIn p q + x / cellsPerBuffer p) .written) (x % cellsPerBuffer p * 2 + h) 0
 
   unfoldable pub framePayload : ℕ → List ℕ
-  framePayload f = tabulate (payloadCells (f % 48) * 2) (λ i. payloadByte (f / 48) (payloadStart (f % 48) * 2 + i))
+  framePayload f = tabulate (payloadCells (f % 48) * 2) (λ i. payloadByte (f / 48) (payloadStart (f % 48) + i / 2) (i % 2))
 
   unfoldable pub framing : ℕ → After
-  framing f = frameCall (f % 48) (framePayload f) (o .overhead) (o .lent .frame f)
+  framing f = frameCall p (f % 48) (framePayload f) (o .overhead) (o .lent .frame f)
 
   -- The frames of the line.
   unfoldable pub frames : List (List ℕ)

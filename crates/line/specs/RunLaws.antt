@@ -3,7 +3,7 @@
 use mathlib.Core.Path.{_≡_, refl, sym, ap, _∙_}
 use mathlib.Core.List.{[], map}
 use mathlib.Core.Logic.{_≢_}
-use Prim.Native.Nat.{ℕ, suc, _*_, _<_, _≤_}
+use Prim.Native.Nat.{ℕ, suc, _<_, _≤_}
 use native.Mathlib.Omega.{arith}
 use native.Mathlib.Decide.{decLt}
 use lib.ListN.{length, getD, length-map}
@@ -19,6 +19,7 @@ use Rattle.ofec.specs.ReceivingLaws.{length-newest}
 use Rattle.ofec.specs.Calls.{State, start, Encoded, Encoding, encode, Encodings, Received, Receiving, receive, Receivings, payloads}
 use Rattle.ofec.specs.CallLaws.{EncodeFits, encode-payload, encode-accepted, encode-accepts, ReceiveFits, receive-coded, receive-accepted, receive-accepts}
 use Rattle.ofec.specs.PromiseLaws.{encoder-lent}
+use Rattle.cells.specs.Profile.{Profile, pairsIn}
 use Rattle.line.specs.Sides.{Side}
 use Rattle.line.specs.Outward.{Outward}
 use Rattle.line.specs.Inward.{Heard, receivedPair}
@@ -48,8 +49,8 @@ unfolding receive
 refused-receiving c n e =
     omega (arith, ap (λ (a : Received). refusalOf (a .answer)) (receive-coded (c .coded) (c .payload) (c .marks) (c .history) (c .pair) n), e)
 
-module _ (g : Given) (e : Side) where
-  fits : (P : ℕ) (s : State) → P < 168 * g .superframes → Ready P s → EncodeFits (encodingOf g e P s)
+module _ (p : Profile) (g : Given p) (e : Side) where
+  fits : (P : ℕ) (s : State) → P < pairsIn p (g .superframes) → Ready P s → EncodeFits (encodingOf p g e P s)
   fits P s l r =
       record {
         payload = g .long e P l;
@@ -58,12 +59,12 @@ module _ (g : Given) (e : Side) where
         pair = λ q. omega (arith, g .within, r .pair, q);
       }
 
-  accepts : (P : ℕ) (s : State) → P < 168 * g .superframes → Ready P s → Accepted (encode (encodingOf g e P s) .answer)
-  accepts P s l r = encode-accepts (encodingOf g e P s) (fits P s l r)
+  accepts : (P : ℕ) (s : State) → P < pairsIn p (g .superframes) → Ready P s → Accepted (encode (encodingOf p g e P s) .answer)
+  accepts P s l r = encode-accepts (encodingOf p g e P s) (fits P s l r)
 
-  leaves : (P : ℕ) (s : State) → P < 168 * g .superframes → Ready P s → Ready (suc P) (Encodings .left (encodingOf g e P s))
+  leaves : (P : ℕ) (s : State) → P < pairsIn p (g .superframes) → Ready P s → Ready (suc P) (Encodings .left (encodingOf p g e P s))
   leaves P s l r =
-      let c = encodingOf g e P s in
+      let c = encodingOf p g e P s in
       let is = encode-accepted c (accepts P s l r) .1 in
       let q = encoded (c .history) (c .pair) (c .payload) in
       record {
@@ -71,63 +72,63 @@ module _ (g : Given) (e : Side) where
         pair = ap (λ (a : Encoded). valueOr (a .answer) (c .pair)) is ∙ omega (arith, r .pair);
       }
 
-  pub encodings-run : Run Encodings start (encodings g e) (stateAfter Encodings (encodingOf g e) (168 * g .superframes) 0 start)
+  pub encodings-run : Run Encodings start (encodings p g e) (stateAfter Encodings (encodingOf p g e) (pairsIn p (g .superframes)) 0 start)
   unfolding encodings
   encodings-run =
-      oneByOne-run Encodings (encodingOf g e) Ready (168 * g .superframes) accepts (λ P s. refl) leaves (168 * g .superframes) 0 start (omega arith) ready-fresh
+      oneByOne-run Encodings (encodingOf p g e) Ready (pairsIn p (g .superframes)) accepts (λ P s. refl) leaves (pairsIn p (g .superframes)) 0 start (omega arith) ready-fresh
 
-  pub encodings-accepted : accepted Encodings (encodings g e) ≡ encodings g e
+  pub encodings-accepted : accepted Encodings (encodings p g e) ≡ encodings p g e
   unfolding encodings
   encodings-accepted =
-      oneByOne-accepted Encodings (encodingOf g e) Ready (168 * g .superframes) accepts (λ P s. refl) leaves (168 * g .superframes) 0 start (omega arith) ready-fresh
+      oneByOne-accepted Encodings (encodingOf p g e) Ready (pairsIn p (g .superframes)) accepts (λ P s. refl) leaves (pairsIn p (g .superframes)) 0 start (omega arith) ready-fresh
 
-  pub length-encodings : length (encodings g e) ≡ 168 * g .superframes
+  pub length-encodings : length (encodings p g e) ≡ pairsIn p (g .superframes)
   unfolding encodings
-  length-encodings = length-oneByOne Encodings (encodingOf g e) (168 * g .superframes) 0 start
+  length-encodings = length-oneByOne Encodings (encodingOf p g e) (pairsIn p (g .superframes)) 0 start
 
   -- Their payloads are those given.
-  pub encodings-payloads : map (λ (c : Encoding). c .payload) (encodings g e) ≡ g .payloads e
+  pub encodings-payloads : map (λ (c : Encoding). c .payload) (encodings p g e) ≡ g .payloads e
   unfolding encodings
   encodings-payloads =
-      ext-getD [] (map (λ (c : Encoding). c .payload) (encodings g e)) (g .payloads e) (long ∙ sym (g .many e))
+      ext-getD [] (map (λ (c : Encoding). c .payload) (encodings p g e)) (g .payloads e) (long ∙ sym (g .many e))
       (λ P l.
-      let f = At-find (encodings g e) P (omega (arith, long, length-encodings)) in
-      let m = made-at Encodings (encodingOf g e) (168 * g .superframes) 0 start P (f .0) (f .1) in
+      let f = At-find (encodings p g e) P (omega (arith, long, length-encodings)) in
+      let m = made-at Encodings (encodingOf p g e) (pairsIn p (g .superframes)) 0 start P (f .0) (f .1) in
       At-map (λ (c : Encoding). c .payload) [] (f .1) ∙ ap (λ (c : Encoding). c .payload) (m .1) ∙ ap (λ k. getD (g .payloads e) k []) (omega arith))
     where
-      long : length (map (λ (c : Encoding). c .payload) (encodings g e)) ≡ 168 * g .superframes
-      long = length-map (encodings g e) (λ (c : Encoding). c .payload) ∙ length-encodings
+      long : length (map (λ (c : Encoding). c .payload) (encodings p g e)) ≡ pairsIn p (g .superframes)
+      long = length-map (encodings p g e) (λ (c : Encoding). c .payload) ∙ length-encodings
 
 -- ---- receiving
 
 -- The pair numbers of what goes out are below 4,294,967,295.
-pub within : (o : Outward) (e : Side) → 168 * o .superframes ≤ 4294967295
-within o e = go (decLt 4294967295 (168 * o .superframes))
+pub within : (p : Profile) (o : Outward p) (e : Side) → pairsIn p (o .superframes) ≤ 4294967295
+within p o e = go (decLt 4294967295 (pairsIn p (o .superframes)))
   where
-    go : Dec (4294967295 < 168 * o .superframes) → 168 * o .superframes ≤ 4294967295
+    go : Dec (4294967295 < pairsIn p (o .superframes)) → pairsIn p (o .superframes) ≤ 4294967295
     go (yes l) =
         let f = At-find (accepted Encodings (o .calls e)) 4294967295 (omega (arith, o .filled e)) in
         let number = ap (λ (s : State). s .pair) (encoder-lent (o .calls e) (o .runs e) 4294967295 (f .0) (f .1)) in
         absurd (encode-accepted (f .0) (is-accepted Encodings (o .calls e) (f .1)) .0 .pair number)
     go (no l) = omega arith
 
-module _ (n : ℕ) (h : Heard n) (room : LentBack) (small : 168 * n ≤ 4294967295) (e : Side) where
-  fits-back : (P : ℕ) (s : State) → P < 168 * n → Ready P s → ReceiveFits (receivingOf n h room e P s)
+module _ (p : Profile) (n : ℕ) (h : Heard p n) (room : LentBack) (small : pairsIn p n ≤ 4294967295) (e : Side) where
+  fits-back : (P : ℕ) (s : State) → P < pairsIn p n → Ready P s → ReceiveFits (receivingOf p n h room e P s)
   fits-back P s l r =
       record {
-        coded = length-received n h e P;
+        coded = length-received p n h e P;
         payload = room .payload-long e P;
         marks = room .marks-long e P;
         history = r .history;
         pair = λ q. omega (arith, small, r .pair, q);
       }
 
-  accepts-back : (P : ℕ) (s : State) → P < 168 * n → Ready P s → Accepted (receive (receivingOf n h room e P s) .answer)
-  accepts-back P s l r = receive-accepts (receivingOf n h room e P s) (fits-back P s l r)
+  accepts-back : (P : ℕ) (s : State) → P < pairsIn p n → Ready P s → Accepted (receive (receivingOf p n h room e P s) .answer)
+  accepts-back P s l r = receive-accepts (receivingOf p n h room e P s) (fits-back P s l r)
 
-  leaves-back : (P : ℕ) (s : State) → P < 168 * n → Ready P s → Ready (suc P) (Receivings .left (receivingOf n h room e P s))
+  leaves-back : (P : ℕ) (s : State) → P < pairsIn p n → Ready P s → Ready (suc P) (Receivings .left (receivingOf p n h room e P s))
   leaves-back P s l r =
-      let c = receivingOf n h room e P s in
+      let c = receivingOf p n h room e P s in
       let is = receive-accepted c (accepts-back P s l r) .1 in
       let q = newestPair (c .history) (c .pair) (c .coded) in
       record {
@@ -135,21 +136,21 @@ module _ (n : ℕ) (h : Heard n) (room : LentBack) (small : 168 * n ≤ 42949672
         pair = ap (λ (a : Received). valueOr (a .answer) (c .pair)) is ∙ omega (arith, r .pair);
       }
 
-  pub receivings-run : Run Receivings start (receivings n h room e) (stateAfter Receivings (receivingOf n h room e) (168 * n) 0 start)
+  pub receivings-run : Run Receivings start (receivings p n h room e) (stateAfter Receivings (receivingOf p n h room e) (pairsIn p n) 0 start)
   unfolding receivings
-  receivings-run = oneByOne-run Receivings (receivingOf n h room e) Ready (168 * n) accepts-back (λ P s. refl) leaves-back (168 * n) 0 start (omega arith) ready-fresh
+  receivings-run = oneByOne-run Receivings (receivingOf p n h room e) Ready (pairsIn p n) accepts-back (λ P s. refl) leaves-back (pairsIn p n) 0 start (omega arith) ready-fresh
 
-  pub receivings-accepted : accepted Receivings (receivings n h room e) ≡ receivings n h room e
+  pub receivings-accepted : accepted Receivings (receivings p n h room e) ≡ receivings p n h room e
   unfolding receivings
   receivings-accepted =
-      oneByOne-accepted Receivings (receivingOf n h room e) Ready (168 * n) accepts-back (λ P s. refl) leaves-back (168 * n) 0 start (omega arith) ready-fresh
+      oneByOne-accepted Receivings (receivingOf p n h room e) Ready (pairsIn p n) accepts-back (λ P s. refl) leaves-back (pairsIn p n) 0 start (omega arith) ready-fresh
 
-  pub length-receivings : length (receivings n h room e) ≡ 168 * n
+  pub length-receivings : length (receivings p n h room e) ≡ pairsIn p n
   unfolding receivings
-  length-receivings = length-oneByOne Receivings (receivingOf n h room e) (168 * n) 0 start
+  length-receivings = length-oneByOne Receivings (receivingOf p n h room e) (pairsIn p n) 0 start
 
-  pub receivings-order : (P : ℕ) (c : Receiving) → At (receivings n h room e) P c → c .coded ≡ receivedPair n h e P
+  pub receivings-order : (P : ℕ) (c : Receiving) → At (receivings p n h room e) P c → c .coded ≡ receivedPair p n h e P
   unfolding receivings
   receivings-order P c a =
-      let m = made-at Receivings (receivingOf n h room e) (168 * n) 0 start P c a in
-      ap (λ (d : Receiving). d .coded) (m .1) ∙ ap (receivedPair n h e) (omega arith)
+      let m = made-at Receivings (receivingOf p n h room e) (pairsIn p n) 0 start P c a in
+      ap (λ (d : Receiving). d .coded) (m .1) ∙ ap (receivedPair p n h e) (omega arith)

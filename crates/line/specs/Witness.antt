@@ -22,7 +22,8 @@ use Rattle.ofec.specs.Calls.{start, Encoding, encode, Encodings, Received, Rece
 use Rattle.ofec.specs.CallLaws.{encode-accepted, receive-accepted}
 use Rattle.ofec.specs.Promise.{wrongBits, Limit, markOf, NotLost, AsSent}
 use Rattle.ofec.specs.PromiseLaws.{mark-within, mark-some}
-use Rattle.cells.specs.Cells.{Legal}
+use Rattle.cells.specs.Profile.{Profile, pairsIn, rowsIn}
+use Rattle.cells.specs.Cells.{overheadRule, Legal}
 use Rattle.line.specs.Sides.{Side}
 use Rattle.line.specs.Line.{lineBit}
 use Rattle.line.specs.Outward.{Outward, frames}
@@ -38,16 +39,16 @@ use Rattle.line.specs.WrongLaws.{none-wrong, one-wrong}
 -- ---- what goes out
 
 -- For all payloads, and whatever refused calls stand before, between and after, there is a run of what goes out.
-pub goes-out : (g : Given) (calls : Side → List Encoding) → ((e : Side) → Among Encodings (encodings g e) (calls e))
-    → (o : Outward) × (o .superframes ≡ g .superframes) × (o .calls ≡ calls) × ((e : Side) → payloads (o .calls e) ≡ g .payloads e)
+pub goes-out : (p : Profile) (g : Given p) (calls : Side → List Encoding) → ((e : Side) → Among Encodings (encodings p g e) (calls e))
+    → (o : Outward p) × (o .superframes ≡ g .superframes) × (o .calls ≡ calls) × ((e : Side) → payloads (o .calls e) ≡ g .payloads e)
 unfolding payloads
-goes-out g calls among = (
+goes-out p g calls among = (
   record {
     superframes = g .superframes;
     calls = calls;
-    last = λ e. stateAfter Encodings (encodingOf g e) (168 * g .superframes) 0 start;
-    runs = λ e. among-run Encodings (among e) (encodings-run g e);
-    filled = λ e. ap length (taken e) ∙ length-encodings g e;
+    last = λ e. stateAfter Encodings (encodingOf p g e) (pairsIn p (g .superframes)) 0 start;
+    runs = λ e. among-run Encodings (among e) (encodings-run p g e);
+    filled = λ e. ap length (taken e) ∙ length-encodings p g e;
     overhead = g .overhead;
     overhead-long = g .overhead-long;
     overhead-legal = g .overhead-legal;
@@ -57,50 +58,50 @@ goes-out g calls among = (
   },
   refl,
   refl,
-  λ e. ap (map (λ (c : Encoding). c .payload)) (taken e) ∙ encodings-payloads g e,
+  λ e. ap (map (λ (c : Encoding). c .payload)) (taken e) ∙ encodings-payloads p g e,
 )
   where
-    taken : (e : Side) → accepted Encodings (calls e) ≡ encodings g e
-    taken e = among-accepted Encodings (among e) ∙ encodings-accepted g e
+    taken : (e : Side) → accepted Encodings (calls e) ≡ encodings p g e
+    taken e = among-accepted Encodings (among e) ∙ encodings-accepted p g e
 
 -- ---- what comes in
 
 -- For all that goes out and every line within the limit, and whatever refused calls stand before, between and after, there are receiving
 -- calls that take all pairs of both encoders.
-pub comes-in : (o : Outward) (h : Heard (o .superframes)) → ((e : Side) → Limit (o .sent e) (lineBit (h .frames) e) (168 * o .superframes)) → (room : LentBack)
-    → (calls : Side → List Receiving) → ((e : Side) → Among Receivings (receivings (o .superframes) h room e) (calls e))
-    → (i : Inward o) × (i .heard ≡ h) × (i .calls ≡ calls) × ((e : Side) → length (accepted Receivings (i .calls e)) ≡ 168 * o .superframes)
-comes-in o h limit room calls among = (
+pub comes-in : (p : Profile) (o : Outward p) (h : Heard p (o .superframes)) → ((e : Side) → Limit (o .sent e) (lineBit p (h .frames) e) (pairsIn p (o .superframes))) → (room : LentBack)
+    → (calls : Side → List Receiving) → ((e : Side) → Among Receivings (receivings p (o .superframes) h room e) (calls e))
+    → (i : Inward p o) × (i .heard ≡ h) × (i .calls ≡ calls) × ((e : Side) → length (accepted Receivings (i .calls e)) ≡ pairsIn p (o .superframes))
+comes-in p o h limit room calls among = (
   record {
     heard = h;
     calls = calls;
-    last = λ e. stateAfter Receivings (receivingOf (o .superframes) h room e) (168 * o .superframes) 0 start;
-    runs = λ e. among-run Receivings (among e) (receivings-run (o .superframes) h room (within o e) e);
+    last = λ e. stateAfter Receivings (receivingOf p (o .superframes) h room e) (pairsIn p (o .superframes)) 0 start;
+    runs = λ e. among-run Receivings (among e) (receivings-run p (o .superframes) h room (within p o e) e);
     some = λ e. omega (arith, all e);
-    in-order = λ e P c a. receivings-order (o .superframes) h room (within o e) e P c (subst (λ l. At l P c) (taken e) a);
-    limit = λ e. subst (λ k. Limit (o .sent e) (lineBit (h .frames) e) k) (sym (all e)) (limit e);
+    in-order = λ e P c a. receivings-order p (o .superframes) h room (within p o e) e P c (subst (λ l. At l P c) (taken e) a);
+    limit = λ e. subst (λ k. Limit (o .sent e) (lineBit p (h .frames) e) k) (sym (all e)) (limit e);
   },
   refl,
   refl,
   all,
 )
   where
-    taken : (e : Side) → accepted Receivings (calls e) ≡ receivings (o .superframes) h room e
-    taken e = among-accepted Receivings (among e) ∙ receivings-accepted (o .superframes) h room (within o e) e
+    taken : (e : Side) → accepted Receivings (calls e) ≡ receivings p (o .superframes) h room e
+    taken e = among-accepted Receivings (among e) ∙ receivings-accepted p (o .superframes) h room (within p o e) e
 
-    all : (e : Side) → length (accepted Receivings (calls e)) ≡ 168 * o .superframes
-    all e = ap length (taken e) ∙ length-receivings (o .superframes) h room (within o e) e
+    all : (e : Side) → length (accepted Receivings (calls e)) ≡ pairsIn p (o .superframes)
+    all e = ap length (taken e) ∙ length-receivings p (o .superframes) h room (within p o e) e
 
 -- ---- a line that alters nothing
 
 -- The frames of what goes out are a line.
-pub unaltered : (o : Outward) (overhead : List ℕ) → length overhead ≡ 12288 → Legal overhead → LentIn → (h : Heard (o .superframes)) × (h .frames ≡ frames o)
-unaltered o overhead long legal lent = (
+pub unaltered : (p : Profile) (o : Outward p) (overhead : List ℕ) → length overhead ≡ 12288 → Legal overheadRule overhead → LentIn → (h : Heard p (o .superframes)) × (h .frames ≡ frames p o)
+unaltered p o overhead long legal lent = (
   record {
-    frames = frames o;
-    many = frames-many o;
-    long = frames-long o;
-    legal = frames-legal o;
+    frames = frames p o;
+    many = frames-many p o;
+    long = frames-long p o;
+    legal = frames-legal p o;
     overhead = overhead;
     overhead-long = long;
     overhead-legal = legal;
@@ -109,37 +110,37 @@ unaltered o overhead long legal lent = (
   refl,
 )
 
-module _ (o : Outward) (h : Heard (o .superframes)) (same : h .frames ≡ frames o) where
-  pub none : (e : Side) (R r : ℕ) → R < 336 * o .superframes → r < 16 → wrongBits (o .sent e) (lineBit (h .frames) e) R r ≡ 0
+module _ (p : Profile) (o : Outward p) (h : Heard p (o .superframes)) (same : h .frames ≡ frames p o) where
+  pub none : (e : Side) (R r : ℕ) → R < rowsIn p (o .superframes) → r < 16 → wrongBits (o .sent e) (lineBit p (h .frames) e) R r ≡ 0
   none e R r lR lr =
-      none-wrong (o .sent e) (lineBit (h .frames) e) (336 * o .superframes)
-      (λ Q C a c lQ lC la lc. ap (λ (f : List (List ℕ)). lineBit f e Q C a c) same ∙ goes o .holds e Q C a c lQ lC la lc) R r lR lr
+      none-wrong (o .sent e) (lineBit p (h .frames) e) (rowsIn p (o .superframes))
+      (λ Q C a c lQ lC la lc. ap (λ (f : List (List ℕ)). lineBit p f e Q C a c) same ∙ goes p o .holds e Q C a c lQ lC la lc) R r lR lr
 
   -- It is within the limit.
-  pub unaltered-limit : (e : Side) → Limit (o .sent e) (lineBit (h .frames) e) (168 * o .superframes)
+  pub unaltered-limit : (e : Side) → Limit (o .sent e) (lineBit p (h .frames) e) (pairsIn p (o .superframes))
   unaltered-limit e = record { three = λ R r lR lr. omega (arith, none e R r (omega arith) lr) }
 
-module _ (o : Outward) (i : Inward o) where
+module _ (p : Profile) (o : Outward p) (i : Inward p o) where
   marked : (e : Side) (R r : ℕ) (c : Receiving) → r < 16 → At (accepted Receivings (i .calls e)) (R / 2) c → NotLost (receive c) R r
-      → markOf (receive c) R r ≤ wrongBits (o .sent e) (lineBit (i .heard .frames) e) R r
+      → markOf (receive c) R r ≤ wrongBits (o .sent e) (lineBit p (i .heard .frames) e) R r
   marked e R r c lr a n =
-      mark-within (o .sent e) (lineBit (i .heard .frames) e) (payloads (o .calls e)) (o .formulas e) (i .calls e) (i .runs e) (enough o i e) (takes o i e) (i .limit e)
+      mark-within (o .sent e) (lineBit p (i .heard .frames) e) (payloads (o .calls e)) (o .formulas e) (i .calls e) (i .runs e) (enough p o i e) (takes p o i e) (i .limit e)
       R r c lr a n
 
-  taken-row : (e : Side) (R : ℕ) (c : Receiving) → At (accepted Receivings (i .calls e)) (R / 2) c → R < 336 * o .superframes
+  taken-row : (e : Side) (R : ℕ) (c : Receiving) → At (accepted Receivings (i .calls e)) (R / 2) c → R < rowsIn p (o .superframes)
   taken-row e R c a = omega (arith, At-lt a, i .some e)
 
   -- All comes back over it.
-  pub all-back : i .heard .frames ≡ frames o → AllBack o i
+  pub all-back : i .heard .frames ≡ frames p o → AllBack p o i
   unfolding ownIndex
   all-back same = record { marks = marks-back; payload = payload-back }
     where
       sound : (e : Side) (R r : ℕ) (c : Receiving) → r < 16 → At (accepted Receivings (i .calls e)) (R / 2) c
-          → wrongBits (o .sent e) (lineBit (i .heard .frames) e) R r ≡ 0
-      sound e R r c lr a = none o (i .heard) same e R r (taken-row e R c a) lr
+          → wrongBits (o .sent e) (lineBit p (i .heard .frames) e) R r ≡ 0
+      sound e R r c lr a = none p o (i .heard) same e R r (taken-row e R c a) lr
 
       kept : (e : Side) (R r : ℕ) (c : Receiving) → r < 16 → At (accepted Receivings (i .calls e)) (R / 2) c → NotLost (receive c) R r
-      kept e R r c lr a = comes o i .words e (R / 2) c a R r refl lr .spared (omega (arith, sound e R r c lr a))
+      kept e R r c lr a = comes p o i .words e (R / 2) c a R r refl lr .spared (omega (arith, sound e R r c lr a))
 
       marks-back : (e : Side) (P : ℕ) (c : Receiving) → At (accepted Receivings (i .calls e)) P c → (w : ℕ) → w < 32 → getD (receive c .marks) w 0 ≡ 0
       marks-back e P c a w lw =
@@ -168,20 +169,20 @@ module _ (o : Outward) (i : Inward o) where
               let b : At (accepted Receivings (i .calls e)) ((2 * P + w / 16) / 2) c = subst (λ Q. At (accepted Receivings (i .calls e)) Q c) (sym pair) a in
               let lr : w % 16 < 16 = omega arith in
               ap (bit (receive c .payload)) (sym is ∙ ap₂ (λ s m. payloadIndex s (w % 16) m) (sym row) (sym place))
-              ∙ comes o i .words e ((2 * P + w / 16) / 2) c b R (w % 16) refl lr .whole (kept e R (w % 16) c lr b) (128 + k) (omega arith) (omega arith) .paid (omega arith)
+              ∙ comes p o i .words e ((2 * P + w / 16) / 2) c b R (w % 16) refl lr .whole (kept e R (w % 16) c lr b) (128 + k) (omega arith) (omega arith) .paid (omega arith)
               ∙ o .formulas e .payload .placed R (w % 16) k (omega (arith, taken-row e R c b, rows e)) lr lk
               ∙ payloadBit-own (payloads (o .calls e)) R (w % 16) k lr lk
               ∙ ap₂ (λ Q s. bit (getD (payloads (o .calls e)) Q []) (payloadIndex s (w % 16) k)) pair row
               ∙ ap (bit (getD (payloads (o .calls e)) P [])) is
             where
-              rows : (e : Side) → length (payloads (o .calls e)) ≡ 168 * o .superframes
+              rows : (e : Side) → length (payloads (o .calls e)) ≡ pairsIn p (o .superframes)
               rows e = length-payloads (o .calls e) ∙ o .filled e
 
 -- Where the payload is bytes, it comes back whole.
-pub payload-whole : (o : Outward) (i : Inward o) → AllBack o i → (e : Side) (P : ℕ) (c : Receiving) → At (accepted Receivings (i .calls e)) P c
+pub payload-whole : (p : Profile) (o : Outward p) (i : Inward p o) → AllBack p o i → (e : Side) (P : ℕ) (c : Receiving) → At (accepted Receivings (i .calls e)) P c
     → ((j : ℕ) → getD (getD (payloads (o .calls e)) P []) j 0 < 256) → receive c .payload ≡ getD (payloads (o .calls e)) P []
 unfolding payloads payloadOut payloadOf
-payload-whole o i back e P c a bytes =
+payload-whole p o i back e P c a bytes =
     bits-equal (receive c .payload) (getD (payloads (o .calls e)) P []) (long ∙ sym given-long) small bytes (λ j l. back .payload e P c a j (omega (arith, long)))
   where
     is : receive c .payload ≡ payloadOut (c .history) (c .pair) (c .coded)
@@ -202,51 +203,51 @@ payload-whole o i back e P c a bytes =
 
 -- So for all payloads there are runs, there and back, that take all pairs and bring all payload back, with any refused call before, between
 -- and after.
-pub there-and-back : (g : Given) → LentIn → LentBack → (x : Encoding) → TurnedBack (encode x .answer) → (y : Receiving) → TurnedBack (receive y .answer)
-    → (o : Outward) × (i : Inward o) × ((e : Side) → o .calls e ≡ hedged Encodings x (encodings g e)) × ((e : Side) → payloads (o .calls e) ≡ g .payloads e)
-    × ((e : Side) → length (accepted Receivings (i .calls e)) ≡ 168 * o .superframes) × AllBack o i
-there-and-back g lent room x bad y worse =
-    let out = goes-out g (λ e. hedged Encodings x (encodings g e)) (λ e. among-hedged Encodings x bad (encodings g e)) in
+pub there-and-back : (p : Profile) (g : Given p) → LentIn → LentBack → (x : Encoding) → TurnedBack (encode x .answer) → (y : Receiving) → TurnedBack (receive y .answer)
+    → (o : Outward p) × (i : Inward p o) × ((e : Side) → o .calls e ≡ hedged Encodings x (encodings p g e)) × ((e : Side) → payloads (o .calls e) ≡ g .payloads e)
+    × ((e : Side) → length (accepted Receivings (i .calls e)) ≡ pairsIn p (o .superframes)) × AllBack p o i
+there-and-back p g lent room x bad y worse =
+    let out = goes-out p g (λ e. hedged Encodings x (encodings p g e)) (λ e. among-hedged Encodings x bad (encodings p g e)) in
     let o = out .0 in
-    let h = unaltered o (o .overhead) (o .overhead-long) (o .overhead-legal) lent in
+    let h = unaltered p o (o .overhead) (o .overhead-long) (o .overhead-legal) lent in
     let back =
-    comes-in o (h .0) (unaltered-limit o (h .0) (h .1)) room (λ e. hedged Receivings y (receivings (o .superframes) (h .0) room e))
-    (λ e. among-hedged Receivings y worse (receivings (o .superframes) (h .0) room e)) in (
+    comes-in p o (h .0) (unaltered-limit p o (h .0) (h .1)) room (λ e. hedged Receivings y (receivings p (o .superframes) (h .0) room e))
+    (λ e. among-hedged Receivings y worse (receivings p (o .superframes) (h .0) room e)) in (
       o,
       back .0,
       (λ e. ap (λ (c : Side → List Encoding). c e) (out .2)),
       out .3,
       back .3,
-      all-back o (back .0) (ap (λ (k : Heard (o .superframes)). k .frames) (back .1) ∙ h .1),
+      all-back p o (back .0) (ap (λ (k : Heard p (o .superframes)). k .frames) (back .1) ∙ h .1),
     )
 
 -- ---- a line that alters one bit
 
-module _ (o : Outward) (h : Heard (o .superframes)) (e : Side) (R C r c : ℕ) (lC : C < 8) (lr : r < 16) (lc : c < 16)
-    (one : OneWrong (o .sent e) (lineBit (h .frames) e) (336 * o .superframes) R C r c) where
+module _ (p : Profile) (o : Outward p) (h : Heard p (o .superframes)) (e : Side) (R C r c : ℕ) (lC : C < 8) (lr : r < 16) (lc : c < 16)
+    (one : OneWrong (o .sent e) (lineBit p (h .frames) e) (rowsIn p (o .superframes)) R C r c) where
   -- It is within the limit.
-  pub one-limit : Limit (o .sent e) (lineBit (h .frames) e) (168 * o .superframes)
+  pub one-limit : Limit (o .sent e) (lineBit p (h .frames) e) (pairsIn p (o .superframes))
   one-limit = record { three = λ Q s lQ ls. omega (arith, one-wrong lC lr lc one Q s (omega arith) ls) }
 
-module _ (o : Outward) (i : Inward o) (e : Side) (R C r c : ℕ) (lC : C < 8) (lr : r < 16) (lc : c < 16)
-    (one : OneWrong (o .sent e) (lineBit (i .heard .frames) e) (336 * o .superframes) R C r c)
+module _ (p : Profile) (o : Outward p) (i : Inward p o) (e : Side) (R C r c : ℕ) (lC : C < 8) (lr : r < 16) (lc : c < 16)
+    (one : OneWrong (o .sent e) (lineBit p (i .heard .frames) e) (rowsIn p (o .superframes)) R C r c)
     (d : Receiving) (a : At (accepted Receivings (i .calls e)) (R / 2) d) where
   -- The word of (R, r) is where it is first checked. It is not lost, ..
   pub one-kept : NotLost (receive d) R r
-  one-kept = comes o i .words e (R / 2) d a R r refl lr .spared (omega (arith, one-wrong lC lr lc one R r (taken-row o i e R d a) lr))
+  one-kept = comes p o i .words e (R / 2) d a R r refl lr .spared (omega (arith, one-wrong lC lr lc one R r (taken-row p o i e R d a) lr))
 
   -- .. all its bits are as sent, ..
   pub one-repaired : (k : ℕ) → 128 ≤ k → k < 256 → AsSent (o .sent e) (receive d) R r k
-  one-repaired = comes o i .words e (R / 2) d a R r refl lr .whole one-kept
+  one-repaired = comes p o i .words e (R / 2) d a R r refl lr .whole one-kept
 
   -- .. and its mark is 1.
   pub one-mark : markOf (receive d) R r ≡ 1
   one-mark =
       omega (
         arith,
-        marked o i e R r d lr a one-kept,
-        one-wrong lC lr lc one R r (taken-row o i e R d a) lr,
-        mark-some (o .sent e) (lineBit (i .heard .frames) e) (payloads (o .calls e)) (o .formulas e) (i .calls e) (i .runs e) (enough o i e) (takes o i e) (i .limit e)
+        marked p o i e R r d lr a one-kept,
+        one-wrong lC lr lc one R r (taken-row p o i e R d a) lr,
+        mark-some (o .sent e) (lineBit p (i .heard .frames) e) (payloads (o .calls e)) (o .formulas e) (i .calls e) (i .runs e) (enough p o i e) (takes p o i e) (i .limit e)
             R r (backPlace C r c) d lr (backPlace-low C r c) (backPlace-lt C r c lC lr lc) a one-kept
-            (λ q. one .wrong (sym (word-at (lineBit (i .heard .frames) e) R C r c lr lc) ∙ q ∙ word-at (o .sent e) R C r c lr lc)),
+            (λ q. one .wrong (sym (word-at (lineBit p (i .heard .frames) e) R C r c lr lc) ∙ q ∙ word-at (o .sent e) R C r c lr lc)),
       )

@@ -6,7 +6,7 @@ use libc::STDERR_FILENO;
 ghost use mathlib.Core.Path.{_≡_};
 ghost use Prim.Native.Nat.{_≤_, _<_};
 ghost use lib.ListN.{length};
-ghost use Rattle.cells.specs.Cells.{Legal};
+ghost use Rattle.cells.specs.Cells.{overheadRule, Legal};
 
 // Says how far it is.
 fn say(done: u32, of: u32) {
@@ -25,7 +25,7 @@ fn write_frames(
     line: &mut [u8; 356352],
     out: i32,
 ) -> u32
-    requires { ⌜ (length (now overhead) ≡ 12288) × Legal (now overhead) ⌝ }
+    requires { ⌜ (length (now overhead) ≡ 12288) × Legal overheadRule (now overhead) ⌝ }
 {
     superframe::make(coded0, coded1, overhead, line);
     put(out, line)
@@ -41,7 +41,7 @@ fn write_next(
     line: &mut [u8; 356352],
     out: i32,
 ) -> u32
-    requires { ⌜ (first < 65536) × (length (now overhead) ≡ 12288) × Legal (now overhead) ⌝ }
+    requires { ⌜ (first < 65536) × (length (now overhead) ≡ 12288) × Legal overheadRule (now overhead) ⌝ }
 {
     let mut coded0 = [0u8; 86016];
     let encoded0 = encode(inputs.payload0, history0, first, &mut coded0);
@@ -58,7 +58,7 @@ fn write_next(
 
 // Writes so many super-frames.
 pub fn write_all(inputs: Inputs, superframes: u32, overhead: &[u8], out: i32) -> u32
-    requires { ⌜ (superframes ≤ 65) × (length (now overhead) ≡ 12288) × Legal (now overhead) ⌝ }
+    requires { ⌜ (superframes ≤ 65) × (length (now overhead) ≡ 12288) × Legal overheadRule (now overhead) ⌝ }
 {
     let mut history0 = [0u8; 5120];
     let mut history1 = [0u8; 5120];

@@ -7,7 +7,7 @@ use mapper::legal::first_illegal;
 ghost use mathlib.Core.Path.{_≡_};
 ghost use Prim.Native.Nat.{_+_, _-_, _*_, _/_, _≤_, _<_};
 ghost use lib.ListN.{length};
-ghost use Rattle.cells.specs.Cells.{Legal};
+ghost use Rattle.cells.specs.Cells.{overheadRule, Legal};
 
 // The cells of sixteen buffers, the payload of two super-frames.
 type Cells = [u8; 688128];
@@ -25,7 +25,7 @@ fn blank_line() -> Line {
 
 // The frames of super-frame q.
 fn frame_next(q: usize, coded0: &[u8], coded1: &[u8], list: &[u8], line: &mut [u8])
-    requires { ⌜ (q < 2) × (length (now coded0) ≡ 172032) × (length (now coded1) ≡ 172032) × (length (now list) ≡ 12288) × Legal (now list) × (length (now line) ≡ 356352) ⌝ }
+    requires { ⌜ (q < 2) × (length (now coded0) ≡ 172032) × (length (now coded1) ≡ 172032) × (length (now list) ≡ 12288) × Legal overheadRule (now list) × (length (now line) ≡ 356352) ⌝ }
 {
     let a = q * 86016;
     let e = a + 86016;
@@ -34,7 +34,7 @@ fn frame_next(q: usize, coded0: &[u8], coded1: &[u8], list: &[u8], line: &mut [u
 
 // The frames of two super-frames.
 fn frame(coded0: &[u8], coded1: &[u8], list: &[u8], line: &mut [u8])
-    requires { ⌜ (length (now coded0) ≡ 172032) × (length (now coded1) ≡ 172032) × (length (now list) ≡ 12288) × Legal (now list) × (length (now line) ≡ 712704) ⌝ }
+    requires { ⌜ (length (now coded0) ≡ 172032) × (length (now coded1) ≡ 172032) × (length (now list) ≡ 12288) × Legal overheadRule (now list) × (length (now line) ≡ 712704) ⌝ }
 {
     for q in 0..2 {
         let f = q * 356352;

@@ -5,8 +5,10 @@ use crate::levels::pair;
 ghost use mathlib.Core.Path.{_≡_};
 ghost use Prim.Native.Nat.{_+_, _*_, _<_};
 ghost use lib.ListN.{length};
-ghost use Rattle.cells.specs.Levels.{level, levelAt, firstBit, secondBit};
-ghost use Rattle.cells.specs.Cells.{rails, cellByte, byteOfCell, Legal, toCells, toBits};
+ghost use Rattle.cells.specs.Levels.{level, levelAt, firstBit, secondBit, rails};
+ghost use Rattle.cells.specs.Cells.{payloadRule, Legal, toCells, toBits};
+ghost use Rattle.cells.specs.Qam16.{cellByte, byteOfCell};
+ghost use Rattle.cells.specs.Profiles.{qam16};
 
 // The byte 4×(I+3)/2 + (Q+3)/2 of the bit pairs (a, b) of I and (c, d) of Q.
 fn rails(a: u8, b: u8, c: u8, d: u8) -> u8
@@ -49,7 +51,7 @@ fn byte_of(x: u8, y: u8) -> u8
 // The cells of a buffer of symbols.
 pub fn map(bits: &[u8], cells: &mut [u8])
     requires { ⌜ length (now cells) ≡ length (now bits) * 2 ⌝ }
-    ensures { λ _. ⌜ now (cells .exit) ≡ toCells (now (bits .entry)) ⌝ }
+    ensures { λ _. ⌜ now (cells .exit) ≡ toCells qam16 (now (bits .entry)) ⌝ }
 {
     for j in 0..cells.len() {
         cells[j] = cell_byte(bits[j / 2], j % 2);
@@ -58,8 +60,8 @@ pub fn map(bits: &[u8], cells: &mut [u8])
 
 // The symbols of a buffer of legal cells.
 pub fn demap(cells: &[u8], bits: &mut [u8])
-    requires { ⌜ (length (now cells) ≡ length (now bits) * 2) × Legal (now cells) ⌝ }
-    ensures { λ _. ⌜ now (bits .exit) ≡ toBits (now (cells .entry)) ⌝ }
+    requires { ⌜ (length (now cells) ≡ length (now bits) * 2) × Legal (payloadRule qam16) (now cells) ⌝ }
+    ensures { λ _. ⌜ now (bits .exit) ≡ toBits qam16 (now (cells .entry)) ⌝ }
 {
     for i in 0..bits.len() {
         bits[i] = byte_of(cells[i * 2], cells[i * 2 + 1]);

@@ -1,12 +1,14 @@
--- The frames of demand 3's line are super-frames made of the coded pairs of the accepted calls, 168 of either encoder each; and so of their
+-- The frames of demand 3's line are super-frames made of the coded pairs of the accepted calls, and so of their
 -- payloads, encoded from fresh.
 -- Assumes nothing.
-use mathlib.Core.Path.{_≡_, refl, sym, ap, ap₂, _∙_}
+use mathlib.Core.Path.{_≡_, sym, ap, ap₂, _∙_}
 use mathlib.Core.List.{List, []}
 use Prim.Native.Nat.{ℕ, zero, suc, _+_, _*_, _/_, _%_, _<_, _≤_}
+use native.Mathlib.Nat.{suc-mul, mul-le-mul-right}
 use native.Mathlib.Omega.{arith}
 use lib.Dec.{lit<}
 use lib.ListN.{length, getD}
+use Rattle.bits.specs.DigitLaws.{digit-lt, digits, group-of, place-of, place-lt, group-lt}
 use Rattle.bits.specs.ListLaws.{is-tabulate, tabulate-ext}
 use Rattle.calls.specs.Sequences.{accepted}
 use Rattle.calls.specs.SequenceLaws.{At-find}
@@ -17,7 +19,9 @@ use Rattle.ofec.specs.SentLaws.{encoderHistory}
 use Rattle.ofec.specs.Calls.{Encodings, payloads}
 use Rattle.ofec.specs.PromiseLaws.{coded-made}
 use Rattle.interleaving.specs.Interleaving.{interleaved}
+use Rattle.cells.specs.Profile.{Profile, cellsPerBuffer, buffersIn, pairsIn}
 use Rattle.cells.specs.Cells.{toCells}
+use Rattle.cells.specs.CellLaws.{buffer-whole, cells-pos}
 use Rattle.frames.specs.Frames.{payloadCells, payloadStart, ownOverhead, framed}
 use Rattle.frames.specs.FrameLaws.{framed-length}
 use Rattle.line.specs.Sides.{Side, side0, side1}
@@ -29,61 +33,95 @@ use Rattle.superframe.specs.SuperframeLaws.{part-length, part-at, endToE
 use Rattle.superframe.specs.Stream.{historyAt, pairAt, pairPayload, codedOf, historyOver, historyBefore}
 use Rattle.superframe.specs.StreamLaws.{historyAt-ext, historyAt-more, from-fresh}
 
--- The coded pairs of super-frame q, end to end.
-unfoldable pub pairsOf : Outward → ℕ → Side → List ℕ
-pairsOf o q e = endToEnd 168 512 (λ P. getD (codedPairs (o .calls e)) (168 * q + P) [])
+-- The pairs of an encoder in a super-frame.
+abbrev pub pairs : Profile → ℕ
+pairs p = pairsIn p 1
 
-module _ (o : Outward) (q : ℕ) where
+-- The coded pairs of super-frame q, end to end.
+unfoldable pub pairsOf : (p : Profile) → Outward p → ℕ → Side → List ℕ
+pairsOf p o q e = endToEnd (pairs p) 512 (λ P. getD (codedPairs (o .calls e)) (pairs p * q + P) [])
+
+-- Pair k of super-frame q of n.
+pair-lt : (p : Profile) (q k n : ℕ) → q < n → k < pairs p → pairs p * q + k < pairsIn p n
+unfolding buffersIn
+pair-lt p q k n lq lk = omega (arith, suc-mul q (p .bits), mul-le-mul-right (p .bits) lq)
+
+module _ (p : Profile) (o : Outward p) (q : ℕ) where
   -- Those of a buffer.
-  buffer-pairs : (e : Side) (b : ℕ) → b < 8 → part (b * 10752) 10752 (pairsOf o q e) ≡ pairsOfBuffer (codedPairs (o .calls e)) (8 * q + b)
-  unfolding pairsOf pairsOfBuffer
+  buffer-pairs : (e : Side) (b : ℕ) → b < p .bits → part (b * 10752) 10752 (pairsOf p o q e) ≡ pairsOfBuffer (codedPairs (o .calls e)) (buffersIn p q + b)
+  unfolding pairsOf pairsOfBuffer buffersIn
   buffer-pairs e b l =
-      is-tabulate (part (b * 10752) 10752 (pairsOf o q e)) 10752 (λ i. getD (getD coded (21 * (8 * q + b) + i / 512) []) (i % 512) 0)
-      (part-length (b * 10752) 10752 (pairsOf o q e) within)
-      (λ i li. part-at (b * 10752) 10752 (pairsOf o q e) within i li
-      ∙ endToEnd-at 168 512 (λ P. getD coded (168 * q + P) []) (b * 10752 + i) (omega arith)
+      is-tabulate (part (b * 10752) 10752 (pairsOf p o q e)) 10752 (λ i. getD (getD coded (21 * (buffersIn p q + b) + i / 512) []) (i % 512) 0)
+      (part-length (b * 10752) 10752 (pairsOf p o q e) within)
+      (λ i li. part-at (b * 10752) 10752 (pairsOf p o q e) within i li
+      ∙ endToEnd-at (pairs p) 512 (λ P. getD coded (pairs p * q + P) []) (b * 10752 + i) (omega arith)
       ∙ ap₂ (λ P j. getD (getD coded P []) j 0) (which i) (place i))
     where
       coded : List (List ℕ)
       coded = codedPairs (o .calls e)
 
-      within : b * 10752 + 10752 ≤ length (pairsOf o q e)
-      within = omega (arith, endToEnd-length 168 512 (λ P. getD coded (168 * q + P) []))
+      within : b * 10752 + 10752 ≤ length (pairsOf p o q e)
+      within = omega (arith, endToEnd-length (pairs p) 512 (λ P. getD coded (pairs p * q + P) []))
 
-      which : (i : ℕ) → 168 * q + (b * 10752 + i) / 512 ≡ 21 * (8 * q + b) + i / 512
+      which : (i : ℕ) → pairs p * q + (b * 10752 + i) / 512 ≡ 21 * (buffersIn p q + b) + i / 512
       which i = omega arith
 
       place : (i : ℕ) → (b * 10752 + i) % 512 ≡ i % 512
       place i = omega arith
 
-  buffer-is : (b : ℕ) → b < 8 → bufferCells (pairsOf o q side0) (pairsOf o q side1) b ≡ mapping o (8 * q + b) .written
+  buffer-is : (b : ℕ) → b < p .bits → bufferCells p (pairsOf p o q side0) (pairsOf p o q side1) b ≡ mapping p o (buffersIn p q + b) .written
   unfolding bufferCells
-  buffer-is b l = ap₂ (λ x y. toCells (interleaved x y)) (buffer-pairs side0 b l) (buffer-pairs side1 b l) ∙ sym (cells-are o (8 * q + b))
+  buffer-is b l = ap₂ (λ x y. toCells p (interleaved x y)) (buffer-pairs side0 b l) (buffer-pairs side1 b l) ∙ sym (cells-are p o (buffersIn p q + b))
 
   cells : List ℕ
-  cells = payload (pairsOf o q side0) (pairsOf o q side1)
+  cells = payload p (pairsOf p o q side0) (pairsOf p o q side1)
 
-  payload-is : (s f : ℕ) → s < 48 → f / 48 ≡ q → f % 48 ≡ s → part (payloadStart s * 2) (payloadCells s * 2) cells ≡ framePayload o f
-  unfolding framePayload payloadByte payload cells
+  -- Byte h of payload cell x.
+  cell-is : (x h : ℕ) → x < 172032 → h < 2 → getD cells (x * 2 + h) 0 ≡ payloadByte p o q x h
+  unfolding payload payloadByte cells
+  cell-is x h lx lh =
+      ap (λ y. getD cells y 0) split
+      ∙ endToEnd-at (p .bits) (cellsPerBuffer p * 2) (bufferCells p (pairsOf p o q side0) (pairsOf p o q side1)) _
+      (place-lt (cellsPerBuffer p * 2) size (x / cellsPerBuffer p) (x % cellsPerBuffer p * 2 + h) (p .bits) lb li)
+      ∙ ap₂ (λ b i. getD (bufferCells p (pairsOf p o q side0) (pairsOf p o q side1) b) i 0) (group-of (cellsPerBuffer p * 2) size (x / cellsPerBuffer p) _ li)
+      (place-of (cellsPerBuffer p * 2) size (x / cellsPerBuffer p) _ li)
+      ∙ ap (λ (s : List ℕ). getD s (x % cellsPerBuffer p * 2 + h) 0) (buffer-is (x / cellsPerBuffer p) lb)
+    where
+      size : 0 < cellsPerBuffer p * 2
+      size = omega (arith, cells-pos p)
+
+      lb : x / cellsPerBuffer p < p .bits
+      lb = group-lt (cellsPerBuffer p) (cells-pos p) x (p .bits) (omega (arith, buffer-whole p))
+
+      li : x % cellsPerBuffer p * 2 + h < cellsPerBuffer p * 2
+      li = omega (arith, digit-lt (cellsPerBuffer p) (cells-pos p) x)
+
+      split : x * 2 + h ≡ x / cellsPerBuffer p * (cellsPerBuffer p * 2) + (x % cellsPerBuffer p * 2 + h)
+      split = omega (arith, digits (cellsPerBuffer p) (cells-pos p) x)
+
+  payload-is : (s f : ℕ) → s < 48 → f / 48 ≡ q → f % 48 ≡ s → part (payloadStart s * 2) (payloadCells s * 2) cells ≡ framePayload p o f
+  unfolding framePayload payload cells
   payload-is s f l eq es =
       rw (es, eq)
-      (is-tabulate (part (payloadStart s * 2) (payloadCells s * 2) cells) (payloadCells s * 2) (λ i. payloadByte o q (payloadStart s * 2 + i))
+      (is-tabulate (part (payloadStart s * 2) (payloadCells s * 2) cells) (payloadCells s * 2) (λ i. payloadByte p o q (payloadStart s + i / 2) (i % 2))
       (part-length (payloadStart s * 2) (payloadCells s * 2) cells within)
-      (λ i li. part-at (payloadStart s * 2) (payloadCells s * 2) cells within i li
-      ∙ endToEnd-at 8 43008 (bufferCells (pairsOf o q side0) (pairsOf o q side1)) (payloadStart s * 2 + i) (omega (arith, payload-within s l))
-      ∙ ap (λ x. getD x ((payloadStart s * 2 + i) % 43008) 0) (buffer-is ((payloadStart s * 2 + i) / 43008) (omega (arith, payload-within s l)))))
+      (λ i li. let split : payloadStart s * 2 + i ≡ (payloadStart s + i / 2) * 2 + i % 2 = omega arith in
+      part-at (payloadStart s * 2) (payloadCells s * 2) cells within i li
+      ∙ ap (λ y. getD cells y 0) split
+      ∙ cell-is (payloadStart s + i / 2) (i % 2) (omega (arith, payload-within s l)) (omega arith)))
     where
       within : payloadStart s * 2 + payloadCells s * 2 ≤ length cells
-      within = omega (arith, payload-within s l, endToEnd-length 8 43008 (bufferCells (pairsOf o q side0) (pairsOf o q side1)))
+      within =
+          omega (arith, payload-within s l, buffer-whole p, endToEnd-length (p .bits) (cellsPerBuffer p * 2) (bufferCells p (pairsOf p o q side0) (pairsOf p o q side1)))
 
   -- Sub-frame s of the super-frame is frame 48×q + s of the line.
   pub line-of-superframes : (s : ℕ) → q < o .superframes → s < 48
-      → part (s * 7424) 7424 (superframe (pairsOf o q side0) (pairsOf o q side1) (o .overhead)) ≡ getD (outward.frames o) (48 * q + s) []
+      → part (s * 7424) 7424 (superframe p (pairsOf p o q side0) (pairsOf p o q side1) (o .overhead)) ≡ getD (outward.frames p o) (48 * q + s) []
   unfolding superframe frames subFrame cells
   line-of-superframes s lq l =
       part-endToEnd 48 7424 (subFrame cells (o .overhead)) s (lit< tt) l (framed-length s (part (payloadStart s * 2) (payloadCells s * 2) cells) (ownOverhead s (o .overhead)))
-      ∙ ap₂ (λ t p. framed t p (ownOverhead t (o .overhead))) (sym sub) (payload-is s (48 * q + s) l super sub)
-      ∙ sym (frame-is o (48 * q + s) (omega arith))
+      ∙ ap₂ (λ t y. framed t y (ownOverhead t (o .overhead))) (sym sub) (payload-is s (48 * q + s) l super sub)
+      ∙ sym (frame-is p o (48 * q + s) (omega arith))
     where
       sub : (48 * q + s) % 48 ≡ s
       sub = omega arith
@@ -93,52 +131,52 @@ module _ (o : Outward) (q : ℕ) where
 
 -- ---- from the payloads
 
--- S gives the payload of each super-frame of each encoder, 168 pairs of 444 bytes.
-module _ (o : Outward) (S : Side → ℕ → List ℕ)
-    (given : (e : Side) (q k : ℕ) → q < o .superframes → k < 168 → getD (payloads (o .calls e)) (168 * q + k) [] ≡ pairPayload (S e q) k) where
+-- S gives the payload of each super-frame of each encoder, its pairs of 444 bytes.
+module _ (p : Profile) (o : Outward p) (S : Side → ℕ → List ℕ)
+    (given : (e : Side) (q k : ℕ) → q < o .superframes → k < pairs p → getD (payloads (o .calls e)) (pairs p * q + k) [] ≡ pairPayload (S e q) k) where
   -- The history before each pair is the encoder's,
-  history-in : (e : Side) (q k : ℕ) → q < o .superframes → k ≤ 168 → historyBefore (S e) q ≡ encoderHistory (payloads (o .calls e)) (168 * q)
-      → historyAt (historyBefore (S e) q) (168 * q) (pairPayload (S e q)) k ≡ encoderHistory (payloads (o .calls e)) (168 * q + k)
+  history-in : (e : Side) (q k : ℕ) → q < o .superframes → k ≤ pairs p → historyBefore (pairs p) (S e) q ≡ encoderHistory (payloads (o .calls e)) (pairs p * q)
+      → historyAt (historyBefore (pairs p) (S e) q) (pairs p * q) (pairPayload (S e q)) k ≡ encoderHistory (payloads (o .calls e)) (pairs p * q + k)
   history-in e q k lq lk is =
-      historyAt-ext (historyBefore (S e) q) (168 * q) (pairPayload (S e q)) (λ i. ys (168 * q + i)) k (λ i l. sym (given e q i lq (omega arith)))
-      ∙ ap (λ x. historyAt x (168 * q) (λ i. ys (168 * q + i)) k) (is ∙ sym (from-fresh (payloads (o .calls e)) (168 * q)))
-      ∙ ap (λ x. historyAt (historyAt (fresh 10) 0 ys (168 * q)) x (λ i. ys (168 * q + i)) k) number
-      ∙ sym (historyAt-more (fresh 10) 0 ys (168 * q) k)
-      ∙ from-fresh (payloads (o .calls e)) (168 * q + k)
+      historyAt-ext (historyBefore (pairs p) (S e) q) (pairs p * q) (pairPayload (S e q)) (λ i. ys (pairs p * q + i)) k (λ i l. sym (given e q i lq (omega arith)))
+      ∙ ap (λ x. historyAt x (pairs p * q) (λ i. ys (pairs p * q + i)) k) (is ∙ sym (from-fresh (payloads (o .calls e)) (pairs p * q)))
+      ∙ ap (λ x. historyAt (historyAt (fresh 10) 0 ys (pairs p * q)) x (λ i. ys (pairs p * q + i)) k) number
+      ∙ sym (historyAt-more (fresh 10) 0 ys (pairs p * q) k)
+      ∙ from-fresh (payloads (o .calls e)) (pairs p * q + k)
     where
       ys : ℕ → List ℕ
       ys i = getD (payloads (o .calls e)) i []
 
-      number : 168 * q ≡ 0 + 168 * q
+      number : pairs p * q ≡ 0 + pairs p * q
       number = omega arith
 
-  history-before : (e : Side) (q : ℕ) → q ≤ o .superframes → historyBefore (S e) q ≡ encoderHistory (payloads (o .calls e)) (168 * q)
+  history-before : (e : Side) (q : ℕ) → q ≤ o .superframes → historyBefore (pairs p) (S e) q ≡ encoderHistory (payloads (o .calls e)) (pairs p * q)
   unfolding historyBefore historyOver encoderHistory historyAfter
-  history-before e zero l = refl
+  history-before e zero l = let n : 0 ≡ pairs p * 0 = omega arith in ap (encoderHistory (payloads (o .calls e))) n
   history-before e (suc q) l =
-      let n : 168 * q + 168 ≡ 168 * suc q = omega arith in
-      history-in e q 168 (omega arith) (omega arith) (history-before e q (omega arith)) ∙ ap (encoderHistory (payloads (o .calls e))) n
+      let n : pairs p * q + pairs p ≡ pairs p * suc q = omega arith in
+      history-in e q (pairs p) (omega arith) (omega arith) (history-before e q (omega arith)) ∙ ap (encoderHistory (payloads (o .calls e))) n
 
   -- so each coded pair is that of the accepted call,
-  pair-is : (e : Side) (q k : ℕ) → q < o .superframes → k < 168
-      → pairAt (historyBefore (S e) q) (168 * q) (pairPayload (S e q)) k ≡ getD (codedPairs (o .calls e)) (168 * q + k) []
+  pair-is : (e : Side) (q k : ℕ) → q < o .superframes → k < pairs p
+      → pairAt (historyBefore (pairs p) (S e) q) (pairs p * q) (pairPayload (S e q)) k ≡ getD (codedPairs (o .calls e)) (pairs p * q + k) []
   unfolding pairAt
   pair-is e q k lq lk =
-      let f = At-find (accepted Encodings (o .calls e)) (168 * q + k) (omega (arith, o .filled e)) in
-      ap₂ (λ x y. encoded x (168 * q + k) y) (history-in e q k lq (omega arith) (history-before e q (omega arith))) (sym (given e q k lq lk))
-      ∙ sym (coded-made (o .calls e) (o .runs e) (168 * q + k) (f .0) (f .1))
+      let f = At-find (accepted Encodings (o .calls e)) (pairs p * q + k) (omega (arith, o .filled e, pair-lt p q k (o .superframes) lq lk)) in
+      ap₂ (λ x y. encoded x (pairs p * q + k) y) (history-in e q k lq (omega arith) (history-before e q (omega arith))) (sym (given e q k lq lk))
+      ∙ sym (coded-made (o .calls e) (o .runs e) (pairs p * q + k) (f .0) (f .1))
       ∙ sym (coded-at (o .calls e) (f .1))
 
-  pairs-are : (e : Side) (q : ℕ) → q < o .superframes → codedOf (historyBefore (S e) q) (168 * q) (S e q) ≡ pairsOf o q e
+  pairs-are : (e : Side) (q : ℕ) → q < o .superframes → codedOf (pairs p) (historyBefore (pairs p) (S e) q) (pairs p * q) (S e q) ≡ pairsOf p o q e
   unfolding codedOf pairsOf endToEnd
   pairs-are e q lq =
-      tabulate-ext 86016 (byteOfEach 512 (pairAt (historyBefore (S e) q) (168 * q) (pairPayload (S e q)))) (byteOfEach 512 (λ P. getD (codedPairs (o .calls e)) (168 * q + P) []))
+      tabulate-ext (pairs p * 512) (byteOfEach 512 (pairAt (historyBefore (pairs p) (S e) q) (pairs p * q) (pairPayload (S e q)))) (byteOfEach 512 (λ P. getD (codedPairs (o .calls e)) (pairs p * q + P) []))
       (λ y l. ap (λ x. getD x (y % 512) 0) (pair-is e q (y / 512) lq (omega arith)))
 
   -- and the super-frame made of these payloads is the line's.
   pub line-of-payloads : (q s : ℕ) → q < o .superframes → s < 48
       → part (s * 7424) 7424
-      (superframe (codedOf (historyBefore (S side0) q) (168 * q) (S side0 q)) (codedOf (historyBefore (S side1) q) (168 * q) (S side1 q)) (o .overhead))
-      ≡ getD (outward.frames o) (48 * q + s) []
+      (superframe p (codedOf (pairs p) (historyBefore (pairs p) (S side0) q) (pairs p * q) (S side0 q)) (codedOf (pairs p) (historyBefore (pairs p) (S side1) q) (pairs p * q) (S side1 q)) (o .overhead))
+      ≡ getD (outward.frames p o) (48 * q + s) []
   line-of-payloads q s lq ls =
-      ap₂ (λ x y. part (s * 7424) 7424 (superframe x y (o .overhead))) (pairs-are side0 q lq) (pairs-are side1 q lq) ∙ line-of-superframes o q s lq ls
+      ap₂ (λ x y. part (s * 7424) 7424 (superframe p x y (o .overhead))) (pairs-are side0 q lq) (pairs-are side1 q lq) ∙ line-of-superframes p o q s lq ls

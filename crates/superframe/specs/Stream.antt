@@ -19,14 +19,14 @@ module _ (h : List ℕ) (p : ℕ) (payloadOf : ℕ → List ℕ) where
 abbrev pub pairPayload : List ℕ → ℕ → List ℕ
 pairPayload payload k = part (k * 444) 444 payload
 
--- The coded pairs of a super-frame, and the history after them.
-unfoldable pub codedOf : List ℕ → ℕ → List ℕ → List ℕ
-codedOf h p payload = endToEnd 168 512 (pairAt h p (pairPayload payload))
+-- The m coded pairs of a super-frame, and the history after them.
+unfoldable pub codedOf : ℕ → List ℕ → ℕ → List ℕ → List ℕ
+codedOf m h p payload = endToEnd m 512 (pairAt h p (pairPayload payload))
 
-unfoldable pub historyOver : List ℕ → ℕ → List ℕ → List ℕ
-historyOver h p payload = historyAt h p (pairPayload payload) 168
+unfoldable pub historyOver : ℕ → List ℕ → ℕ → List ℕ → List ℕ
+historyOver m h p payload = historyAt h p (pairPayload payload) m
 
 -- The history before super-frame q, from fresh, where S gives the payload of each super-frame.
-unfoldable pub historyBefore : (ℕ → List ℕ) → ℕ → List ℕ
-historyBefore S zero = fresh 10
-historyBefore S (suc q) = historyOver (historyBefore S q) (168 * q) (S q)
+unfoldable pub historyBefore : ℕ → (ℕ → List ℕ) → ℕ → List ℕ
+historyBefore m S zero = fresh 10
+historyBefore m S (suc q) = historyOver m (historyBefore m S q) (m * q) (S q)

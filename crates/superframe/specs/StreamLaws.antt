@@ -24,7 +24,7 @@ use Rattle.superframe.specs.Stream.{historyAt, pairAt, pairPayload, code
 
 -- ---- one pair
 
-module _ (k a e : ℕ) (lk : k < 168) (ea : a ≡ k * 444) (ee : e ≡ a + 444) (number : ℕ) (ln : number < 4294967295) (payload : List ℕ) (lp : length payload ≡ 74592)
+module _ (m k a e : ℕ) (lk : k < m) (ea : a ≡ k * 444) (ee : e ≡ a + 444) (number : ℕ) (ln : number < 4294967295) (payload : List ℕ) (lp : length payload ≡ m * 444)
     (r : Answer) (c h coded history : List ℕ) (is : afterEncode r c h ≡ encodeCall (part a (e - a) payload) coded history number) (lc : length coded ≡ 512)
     (lh : length history ≡ 5120) where
   left : afterEncode r c h ≡ afterEncode (Done (number + 1)) (encoded history number (part a (e - a) payload)) (shift history (encoded history number (part a (e - a) payload)))
@@ -70,13 +70,13 @@ module _ {h : List ℕ} {p : ℕ} {payload : List ℕ} {k : ℕ} {g : List ℕ} 
   pub stream-block : c ≡ tabulate 512 (λ i. byteOfEach 512 (pairAt h p (pairPayload payload)) (k * 512 + i))
   stream-block = each-block (pairAt h p (pairPayload payload)) 512 k c (lit< tt) (ap length ec ∙ length-encoded g number (pairPayload payload k)) coded-is
 
-pub stream-pairs : (h : List ℕ) (p : ℕ) (payload d : List ℕ) → d ≡ tabulate 86016 (byteOfEach 512 (pairAt h p (pairPayload payload))) → d ≡ codedOf h p payload
+pub stream-pairs : (m : ℕ) (h : List ℕ) (p : ℕ) (payload d : List ℕ) → d ≡ tabulate (m * 512) (byteOfEach 512 (pairAt h p (pairPayload payload))) → d ≡ codedOf m h p payload
 unfolding codedOf endToEnd
-stream-pairs h p payload d e = e
+stream-pairs m h p payload d e = e
 
-pub stream-done : {h : List ℕ} {p : ℕ} {payload : List ℕ} {k : ℕ} {g : List ℕ} → Streaming h p payload k g → k ≤ 168 → 168 ≤ k → g ≡ historyOver h p payload
+pub stream-done : {m : ℕ} {h : List ℕ} {p : ℕ} {payload : List ℕ} {k : ℕ} {g : List ℕ} → Streaming h p payload k g → k ≤ m → m ≤ k → g ≡ historyOver m h p payload
 unfolding historyOver
-stream-done {h} {p} {payload} {k} s l m = let e : k ≡ 168 = omega arith in s .is ∙ ap (historyAt h p (pairPayload payload)) e
+stream-done {m} {h} {p} {payload} {k} s l r = let e : k ≡ m = omega arith in s .is ∙ ap (historyAt h p (pairPayload payload)) e
 
 pub ruleset streaming = (stream-none, stream-more, stream-block, stream-pairs, stream-done)
 

@@ -1,11 +1,12 @@
--- A super-frame made of the coded pairs of both encoders, 168 of each. 01, "Super-frame": "Payload runs on from buffer to buffer and
--- sub-frame to sub-frame". The calls of interleaving, cells and framing, one after the other, over eight buffers and 48 sub-frames.
+-- A super-frame made of the coded pairs of both encoders, over a profile. 01, "Super-frame": "Payload runs on from buffer to buffer and
+-- sub-frame to sub-frame". The calls of interleaving, cells and framing, one after the other, over its buffers and 48 sub-frames.
 -- Assumes nothing.
 use mathlib.Core.List.{List}
 use Prim.Native.Nat.{ℕ, _*_, _/_, _%_}
 use lib.ListN.{getD, take, drop}
 use Rattle.bits.specs.Lists.{tabulate}
 use Rattle.interleaving.specs.Interleaving.{interleaved}
+use Rattle.cells.specs.Profile.{Profile, cellsPerBuffer}
 use Rattle.cells.specs.Cells.{toCells}
 use Rattle.frames.specs.Frames.{payloadCells, payloadStart, ownOverhead, framed}
 
@@ -20,13 +21,13 @@ byteOfEach w f y = getD (f (y / w)) (y % w) 0
 unfoldable pub endToEnd : ℕ → ℕ → (ℕ → List ℕ) → List ℕ
 endToEnd m w f = tabulate (m * w) (byteOfEach w f)
 
--- Buffer b of the eight is made of 21 pairs of either encoder.
-unfoldable pub bufferCells : List ℕ → List ℕ → ℕ → List ℕ
-bufferCells pairs0 pairs1 b = toCells (interleaved (part (b * 10752) 10752 pairs0) (part (b * 10752) 10752 pairs1))
+-- Buffer b of the super-frame is made of 21 pairs of either encoder.
+unfoldable pub bufferCells : Profile → List ℕ → List ℕ → ℕ → List ℕ
+bufferCells p pairs0 pairs1 b = toCells p (interleaved (part (b * 10752) 10752 pairs0) (part (b * 10752) 10752 pairs1))
 
 -- The payload of the super-frame.
-unfoldable pub payload : List ℕ → List ℕ → List ℕ
-payload pairs0 pairs1 = endToEnd 8 43008 (bufferCells pairs0 pairs1)
+unfoldable pub payload : Profile → List ℕ → List ℕ → List ℕ
+payload p pairs0 pairs1 = endToEnd (p .bits) (cellsPerBuffer p * 2) (bufferCells p pairs0 pairs1)
 
 -- Sub-frame s of the 48, whose payload is its own part of it.
 unfoldable pub subFrame : List ℕ → List ℕ → ℕ → List ℕ
@@ -35,5 +36,5 @@ subFrame cells overhead s = framed s (part (payloadStart s * 2) (payloadCells s 
 unfoldable pub frames : List ℕ → List ℕ → List ℕ
 frames cells overhead = endToEnd 48 7424 (subFrame cells overhead)
 
-unfoldable pub superframe : List ℕ → List ℕ → List ℕ → List ℕ
-superframe pairs0 pairs1 overhead = frames (payload pairs0 pairs1) overhead
+unfoldable pub superframe : Profile → List ℕ → List ℕ → List ℕ → List ℕ
+superframe p pairs0 pairs1 overhead = frames (payload p pairs0 pairs1) overhead

@@ -3,24 +3,25 @@
 use mathlib.Core.Path.{_≡_, refl, sym, ap, ap₂, _∙_}
 use mathlib.Core.List.{List}
 use mathlib.Core.Logic.{_≢_}
-use Prim.Native.Nat.{ℕ, zero, suc, _+_, _-_, _*_, _%_, _<_, _≤_}
+use Prim.Native.Nat.{ℕ, zero, suc, _+_, _-_, _*_, _/_, _%_, _<_, _≤_}
 use native.Mathlib.Nat.{add-zero, suc-mul, mul-le-mul-right, div-eq-of-lt, mod-eq-of-lt, mul-add-div-right, mul-add-mod-self-right}
 use native.Mathlib.Omega.{arith}
 use native.Mathlib.Numerals.{add-one}
-use borrow.Author.Tests.{lt-leb}
 use lib.Dec.{lit<}
 use lib.ListN.{length, getD, drop, length-drop}
 use lib.Seq.{ext-getD, length-take-le, getD-take, getD-drop}
+use Rattle.bits.specs.DigitLaws.{digit-lt}
 use Rattle.bits.specs.Count.{count}
 use Rattle.bits.specs.Lists.{tabulate}
-use Rattle.bits.specs.ListLaws.{length-tabulate, getD-tabulate, tabulate-below, is-tabulate}
+use Rattle.bits.specs.ListLaws.{length-tabulate, getD-tabulate, is-tabulate}
 use Rattle.calls.specs.declared.Answer.{Answer}
 use Rattle.interleaving.specs.Interleaving.{interleaved}
 use Rattle.interleaving.specs.InterleavingLaws.{length-interleaved}
 use Rattle.interleaving.specs.Calls.{Interleaved, joined, interleave}
 use Rattle.interleaving.specs.CallLaws.{interleave-bits}
-use Rattle.cells.specs.Cells.{illegal, Legal}
-use Rattle.cells.specs.CellLaws.{toCells-length, toCells-below}
+use Rattle.cells.specs.Profile.{Profile, cellsPerBuffer}
+use Rattle.cells.specs.Cells.{overheadRule, payloadRule, Legal}
+use Rattle.cells.specs.CellLaws.{cells-pos, toCells-legal, buffer-cells}
 use Rattle.cells.specs.Calls.{After, after, bitsToCells}
 use Rattle.cells.specs.CallLaws.{map-accepts}
 use Rattle.frames.specs.Frames.{payloadCells, payloadStart, ownOverhead}
@@ -39,8 +40,9 @@ module _ (a n : ℕ) (s : List ℕ) (l : a + n ≤ length s) where
   pub part-at : (i : ℕ) → i < n → getD (part a n s) i 0 ≡ getD s (a + i) 0
   part-at i li = getD-take n (drop a s) i 0 li ∙ getD-drop a s i 0
 
-  part-legal : Legal s → Legal (part a n s)
-  part-legal h = record { legal = λ k lk. let i : k < n = omega (arith, part-length) in ap illegal (part-at k i) ∙ h .legal (a + k) (omega arith) }
+  part-legal : (p : Profile) → Legal (payloadRule p) s → Legal (payloadRule p) (part a n s)
+  unfolding payloadRule
+  part-legal p h = record { legal = λ k lk. let i : k < n = omega (arith, part-length) in ap (p .illegal) (part-at k i) ∙ h .legal (a + k) (omega arith) }
 
 -- The part from a to e, as code lends it.
 pub part-long : (a e n : ℕ) (s : List ℕ) → e ≡ a + n → e ≤ length s → length (part a (e - a) s) ≡ n
@@ -84,11 +86,12 @@ part-endToEnd m w f k pos l long =
 
 -- ---- the cells of a buffer
 
-module _ (b a e : ℕ) (ea : a ≡ b * 10752) (ee : e ≡ a + 10752) (lb : b < 8) (pairs0 pairs1 : List ℕ) (l0 : length pairs0 ≡ 86016) (l1 : length pairs1 ≡ 86016) where
+-- Buffer b of n.
+module _ (n b a e : ℕ) (ea : a ≡ b * 10752) (ee : e ≡ a + 10752) (lb : b < n) (pairs0 pairs1 : List ℕ) (l0 : length pairs0 ≡ n * 10752) (l1 : length pairs1 ≡ n * 10752) where
   own-pairs : e - a ≡ 10752
   own-pairs = omega arith
 
-  pairs-long : (s : List ℕ) → length s ≡ 86016 → length (part a (e - a) s) ≡ 10752
+  pairs-long : (s : List ℕ) → length s ≡ n * 10752 → length (part a (e - a) s) ≡ 10752
   pairs-long s l = part-long a e 10752 s ee (omega arith)
 
   pub joined-bits : (r : Answer) (s bits : List ℕ) → joined r s ≡ interleave (part a (e - a) pairs0) (part a (e - a) pairs1) bits → length bits ≡ 21504
@@ -98,38 +101,48 @@ module _ (b a e : ℕ) (ea : a ≡ b * 10752) (ee : e ≡ a + 10752) (lb : b < 8
       ∙ interleave-bits (part a (e - a) pairs0) (part a (e - a) pairs1) bits (pairs-long pairs0 l0) (pairs-long pairs1 l1) l
       ∙ ap₂ (λ x y. interleaved (part x y pairs0) (part x y pairs1)) ea own-pairs
 
-pub mapped-cells : (b : ℕ) (pairs0 pairs1 : List ℕ) (r : Answer) (d s cells : List ℕ) → after r d ≡ bitsToCells s cells
-    → s ≡ interleaved (part (b * 10752) 10752 pairs0) (part (b * 10752) 10752 pairs1) → length cells ≡ 43008 → d ≡ bufferCells pairs0 pairs1 b
-unfolding bufferCells
-mapped-cells b pairs0 pairs1 r d s cells e f l =
-    ap (λ (x : After). x .written) e
-    ∙ ap (λ u. bitsToCells u cells .written) f
-    ∙ ap (λ (x : After). x .written) (map-accepts _ cells (length-interleaved (part (b * 10752) 10752 pairs0) (part (b * 10752) 10752 pairs1)) l)
+module _ (p : Profile) where
+  pub mapped-cells : (b : ℕ) (pairs0 pairs1 : List ℕ) (r : Answer) (d s cells : List ℕ) → after r d ≡ bitsToCells p s cells
+      → s ≡ interleaved (part (b * 10752) 10752 pairs0) (part (b * 10752) 10752 pairs1) → length cells ≡ cellsPerBuffer p * 2 → d ≡ bufferCells p pairs0 pairs1 b
+  unfolding bufferCells
+  mapped-cells b pairs0 pairs1 r d s cells e f l =
+      ap (λ (x : After). x .written) e
+      ∙ ap (λ u. bitsToCells p u cells .written) f
+      ∙ ap (λ (x : After). x .written) (map-accepts p _ cells (length-interleaved (part (b * 10752) 10752 pairs0) (part (b * 10752) 10752 pairs1)) l)
 
-pub buffer-block : (pairs0 pairs1 : List ℕ) (b : ℕ) (ys : List ℕ) → ys ≡ bufferCells pairs0 pairs1 b
-    → ys ≡ tabulate 43008 (λ i. byteOfEach 43008 (bufferCells pairs0 pairs1) (b * 43008 + i))
-unfolding bufferCells
-buffer-block pairs0 pairs1 b ys e =
-    each-block (bufferCells pairs0 pairs1) 43008 b ys (lit< tt)
-    (ap length e ∙ toCells-length _ ∙ omega (arith, length-interleaved (part (b * 10752) 10752 pairs0) (part (b * 10752) 10752 pairs1))) e
+  size-pos : 0 < cellsPerBuffer p * 2
+  size-pos = omega (arith, cells-pos p)
 
-pub buffers-are : (pairs0 pairs1 d : List ℕ) → d ≡ tabulate 344064 (byteOfEach 43008 (bufferCells pairs0 pairs1)) → d ≡ payload pairs0 pairs1
-unfolding payload endToEnd
-buffers-are pairs0 pairs1 d e = e
+  buffer-long : (pairs0 pairs1 : List ℕ) (b : ℕ) → length (bufferCells p pairs0 pairs1 b) ≡ cellsPerBuffer p * 2
+  unfolding bufferCells
+  buffer-long pairs0 pairs1 b = buffer-cells p _ (length-interleaved (part (b * 10752) 10752 pairs0) (part (b * 10752) 10752 pairs1))
+
+  pub buffer-block : (pairs0 pairs1 : List ℕ) (b : ℕ) (ys : List ℕ) → ys ≡ bufferCells p pairs0 pairs1 b
+      → ys ≡ tabulate (cellsPerBuffer p * 2) (λ i. byteOfEach (cellsPerBuffer p * 2) (bufferCells p pairs0 pairs1) (b * (cellsPerBuffer p * 2) + i))
+  buffer-block pairs0 pairs1 b ys e =
+      each-block (bufferCells p pairs0 pairs1) (cellsPerBuffer p * 2) b ys size-pos (ap length e ∙ buffer-long pairs0 pairs1 b) e
+
+  pub buffers-are : (pairs0 pairs1 d : List ℕ) → d ≡ tabulate (p .bits * (cellsPerBuffer p * 2)) (byteOfEach (cellsPerBuffer p * 2) (bufferCells p pairs0 pairs1))
+      → d ≡ payload p pairs0 pairs1
+  unfolding payload endToEnd
+  buffers-are pairs0 pairs1 d e = e
+
+  -- The payload is legal.
+  pub payload-legal : (pairs0 pairs1 d : List ℕ) → d ≡ payload p pairs0 pairs1 → Legal (payloadRule p) d
+  unfolding payload bufferCells payloadRule
+  payload-legal pairs0 pairs1 d e =
+      rw e
+      (record {
+        legal = λ k l. ap (p .illegal)
+            (endToEnd-at (p .bits) (cellsPerBuffer p * 2) (bufferCells p pairs0 pairs1) k
+            (omega (arith, endToEnd-length (p .bits) (cellsPerBuffer p * 2) (bufferCells p pairs0 pairs1))))
+            ∙ toCells-legal p _ .legal (k % (cellsPerBuffer p * 2))
+            (omega (arith, digit-lt (cellsPerBuffer p * 2) size-pos k, buffer-long pairs0 pairs1 (k / (cellsPerBuffer p * 2))));
+      })
 
 pub ruleset buffering = (joined-bits, mapped-cells)
 
 pub ruleset joining = (buffer-block, buffers-are)
-
--- The payload is legal.
-pub payload-legal : (pairs0 pairs1 d : List ℕ) → d ≡ payload pairs0 pairs1 → Legal d
-unfolding payload endToEnd bufferCells
-payload-legal pairs0 pairs1 d e =
-    rw e
-    (record {
-      legal = λ k l. lt-leb 16 (getD (payload pairs0 pairs1) k 0)
-          (tabulate-below 344064 (byteOfEach 43008 (bufferCells pairs0 pairs1)) 16 (λ y. toCells-below _ (y % 43008)) (lit< tt) k);
-    })
 
 -- ---- a sub-frame
 
@@ -160,15 +173,15 @@ module _ (s a e : ℕ) (ls : s < 48) (ea : a ≡ payloadStart s * 2) (ee : e ≡
   own-part : e - a ≡ payloadCells s * 2
   own-part = omega (arith, next-start s)
 
-  pub sub-frame-is : (r : Answer) (d cells overhead lent : List ℕ) → after r d ≡ frameCall s (part a (e - a) cells) overhead lent → length cells ≡ 344064 → Legal cells
-      → length overhead ≡ 12288 → Legal overhead → length lent ≡ 7424 → d ≡ subFrame cells overhead s
+  pub sub-frame-is : (p : Profile) (r : Answer) (d cells overhead lent : List ℕ) → after r d ≡ frameCall p s (part a (e - a) cells) overhead lent → length cells ≡ 344064 → Legal (payloadRule p) cells
+      → length overhead ≡ 12288 → Legal overheadRule overhead → length lent ≡ 7424 → d ≡ subFrame cells overhead s
   unfolding subFrame
-  sub-frame-is r d cells overhead lent f lc hc lo ho lf =
+  sub-frame-is p r d cells overhead lent f lc hc lo ho lf =
       ap (λ (x : After). x .written) f
-      ∙ ap₂ (λ x y. frameCall s (part x y cells) overhead lent .written) ea own-part
+      ∙ ap₂ (λ x y. frameCall p s (part x y cells) overhead lent .written) ea own-part
       ∙ ap (λ (x : After). x .written)
-      (frame-accepts s overhead lent (part (payloadStart s * 2) (payloadCells s * 2) cells) (omega arith) lo lf (part-length (payloadStart s * 2) (payloadCells s * 2) cells fits)
-      (own-legal s overhead (omega arith) lo ho) (part-legal (payloadStart s * 2) (payloadCells s * 2) cells fits hc))
+      (frame-accepts p s overhead lent (part (payloadStart s * 2) (payloadCells s * 2) cells) (omega arith) lo lf (part-length (payloadStart s * 2) (payloadCells s * 2) cells fits)
+      (own-legal s overhead (omega arith) lo ho) (part-legal (payloadStart s * 2) (payloadCells s * 2) cells fits p hc))
     where
       fits : payloadStart s * 2 + payloadCells s * 2 ≤ length cells
       fits = omega (arith, next-start s, payload-within s ls)
@@ -191,6 +204,6 @@ pub ruleset framing = (frame-block, frames-are)
 
 -- ---- the super-frame
 
-pub superframe-is : (pairs0 pairs1 overhead cells d : List ℕ) → cells ≡ payload pairs0 pairs1 → d ≡ frames cells overhead → d ≡ superframe pairs0 pairs1 overhead
+pub superframe-is : (p : Profile) (pairs0 pairs1 overhead cells d : List ℕ) → cells ≡ payload p pairs0 pairs1 → d ≡ frames cells overhead → d ≡ superframe p pairs0 pairs1 overhead
 unfolding superframe
-superframe-is pairs0 pairs1 overhead cells d e f = f ∙ ap (λ c. frames c overhead) e
+superframe-is p pairs0 pairs1 overhead cells d e f = f ∙ ap (λ c. frames c overhead) e

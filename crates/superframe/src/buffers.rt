@@ -2,12 +2,13 @@
 ghost use mathlib.Core.Path.{_≡_};
 ghost use Prim.Native.Nat.{_<_};
 ghost use lib.ListN.{length};
+ghost use Rattle.cells.specs.Profiles.{qam16};
 ghost use Rattle.superframe.specs.Superframe.{bufferCells, payload};
 
 // The cells of buffer b: 21 pairs of each encoder.
 fn buffer(b: usize, pairs0: &[u8], pairs1: &[u8], cells: &mut [u8])
     requires { ⌜ (b < 8) × (length (now pairs0) ≡ 86016) × (length (now pairs1) ≡ 86016) × (length (now cells) ≡ 43008) ⌝ }
-    ensures { λ _. ⌜ now (cells .exit) ≡ bufferCells (now (pairs0 .entry)) (now (pairs1 .entry)) b ⌝ }
+    ensures { λ _. ⌜ now (cells .exit) ≡ bufferCells qam16 (now (pairs0 .entry)) (now (pairs1 .entry)) b ⌝ }
 {
     let a = b * 10752;
     let e = a + 10752;
@@ -19,7 +20,7 @@ fn buffer(b: usize, pairs0: &[u8], pairs1: &[u8], cells: &mut [u8])
 // The cells of all.
 pub fn join(pairs0: &[u8], pairs1: &[u8], cells: &mut [u8])
     requires { ⌜ (length (now pairs0) ≡ 86016) × (length (now pairs1) ≡ 86016) × (length (now cells) ≡ 344064) ⌝ }
-    ensures { λ _. ⌜ now (cells .exit) ≡ payload (now (pairs0 .entry)) (now (pairs1 .entry)) ⌝ }
+    ensures { λ _. ⌜ now (cells .exit) ≡ payload qam16 (now (pairs0 .entry)) (now (pairs1 .entry)) ⌝ }
 {
     for b in 0..8 {
         let f = b * 43008;

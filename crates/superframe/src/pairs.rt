@@ -19,7 +19,7 @@ fn pair(k: usize, payload: &[u8], number: u32, history: &mut [u8], coded: &mut [
 // Encodes the 168 pairs, numbered from `first` on.
 pub fn encode(payload: &[u8], first: u32, history: &mut [u8], coded: &mut [u8])
     requires { ⌜ (length (now payload) ≡ 74592) × (first + 168 ≤ 4294967295) × (length (now history) ≡ 5120) × (length (now coded) ≡ 86016) ⌝ }
-    ensures { λ _. ⌜ (now (coded .exit) ≡ codedOf (now (history .entry)) first (now (payload .entry))) × (now (history .exit) ≡ historyOver (now (history .entry)) first (now (payload .entry))) ⌝ }
+    ensures { λ _. ⌜ (now (coded .exit) ≡ codedOf 168 (now (history .entry)) first (now (payload .entry))) × (now (history .exit) ≡ historyOver 168 (now (history .entry)) first (now (payload .entry))) ⌝ }
 {
     for k in 0..168 {
         let f = k * 512;

@@ -2,7 +2,8 @@
 ghost use mathlib.Core.Path.{_≡_};
 ghost use Prim.Native.Nat.{_≤_, _<_, _*_};
 ghost use lib.ListN.{length};
-ghost use Rattle.cells.specs.Cells.{Legal};
+ghost use Rattle.cells.specs.Cells.{overheadRule, payloadRule, Legal};
+ghost use Rattle.cells.specs.Profiles.{qam16};
 ghost use Rattle.frames.specs.Frames.{payloadStart};
 ghost use Rattle.superframe.specs.Superframe.{frames, subFrame};
 
@@ -19,7 +20,7 @@ fn start(s: usize) -> usize
 
 // Sub-frame s.
 fn sub_frame(s: usize, cells: &[u8], overhead: &[u8], frame: &mut [u8])
-    requires { ⌜ (s < 48) × (length (now cells) ≡ 344064) × Legal (now cells) × (length (now overhead) ≡ 12288) × Legal (now overhead) × (length (now frame) ≡ 7424) ⌝ }
+    requires { ⌜ (s < 48) × (length (now cells) ≡ 344064) × Legal (payloadRule qam16) (now cells) × (length (now overhead) ≡ 12288) × Legal overheadRule (now overhead) × (length (now frame) ≡ 7424) ⌝ }
     ensures { λ _. ⌜ now (frame .exit) ≡ subFrame (now (cells .entry)) (now (overhead .entry)) s ⌝ }
 {
     let a = start(s);
@@ -29,7 +30,7 @@ fn sub_frame(s: usize, cells: &[u8], overhead: &[u8], frame: &mut [u8])
 
 // All of them, end to end.
 pub fn frame(cells: &[u8], overhead: &[u8], line: &mut [u8])
-    requires { ⌜ (length (now cells) ≡ 344064) × Legal (now cells) × (length (now overhead) ≡ 12288) × Legal (now overhead) × (length (now line) ≡ 356352) ⌝ }
+    requires { ⌜ (length (now cells) ≡ 344064) × Legal (payloadRule qam16) (now cells) × (length (now overhead) ≡ 12288) × Legal overheadRule (now overhead) × (length (now line) ≡ 356352) ⌝ }
     ensures { λ _. ⌜ now (line .exit) ≡ frames (now (cells .entry)) (now (overhead .entry)) ⌝ }
 {
     for s in 0..48 {

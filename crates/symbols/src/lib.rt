@@ -5,6 +5,7 @@ use mapper::legal::first_illegal;
 use mapper::mapping;
 ghost use mathlib.Core.Path.{_≡_};
 ghost use Rattle.cells.specs.Calls.{after, bitsToCells, cellsToBits};
+ghost use Rattle.cells.specs.Profiles.{qam16};
 
 // A buffer of bits: 172,032 of them, 21,504 symbols.
 const BITS: usize = 21504;
@@ -14,7 +15,7 @@ const CELLS: usize = 43008;
 
 // The cells of a buffer of bits.
 pub fn bits_to_cells(bits: &[u8], cells: &mut [u8]) -> Answer
-    ensures { λ r. ⌜ after r (now (cells .exit)) ≡ bitsToCells (now (bits .entry)) (now (cells .entry)) ⌝ }
+    ensures { λ r. ⌜ after r (now (cells .exit)) ≡ bitsToCells qam16 (now (bits .entry)) (now (cells .entry)) ⌝ }
 {
     if bits.len() != BITS {
         return Answer::Refused(Refusal::Misfit);
@@ -28,7 +29,7 @@ pub fn bits_to_cells(bits: &[u8], cells: &mut [u8]) -> Answer
 
 // The bits of a buffer of cells, all of which must be legal.
 pub fn cells_to_bits(cells: &[u8], bits: &mut [u8]) -> Answer
-    ensures { λ r. ⌜ after r (now (bits .exit)) ≡ cellsToBits (now (cells .entry)) (now (bits .entry)) ⌝ }
+    ensures { λ r. ⌜ after r (now (bits .exit)) ≡ cellsToBits qam16 (now (cells .entry)) (now (bits .entry)) ⌝ }
 {
     if cells.len() != CELLS {
         return Answer::Refused(Refusal::Misfit);

@@ -2,10 +2,11 @@
 -- Assumes nothing.
 use borrow.Author.Needs.{needs}
 use Rattle.frames.specs.CallLaws.{judging, frame-done}
+use Rattle.frames.specs.Qam16Flat.{flat}
 use Rattle.framing.proofs.frame.Statement.{statement}
 use Rattle.framing.proofs.frame.Tie as tie
 
-ruleset kit = (needs, judging)
+ruleset kit = (needs, judging, flat)
 
 pub frame-spec : {M : Type 1} → statement M
 frame-spec =
@@ -16,7 +17,10 @@ frame-spec =
     (λ c. search needs)  -- same-length
     (λ c. search kit)  -- returns
     (λ c. search needs)  -- enum-told
+    (λ c κs. search needs)  -- first-illegal-requires
+    (λ c. search needs)  -- same-length-2
+    (λ c. search kit)  -- returns-2
     (λ c κs. search kit)  -- own-overhead-requires
     (λ c κs. search kit)  -- place-requires
-    (λ c. search needs)  -- same-length-2
-    (λ c. search (needs, frame-done)))  -- returns-2
+    (λ c. search needs)  -- same-length-3
+    (λ c. search (needs, flat, frame-done)))  -- returns-3

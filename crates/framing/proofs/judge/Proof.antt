@@ -23,6 +23,4 @@ judge-spec =
     (λ c. search needs)  -- mul-t17
     (λ c. search needs)  -- add-t18
     (λ c. search kit)  -- returns-5
-    (λ c κs. search needs)  -- first-illegal-requires-2
-    (λ c. search kit)  -- returns-6
-    (λ c. search kit))  -- returns-7
+    (λ c. search kit))  -- returns-6

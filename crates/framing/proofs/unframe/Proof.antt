@@ -2,10 +2,11 @@
 -- Assumes nothing.
 use borrow.Author.Needs.{needs}
 use Rattle.frames.specs.CallLaws.{judging, unframe-done}
+use Rattle.frames.specs.Qam16Flat.{flat}
 use Rattle.framing.proofs.unframe.Statement.{statement}
 use Rattle.framing.proofs.unframe.Tie as tie
 
-ruleset kit = (needs, judging)
+ruleset kit = (needs, judging, flat)
 
 pub unframe-spec : {M : Type 1} → statement M
 unframe-spec =
@@ -16,8 +17,11 @@ unframe-spec =
     (λ c. search needs)  -- same-length
     (λ c. search kit)  -- returns
     (λ c. search needs)  -- enum-told
+    (λ c κs. search needs)  -- first-illegal-requires
+    (λ c. search needs)  -- same-length-2
+    (λ c. search kit)  -- returns-2
     (λ c κs. search kit)  -- extract-requires
     (λ c κs. search kit)  -- own-overhead-requires
     (λ c κs. search kit)  -- differing-requires
-    (λ c. search needs)  -- same-length-2
-    (λ c. search (needs, unframe-done)))  -- returns-2
+    (λ c. search needs)  -- same-length-3
+    (λ c. search (needs, flat, unframe-done)))  -- returns-3

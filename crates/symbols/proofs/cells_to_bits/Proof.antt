@@ -1,6 +1,9 @@
 -- `symbols::cells_to_bits` meets its contract: one law for each case of its definition.
 -- Assumes nothing.
 use borrow.Author.Needs.{needs}
+use Rattle.cells.specs.Profile.{cellsPerBuffer}
+use Rattle.cells.specs.Cells.{overheadRule, payloadRule}
+use Rattle.cells.specs.Profiles.{qam16}
 use Rattle.cells.specs.CallLaws.{demap-cases}
 use Rattle.symbols.proofs.cells_to_bits.Statement.{statement}
 use Rattle.symbols.proofs.cells_to_bits.Tie as tie
@@ -8,6 +11,7 @@ use Rattle.symbols.proofs.cells_to_bits.Tie as tie
 ruleset kit = (needs, demap-cases)
 
 pub cells-to-bits-spec : {M : Type 1} → statement M
+unfolding qam16 cellsPerBuffer payloadRule overheadRule
 cells-to-bits-spec =
     tie.close
     (tie.spec

@@ -4,7 +4,7 @@ use Prim.Native.Nat.{_-_}
 use lib.ListN.{length}
 use borrow.Author.Tests.{le-leb, lt-leb}
 use Rattle.bits.specs.Seeking.{Seeking, seek}
-use Rattle.cells.specs.Cells.{illegal, firstIllegal}
+use Rattle.cells.specs.Cells.{overheadRule, firstIllegal}
 use borrow.Author.Needs.{needs}
 use Rattle.mapper.proofs.legal.first_illegal.Statement.{statement}
 use Rattle.mapper.proofs.legal.first_illegal.Tie as tie
@@ -12,13 +12,13 @@ use Rattle.mapper.proofs.legal.first_illegal.Tie as tie
 ruleset kit = (needs, seek, le-leb, lt-leb)
 
 abbrev Inv-loop : tie.InvT-loop
-Inv-loop cells i₀ i-end i = Seeking illegal cells i
+Inv-loop cells i₀ i-end i = Seeking overheadRule cells i
 
 abbrev μ-loop : tie.MeasureT-loop
 μ-loop cells i₀ i-end i = length cells - i
 
 pub first-illegal-spec : {M : Type 1} → statement M
-unfolding firstIllegal
+unfolding firstIllegal overheadRule
 first-illegal-spec =
     tie.close
     (tie.spec

@@ -1,7 +1,7 @@
 -- `mapper::mapping::byte_of` meets its contract: the four bits of I and the four of Q, in their places.
 -- Assumes nothing.
 use borrow.Author.Needs.{needs}
-use Rattle.cells.specs.CellLaws.{byte-woven}
+use Rattle.cells.specs.Qam16Laws.{byte-woven}
 use Rattle.mapper.proofs.mapping.byte_of.Statement.{statement}
 use Rattle.mapper.proofs.mapping.byte_of.Tie as tie
 

@@ -1,6 +1,6 @@
 -- `mapper::mapping::cell_byte` meets its contract: one law for X and one for Y.
 -- Assumes nothing.
-use Rattle.cells.specs.CellLaws.{halves}
+use Rattle.cells.specs.Qam16Laws.{halves}
 use borrow.Author.Needs.{needs}
 use Rattle.mapper.proofs.mapping.cell_byte.Statement.{statement}
 use Rattle.mapper.proofs.mapping.cell_byte.Tie as tie

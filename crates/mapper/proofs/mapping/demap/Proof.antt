@@ -3,8 +3,7 @@
 use Prim.Native.Nat.{_-_}
 use lib.ListN.{length}
 use Rattle.bits.specs.Filling.{Filling, fill}
-use Rattle.cells.specs.Cells.{byteAt}
-use Rattle.cells.specs.CellLaws.{bits-filled, legal}
+use Rattle.cells.specs.Qam16Bytes.{byteAt, bits-filled, legal}
 use borrow.Author.Needs.{needs}
 use Rattle.mapper.proofs.mapping.demap.Statement.{statement}
 use Rattle.mapper.proofs.mapping.demap.Tie as tie

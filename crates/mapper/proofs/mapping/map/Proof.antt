@@ -3,8 +3,7 @@
 use Prim.Native.Nat.{_-_}
 use lib.ListN.{length}
 use Rattle.bits.specs.Filling.{Filling, fill}
-use Rattle.cells.specs.Cells.{cellsAt}
-use Rattle.cells.specs.CellLaws.{cells-filled}
+use Rattle.cells.specs.Qam16Bytes.{cellsByte, cells-filled}
 use borrow.Author.Needs.{needs}
 use Rattle.mapper.proofs.mapping.map.Statement.{statement}
 use Rattle.mapper.proofs.mapping.map.Tie as tie
@@ -12,13 +11,13 @@ use Rattle.mapper.proofs.mapping.map.Tie as tie
 ruleset kit = (needs, fill, cells-filled)
 
 abbrev Inv-loop : tie.InvT-loop
-Inv-loop bits cells₀ j₀ j-end cells j = Filling (cellsAt bits) (length cells₀) j cells
+Inv-loop bits cells₀ j₀ j-end cells j = Filling (cellsByte bits) (length cells₀) j cells
 
 abbrev μ-loop : tie.MeasureT-loop
 μ-loop bits cells₀ j₀ j-end cells j = length cells₀ - j
 
 pub map-spec : {M : Type 1} → statement M
-unfolding cellsAt
+unfolding cellsByte
 map-spec =
     tie.close
     (tie.spec

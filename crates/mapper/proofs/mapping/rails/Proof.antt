@@ -1,6 +1,6 @@
 -- `mapper::mapping::rails` meets its contract: the definition, from what `level` and `ordinal` ensure.
 -- Assumes nothing.
-use Rattle.cells.specs.CellLaws.{rails-is}
+use Rattle.cells.specs.Qam16Laws.{rails-is}
 use borrow.Author.Needs.{needs}
 use Rattle.mapper.proofs.mapping.rails.Statement.{statement}
 use Rattle.mapper.proofs.mapping.rails.Tie as tie

@@ -1,7 +1,7 @@
 -- `mapper::mapping::weave` meets its contract: `weave-is`, from what `pair` ensures.
 -- Assumes nothing.
 use borrow.Author.Needs.{needs}
-use Rattle.cells.specs.CellLaws.{weave-is}
+use Rattle.cells.specs.Qam16Laws.{weave-is}
 use Rattle.mapper.proofs.mapping.weave.Statement.{statement}
 use Rattle.mapper.proofs.mapping.weave.Tie as tie
 

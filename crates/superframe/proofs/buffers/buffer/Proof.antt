@@ -1,6 +1,8 @@
 -- `superframe::buffers::buffer` meets its contract.
 -- Assumes nothing.
 use borrow.Author.Needs.{needs}
+use Rattle.cells.specs.Profile.{cellsPerBuffer}
+use Rattle.cells.specs.Profiles.{qam16}
 use Rattle.superframe.specs.SuperframeLaws.{buffering}
 use Rattle.superframe.proofs.buffers.buffer.Statement.{statement}
 use Rattle.superframe.proofs.buffers.buffer.Tie as tie
@@ -8,6 +10,7 @@ use Rattle.superframe.proofs.buffers.buffer.Tie as tie
 ruleset kit = (needs, buffering)
 
 pub buffer-spec : {M : Type 1} → statement M
+unfolding qam16 cellsPerBuffer
 buffer-spec =
     tie.close
     (tie.spec

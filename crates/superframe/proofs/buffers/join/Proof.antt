@@ -3,6 +3,8 @@
 use Prim.Native.Nat.{_-_}
 use Rattle.bits.specs.Filling.{Blocks, by-blocks}
 use borrow.Author.Needs.{needs}
+use Rattle.cells.specs.Profile.{cellsPerBuffer}
+use Rattle.cells.specs.Profiles.{qam16}
 use Rattle.superframe.specs.Superframe.{byteOfEach, bufferCells}
 use Rattle.superframe.specs.SuperframeLaws.{joining}
 use Rattle.superframe.proofs.buffers.join.Statement.{statement}
@@ -11,12 +13,13 @@ use Rattle.superframe.proofs.buffers.join.Tie as tie
 ruleset kit = (needs, by-blocks, joining)
 
 abbrev Inv-loop : tie.InvT-loop
-Inv-loop pairs0 pairs1 cells₀ b₀ cells b = Blocks (byteOfEach 43008 (bufferCells pairs0 pairs1)) 43008 8 b cells
+Inv-loop pairs0 pairs1 cells₀ b₀ cells b = Blocks (byteOfEach 43008 (bufferCells qam16 pairs0 pairs1)) 43008 8 b cells
 
 abbrev μ-loop : tie.MeasureT-loop
 μ-loop pairs0 pairs1 cells₀ b₀ cells b = 8 - b
 
 pub join-spec : {M : Type 1} → statement M
+unfolding qam16 cellsPerBuffer
 join-spec =
     tie.close
     (tie.spec

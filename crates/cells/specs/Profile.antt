@@ -1,0 +1,43 @@
+-- A profile: how many bits a symbol has, the cell of a symbol and back, and which bytes a payload cell may not have. 01, "Cells", is one,
+-- 16-QAM (Qam16.antt). All that is said of a line is said over a profile.
+-- Assumes nothing.
+use mathlib.Core.Path.{_≡_}
+use mathlib.Core.Bool.{Bool, false}
+use Prim.Native.Nat.{ℕ, _*_, _/_, _^_, _<_}
+
+-- A symbol is the number whose bits, the most significant first, are c0, c1 and so on.
+pub record Profile : Type 0 where
+  -- Bits of a symbol.
+  pub bits : ℕ
+  -- "A cell is two bytes, X then Y": byte h of the cell of symbol s.
+  pub cell : ℕ → ℕ → ℕ
+  -- Read backwards: the symbol whose cell is x, y.
+  pub symbol : ℕ → ℕ → ℕ
+  -- A byte that no payload cell has.
+  pub illegal : ℕ → Bool
+  -- A buffer's 172,032 bits are whole symbols.
+  pub whole : bits * (172032 / bits) ≡ 172032
+  -- The cells of symbols are legal, and each symbol comes back from its cell.
+  pub cell-legal : (s h : ℕ) → illegal (cell s h) ≡ false
+  pub symbol-back : (s : ℕ) → s < 2 ^ bits → symbol (cell s 0) (cell s 1) ≡ s
+  -- Cells give symbols, and each legal cell comes back from its symbol.
+  pub symbol-lt : (x y : ℕ) → symbol x y < 2 ^ bits
+  pub x-back : (x y : ℕ) → illegal x ≡ false → cell (symbol x y) 0 ≡ x
+  pub y-back : (x y : ℕ) → illegal y ≡ false → cell (symbol x y) 1 ≡ y
+
+-- ---- sizes
+
+-- Cells of a buffer: one a symbol.
+unfoldable pub cellsPerBuffer : Profile → ℕ
+cellsPerBuffer p = 172032 / p .bits
+
+-- A super-frame has 172,032 payload cells, so as many buffers as a symbol has bits: the buffers of n super-frames.
+unfoldable pub buffersIn : Profile → ℕ → ℕ
+buffersIn p n = n * p .bits
+
+-- "A buffer takes 21 pairs" of each encoder, and a pair is two rows: the pairs and rows of an encoder in n super-frames.
+abbrev pub pairsIn : Profile → ℕ → ℕ
+pairsIn p n = 21 * buffersIn p n
+
+abbrev pub rowsIn : Profile → ℕ → ℕ
+rowsIn p n = 42 * buffersIn p n

@@ -1,0 +1,29 @@
+-- The profiles: 16-QAM.
+-- Assumes nothing.
+use mathlib.Core.Path.{_≡_, refl}
+use Prim.Native.Nat.{_*_}
+use Rattle.cells.specs.Profile.{Profile, cellsPerBuffer, buffersIn, pairsIn}
+use Rattle.cells.specs.Qam16 as Q16
+use Rattle.cells.specs.Qam16Laws as Q16L
+
+-- 01, "Cells".
+unfoldable pub qam16 : Profile
+unfolding Q16.cellByte
+qam16 =
+    record {
+      bits = 8;
+      cell = Q16.cellByte;
+      symbol = Q16.byteOfCell;
+      illegal = Q16.illegal;
+      whole = refl;
+      cell-legal = Q16L.cell-legal;
+      symbol-back = Q16L.symbol-back;
+      symbol-lt = Q16L.byteOfCell-lt;
+      x-back = λ x y e. Q16L.x-back x y (Q16L.legal-lt x e);
+      y-back = λ x y e. Q16L.y-back x y (Q16L.legal-lt y e);
+    }
+
+-- "A buffer gives 43,008 bytes of cells"; a super-frame is "eight buffers", so 168 pairs of each encoder.
+pub qam16-sizes : (cellsPerBuffer qam16 * 2 ≡ 43008) × (buffersIn qam16 1 ≡ 8) × (pairsIn qam16 1 ≡ 168)
+unfolding qam16 cellsPerBuffer buffersIn
+qam16-sizes = (refl, refl, refl)
