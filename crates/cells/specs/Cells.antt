@@ -10,7 +10,7 @@ use lib.ListN.{length, getD}
 use Rattle.bits.specs.Lists.{tabulate}
 use Rattle.bits.specs.Bits.{bitOf, bit, fromBits, pack}
 use Rattle.bits.specs.Seeking.{first}
-use Rattle.cells.specs.Profile.{Profile}
+use Rattle.cells.specs.Profile.{Profile, symbolOf}
 
 -- ---- legal cells
 
@@ -48,7 +48,7 @@ module _ (p : Profile) where
 
   -- The bits of a buffer of cells: bit n of them, and all.
   unfoldable pub bitAt : List ℕ → ℕ → ℕ
-  bitAt cells n = bitOf (p .bits) (p .symbol (getD cells (n / p .bits * 2) 0) (getD cells (n / p .bits * 2 + 1) 0)) (n % p .bits)
+  bitAt cells n = bitOf (p .bits) (symbolOf p (getD cells (n / p .bits * 2) 0) (getD cells (n / p .bits * 2 + 1) 0)) (n % p .bits)
 
   unfoldable pub toBits : List ℕ → List ℕ
   toBits cells = pack (length cells / 2 * p .bits / 8) (bitAt cells)

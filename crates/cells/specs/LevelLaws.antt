@@ -1,4 +1,4 @@
--- Laws of levels: the tables that the code reads, the arithmetic on a level, and that levels and bit pairs give each other back.
+-- Laws of levels: the tables that the code reads, and the arithmetic on a level.
 -- Assumes nothing.
 use mathlib.Core.Path.{_≡_, refl}
 use mathlib.Core.List.{List, [], _∷_}
@@ -10,9 +10,10 @@ use lib.ListN.{getD}
 use lib.Signed.{nonNeg}
 use mir.Syntax.{w8}
 use mir.Val.{SFits, toZ, ofZ}
-use Rattle.bits.specs.Tests.{agree, each, grid}
+use Rattle.bits.specs.Tests.{agree, each}
 use Rattle.bits.specs.TestLaws.{either}
-use Rattle.cells.specs.Levels.{level, Level, minus-three, minus-one, plus-three, plus-one, ordinal, levelAt, firstBit, secondBit}
+use Rattle.cells.specs.Levels.{level, Level, minus-three, minus-one, plus-three, plus-one, ordinal}
+use Rattle.cells.specs.Qam16Inverse.{levelAt, firstBit, secondBit}
 
 -- What holds of the four levels holds of each.
 on-levels : (P : ℤ → Type 0) → P (negsuc 2) → P (negsuc 0) → P (pos 3) → P (pos 1) → {l : ℤ} → Level l → P l
@@ -64,7 +65,7 @@ pair-read k h = (
   ltb→lt (getD pairs k 0) 4 (each 4 (λ i. ltb (getD pairs i 0) 4) tt k h),
 )
 
--- ---- there and back
+-- ---- any level
 
 pub level-is : (a b : ℕ) → Level (level a b)
 unfolding level
@@ -72,20 +73,6 @@ level-is zero zero = minus-three
 level-is zero (suc b) = minus-one
 level-is (suc a) zero = plus-three
 level-is (suc a) (suc b) = plus-one
-
--- The bit pair of a level gives the level, and the level of a bit pair gives its bits.
-pub level-back : {l : ℤ} → Level l → level (firstBit l) (secondBit l) ≡ l
-unfolding level firstBit secondBit
-level-back = on-levels (λ l. level (firstBit l) (secondBit l) ≡ l) refl refl refl refl
-
-pub pair-back : (a b : ℕ) → a < 2 → b < 2 → (firstBit (level a b) ≡ a) × (secondBit (level a b) ≡ b)
-unfolding level firstBit secondBit
-pair-back a b la lb = (grid 2 2 (λ i j. firstBit (level i j)) (λ i j. i) tt a b la lb, grid 2 2 (λ i j. secondBit (level i j)) (λ i j. j) tt a b la lb)
-
--- (I+3)/2 gives I back.
-pub ordinal-back : {l : ℤ} → Level l → levelAt (ordinal l) ≡ l
-unfolding levelAt ordinal
-ordinal-back = on-levels (λ l. levelAt (ordinal l) ≡ l) refl refl refl refl
 
 pub ordinal-below : {l : ℤ} → Level l → ordinal l < 4
 unfolding ordinal

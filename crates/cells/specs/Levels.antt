@@ -1,10 +1,8 @@
 -- Levels. 01, "Cells": "A bit pair gives the level: 00 is −3, 01 is −1, 10 is 3, 11 is 1."
 -- A level is a signed number.
 -- Assumes nothing.
-use mathlib.Core.Bool.{cond}
-use Prim.Native.Nat.{ℕ, zero, suc, _+_, _*_, _/_, _%_}
-use lib.Dec.{eqb}
-use lib.IntN.{ℤ, pos, negsuc, negℤ, natAbs, _+ℤ_, _-ℤ_}
+use Prim.Native.Nat.{ℕ, zero, suc, _+_, _*_, _/_}
+use lib.IntN.{ℤ, pos, negℤ, natAbs, _+ℤ_}
 
 -- The level of the bit pair (a, b).
 unfoldable pub level : ℕ → ℕ → ℤ
@@ -24,29 +22,8 @@ pub data Level : ℤ → Type 0 where
 unfoldable pub ordinal : ℤ → ℕ
 ordinal l = natAbs (l +ℤ pos 3) / 2
 
--- ---- read backwards
-
--- The level I for which (I+3)/2 is k.
-unfoldable pub levelAt : ℕ → ℤ
-levelAt k = pos (2 * k) -ℤ pos 3
-
--- The bit pair of a level: the first bit is 1 at 3 and 1, the second at −1 and 1.
-unfoldable pub firstBit : ℤ → ℕ
-firstBit (pos n) = 1
-firstBit (negsuc n) = 0
-
-unfoldable pub secondBit : ℤ → ℕ
-secondBit l = cond (eqb (natAbs l) 1) 1 0
-
 -- ---- the X or Y byte of a cell
 
 -- "A cell is two bytes, X then Y, each 4×(I+3)/2 + (Q+3)/2."
 unfoldable pub rails : ℤ → ℤ → ℕ
 rails i q = 4 * ordinal i + ordinal q
-
--- Its levels I and Q.
-unfoldable pub iOf : ℕ → ℤ
-iOf v = levelAt (v / 4)
-
-unfoldable pub qOf : ℕ → ℤ
-qOf v = levelAt (v % 4)

@@ -1,12 +1,14 @@
 -- Definitions first; the laws about each stand in the file below it.
 pub mod Levels
-pub mod LevelLaws
 pub mod Profile
+pub mod ProfileLaws
 pub mod Cells
 pub mod CellLaws
 pub mod Calls
 pub mod CallLaws
 pub mod Qam16
+pub mod Qam16Inverse
+pub mod LevelLaws
 pub mod Qam16Laws
 pub mod Profiles
 pub mod BenchValues

@@ -1,9 +1,12 @@
--- A profile: how many bits a symbol has, the cell of a symbol and back, and which bytes a payload cell may not have. 01, "Cells", is one,
+-- A profile: how many bits a symbol has, the cell of a symbol, and which bytes a payload cell may not have. 01, "Cells", is one,
 -- 16-QAM (Qam16.antt). All that is said of a line is said over a profile.
 -- Assumes nothing.
 use mathlib.Core.Path.{_≡_}
 use mathlib.Core.Bool.{Bool, false}
 use Prim.Native.Nat.{ℕ, _*_, _/_, _^_, _<_}
+use lib.Dec.{eqb}
+use Rattle.bits.specs.Least.{least}
+use Rattle.bits.specs.Tests.{both}
 
 -- A symbol is the number whose bits, the most significant first, are c0, c1 and so on.
 pub record Profile : Type 0 where
@@ -11,19 +14,18 @@ pub record Profile : Type 0 where
   pub bits : ℕ
   -- "A cell is two bytes, X then Y": byte h of the cell of symbol s.
   pub cell : ℕ → ℕ → ℕ
-  -- Read backwards: the symbol whose cell is x, y.
-  pub symbol : ℕ → ℕ → ℕ
   -- A byte that no payload cell has.
   pub illegal : ℕ → Bool
   -- A buffer's 172,032 bits are whole symbols.
   pub whole : bits * (172032 / bits) ≡ 172032
-  -- The cells of symbols are legal, and each symbol comes back from its cell.
+  -- The cells of symbols are legal, those of different symbols differ, and each legal cell is that of a symbol.
   pub cell-legal : (s h : ℕ) → illegal (cell s h) ≡ false
-  pub symbol-back : (s : ℕ) → s < 2 ^ bits → symbol (cell s 0) (cell s 1) ≡ s
-  -- Cells give symbols, and each legal cell comes back from its symbol.
-  pub symbol-lt : (x y : ℕ) → symbol x y < 2 ^ bits
-  pub x-back : (x y : ℕ) → illegal x ≡ false → cell (symbol x y) 0 ≡ x
-  pub y-back : (x y : ℕ) → illegal y ≡ false → cell (symbol x y) 1 ≡ y
+  pub cell-only : (s t : ℕ) → s < 2 ^ bits → t < 2 ^ bits → cell s 0 ≡ cell t 0 → cell s 1 ≡ cell t 1 → s ≡ t
+  pub cell-reached : (x y : ℕ) → illegal x ≡ false → illegal y ≡ false → (s : ℕ) × (s < 2 ^ bits) × (cell s 0 ≡ x) × (cell s 1 ≡ y)
+
+-- Read backwards: the symbol whose cell is x, y.
+unfoldable pub symbolOf : Profile → ℕ → ℕ → ℕ
+symbolOf p x y = least (2 ^ p .bits) (λ s. both (eqb (p .cell s 0) x) (eqb (p .cell s 1) y))
 
 -- ---- sizes
 

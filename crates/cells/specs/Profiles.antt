@@ -13,14 +13,11 @@ qam16 =
     record {
       bits = 8;
       cell = Q16.cellByte;
-      symbol = Q16.byteOfCell;
       illegal = Q16.illegal;
       whole = refl;
       cell-legal = Q16L.cell-legal;
-      symbol-back = Q16L.symbol-back;
-      symbol-lt = Q16L.byteOfCell-lt;
-      x-back = λ x y e. Q16L.x-back x y (Q16L.legal-lt x e);
-      y-back = λ x y e. Q16L.y-back x y (Q16L.legal-lt y e);
+      cell-only = Q16L.cell-only;
+      cell-reached = Q16L.cell-reached;
     }
 
 -- "A buffer gives 43,008 bytes of cells"; a super-frame is "eight buffers", so 168 pairs of each encoder.

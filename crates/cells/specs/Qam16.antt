@@ -2,12 +2,10 @@
 -- (c5,c7) Q of Y."
 -- Assumes nothing.
 use mathlib.Core.Bool.{Bool, cond}
-use mathlib.Core.List.{List, [], _∷_}
 use Prim.Native.Nat.{ℕ}
 use lib.Dec.{eqb, leb}
-use lib.ListN.{getD}
-use Rattle.bits.specs.Bits.{bitOf, fromBits}
-use Rattle.cells.specs.Levels.{level, firstBit, secondBit, rails, iOf, qOf}
+use Rattle.bits.specs.Bits.{bitOf}
+use Rattle.cells.specs.Levels.{level, rails}
 
 -- X and Y of the byte b.
 unfoldable pub xOf : ℕ → ℕ
@@ -22,12 +20,3 @@ cellByte b h = cond (eqb h 0) (xOf b) (yOf b)
 -- "A byte of 16 or more is illegal."
 abbrev pub illegal : ℕ → Bool
 illegal v = leb 16 v
-
--- The bits c0 to c7 of the symbol whose cell is x, y, and the byte.
-unfoldable pub symbolBits : ℕ → ℕ → List ℕ
-symbolBits x y =
-    firstBit (iOf x) ∷ firstBit (iOf y) ∷ secondBit (iOf x) ∷ secondBit (iOf y)
-    ∷ firstBit (qOf x) ∷ firstBit (qOf y) ∷ secondBit (qOf x) ∷ secondBit (qOf y) ∷ []
-
-unfoldable pub byteOfCell : ℕ → ℕ → ℕ
-byteOfCell x y = fromBits 8 (λ k. getD (symbolBits x y) k 0)

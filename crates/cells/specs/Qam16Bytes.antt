@@ -13,8 +13,11 @@ use Rattle.bits.specs.ListLaws.{tabulate-ext}
 use Rattle.bits.specs.Bits.{bitOf, bit, fromBits, byteOf, pack}
 use Rattle.bits.specs.BitLaws.{bitOf-lt, bitOf-fromBits, fromBits-ext, fromBits-bitOf}
 use Rattle.cells.specs.Levels.{level, rails}
-use Rattle.cells.specs.Qam16.{xOf, yOf, cellByte, byteOfCell}
-use Rattle.cells.specs.Qam16Laws.{byteOfCell-lt}
+use Rattle.cells.specs.Qam16.{xOf, yOf, cellByte}
+use Rattle.cells.specs.Qam16Inverse.{byteOfCell}
+use Rattle.cells.specs.Qam16Laws.{byteOfCell-lt, x-back, y-back}
+use Rattle.cells.specs.Profile.{symbolOf}
+use Rattle.cells.specs.ProfileLaws.{symbol-is}
 use Rattle.cells.specs.Cells.{payloadRule, Legal, symbolAt, cellsAt, toCells, bitAt, toBits}
 use Rattle.cells.specs.Profiles.{qam16}
 
@@ -42,30 +45,10 @@ same-cell a b h e =
     (ap₂ rails (ap₂ level (e 0 (lit< tt)) (e 2 (lit< tt))) (ap₂ level (e 4 (lit< tt)) (e 6 (lit< tt))))
     (ap₂ rails (ap₂ level (e 1 (lit< tt)) (e 3 (lit< tt))) (ap₂ level (e 5 (lit< tt)) (e 7 (lit< tt))))
 
--- The buffers as they are filled.
-pub cells-filled : (bits d : List ℕ) (n : ℕ) → n ≡ length bits * 2 → d ≡ tabulate n (cellsByte bits) → d ≡ toCells qam16 bits
-unfolding qam16 toCells cellsAt cellsByte
-cells-filled bits d n e f =
-    f ∙ ap (λ k. tabulate k (cellsByte bits)) (let h : n ≡ length bits * 8 / 8 * 2 = omega arith in h)
-    ∙ tabulate-ext (length bits * 8 / 8 * 2) (cellsByte bits) (cellsAt qam16 bits)
-    (λ j l. sym (same-cell (symbolAt qam16 bits (j / 2)) (getD bits (j / 2) 0) (j % 2) (symbol-bit bits (j / 2))))
-
-pub bits-filled : (cells d : List ℕ) (n : ℕ) → length cells ≡ n * 2 → d ≡ tabulate n (byteAt cells) → d ≡ toBits qam16 cells
-unfolding qam16 toBits bitAt byteAt pack byteOf
-bits-filled cells d n e f =
-    f ∙ ap (λ k. tabulate k (byteAt cells)) (let h : n ≡ length cells / 2 * 8 / 8 = omega arith in h)
-    ∙ tabulate-ext (length cells / 2 * 8 / 8) (byteAt cells) (byteOf (bitAt qam16 cells)) (λ i l. sym (at i))
-  where
-    s : ℕ → ℕ
-    s i = byteOfCell (getD cells (i * 2) 0) (getD cells (i * 2 + 1) 0)
-
-    at : (i : ℕ) → fromBits 8 (λ k. bitAt qam16 cells (i * 8 + k)) ≡ s i
-    at i =
-        fromBits-ext 8 (λ k. bitAt qam16 cells (i * 8 + k)) (bitOf 8 (s i))
-        (λ k lk. let d : (i * 8 + k) / 8 ≡ i = omega arith in
-        let m : (i * 8 + k) % 8 ≡ k = omega arith in
-        ap₂ (λ g b. bitOf 8 (s g) b % 2) d m)
-        ∙ fromBits-bitOf 8 (s i) (byteOfCell-lt (getD cells (i * 2) 0) (getD cells (i * 2 + 1) 0))
+-- The symbol of a legal cell is the byte of the closed form.
+pub symbol-closed : (x y : ℕ) → x < 16 → y < 16 → symbolOf qam16 x y ≡ byteOfCell x y
+unfolding qam16 cellByte
+symbol-closed x y lx ly = symbol-is qam16 (byteOfCell x y) x y (byteOfCell-lt x y) (x-back x y lx) (y-back x y ly)
 
 -- The two bytes of cell i of n legal ones.
 module _ {cells : List ℕ} {i : ℕ} (n : ℕ) (legal : Legal (payloadRule qam16) cells) (e : length cells ≡ n * 2) (l : i < n) where
@@ -78,3 +61,32 @@ module _ {cells : List ℕ} {i : ℕ} (n : ℕ) (legal : Legal (payloadRule qam1
   legal-y = leb-false 16 (getD cells (i * 2 + 1) 0) (legal .legal (i * 2 + 1) (omega arith))
 
 pub ruleset legal = (legal-x, legal-y)
+
+-- The buffers as they are filled.
+pub cells-filled : (bits d : List ℕ) (n : ℕ) → n ≡ length bits * 2 → d ≡ tabulate n (cellsByte bits) → d ≡ toCells qam16 bits
+unfolding qam16 toCells cellsAt cellsByte
+cells-filled bits d n e f =
+    f ∙ ap (λ k. tabulate k (cellsByte bits)) (let h : n ≡ length bits * 8 / 8 * 2 = omega arith in h)
+    ∙ tabulate-ext (length bits * 8 / 8 * 2) (cellsByte bits) (cellsAt qam16 bits)
+    (λ j l. sym (same-cell (symbolAt qam16 bits (j / 2)) (getD bits (j / 2) 0) (j % 2) (symbol-bit bits (j / 2))))
+
+pub bits-filled : (cells d : List ℕ) (n : ℕ) → Legal (payloadRule qam16) cells → length cells ≡ n * 2 → d ≡ tabulate n (byteAt cells) → d ≡ toBits qam16 cells
+unfolding qam16 toBits bitAt byteAt pack byteOf
+bits-filled cells d n legal e f =
+    f ∙ tabulate-ext n (byteAt cells) (byteOf (bitAt qam16 cells)) (λ i l. sym (at i l))
+    ∙ ap (λ k. tabulate k (byteOf (bitAt qam16 cells))) (let h : n ≡ length cells / 2 * 8 / 8 = omega arith in h)
+  where
+    s : ℕ → ℕ
+    s i = symbolOf qam16 (getD cells (i * 2) 0) (getD cells (i * 2 + 1) 0)
+
+    closed : (i : ℕ) → i < n → s i ≡ byteAt cells i
+    closed i l = symbol-closed (getD cells (i * 2) 0) (getD cells (i * 2 + 1) 0) (legal-x n legal e l) (legal-y n legal e l)
+
+    at : (i : ℕ) → i < n → fromBits 8 (λ k. bitAt qam16 cells (i * 8 + k)) ≡ byteAt cells i
+    at i l =
+        fromBits-ext 8 (λ k. bitAt qam16 cells (i * 8 + k)) (bitOf 8 (s i))
+        (λ k lk. let d : (i * 8 + k) / 8 ≡ i = omega arith in
+        let m : (i * 8 + k) % 8 ≡ k = omega arith in
+        ap₂ (λ g b. bitOf 8 (s g) b % 2) d m)
+        ∙ ap (λ b. fromBits 8 (bitOf 8 b)) (closed i l)
+        ∙ fromBits-bitOf 8 (byteAt cells i) (byteOfCell-lt (getD cells (i * 2) 0) (getD cells (i * 2 + 1) 0))

@@ -1,6 +1,6 @@
 -- Laws of 16-QAM: how the code makes and takes apart a cell, and the facts of the profile.
 -- Assumes nothing.
-use mathlib.Core.Path.{_≡_, ap₂, _∙_}
+use mathlib.Core.Path.{_≡_, sym, ap₂, _∙_}
 use mathlib.Core.Bool.{false}
 use Prim.Native.Nat.{ℕ, zero, suc, _+_, _*_, _/_, _%_, _<_}
 use native.Mathlib.Nat.{div-one}
@@ -13,9 +13,10 @@ use Rattle.bits.specs.Bits.{bitOf, fromBits}
 use Rattle.bits.specs.BitLaws.{bitOf-fromBits, fromBits-lt}
 use Rattle.bits.specs.Tests.{agree}
 use Rattle.bits.specs.TestLaws.{either}
-use Rattle.cells.specs.Levels.{level, ordinal, levelAt, firstBit, secondBit, rails, iOf, qOf}
+use Rattle.cells.specs.Levels.{level, ordinal, rails}
 use Rattle.cells.specs.LevelLaws.{level-is, ordinal-below, firstBit-lt, secondBit-lt}
-use Rattle.cells.specs.Qam16.{xOf, yOf, cellByte, illegal, symbolBits, byteOfCell}
+use Rattle.cells.specs.Qam16.{xOf, yOf, cellByte, illegal}
+use Rattle.cells.specs.Qam16Inverse.{levelAt, firstBit, secondBit, iOf, qOf, symbolBits, byteOfCell}
 
 -- ---- as the code has it
 
@@ -114,10 +115,13 @@ y-back x y l =
     ap₂ rails (ap₂ level (byteOfCell-bit x y 1 (lit< tt)) (byteOfCell-bit x y 3 (lit< tt))) (ap₂ level (byteOfCell-bit x y 5 (lit< tt)) (byteOfCell-bit x y 7 (lit< tt)))
     ∙ rails-back y l
 
--- ---- legal cells
+-- ---- the facts of the profile
 
 pub cell-legal : (b h : ℕ) → illegal (cellByte b h) ≡ false
 cell-legal b h = lt-leb 16 (cellByte b h) (cellByte-lt b h)
 
-pub legal-lt : (v : ℕ) → illegal v ≡ false → v < 16
-legal-lt v e = leb-false 16 v e
+pub cell-only : (a b : ℕ) → a < 256 → b < 256 → xOf a ≡ xOf b → yOf a ≡ yOf b → a ≡ b
+cell-only a b la lb ex ey = sym (symbol-back a la) ∙ ap₂ byteOfCell ex ey ∙ symbol-back b lb
+
+pub cell-reached : (x y : ℕ) → illegal x ≡ false → illegal y ≡ false → (b : ℕ) × (b < 256) × (xOf b ≡ x) × (yOf b ≡ y)
+cell-reached x y lx ly = (byteOfCell x y, byteOfCell-lt x y, x-back x y (leb-false 16 x lx), y-back x y (leb-false 16 y ly))

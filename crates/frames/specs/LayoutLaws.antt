@@ -10,7 +10,7 @@ use borrow.Author.Tests.{eq-eqb, ne-eqb, lt-ltb, le-ltb}
 use Rattle.bits.specs.Count.{count}
 use Rattle.bits.specs.TestLaws.{cond-yes, cond-no}
 use Rattle.cells.specs.Profile.{Profile, cellsPerBuffer, buffersIn}
-use Rattle.cells.specs.CellLaws.{buffer-whole}
+use Rattle.cells.specs.ProfileLaws.{buffer-whole}
 use Rattle.frames.specs.Frames.{isOverhead, overheadBefore, payloadBefore, overheadCells, payloadCells, overheadStart, payloadStart}
 use Rattle.frames.specs.Layout.{edge, gap, spot}
 

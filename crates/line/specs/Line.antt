@@ -7,7 +7,7 @@ use lib.ListN.{getD}
 use Rattle.bits.specs.Bits.{bitOf}
 use Rattle.ofec.specs.Rows.{RowBits}
 use Rattle.interleaving.specs.Interleaving.{pairsBit, outputOf}
-use Rattle.cells.specs.Profile.{Profile, cellsPerBuffer}
+use Rattle.cells.specs.Profile.{Profile, symbolOf, cellsPerBuffer}
 use Rattle.frames.specs.Frames.{subFrameOf, cellOf}
 use Rattle.line.specs.Sides.{Side, encoder}
 
@@ -28,5 +28,5 @@ lineByte frames q x h = getD (getD frames (48 * q + subFrameOf x) []) (cellOf x 
 unfoldable pub lineBit : Profile → List (List ℕ) → Side → RowBits
 lineBit p frames e R C r c =
     bitOf (p .bits)
-    (p .symbol (lineByte frames (R / 42 / p .bits) (payloadCellOf p e R C r c) 0) (lineByte frames (R / 42 / p .bits) (payloadCellOf p e R C r c) 1))
+    (symbolOf p (lineByte frames (R / 42 / p .bits) (payloadCellOf p e R C r c) 0) (lineByte frames (R / 42 / p .bits) (payloadCellOf p e R C r c) 1))
     (outputBit e R C r c % p .bits)

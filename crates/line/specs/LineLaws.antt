@@ -15,9 +15,10 @@ use Rattle.ofec.specs.Pairs.{pairIndex, pairBit}
 use Rattle.interleaving.specs.Interleaving.{pairsBit, pairsOf}
 use Rattle.interleaving.specs.PositionLaws.{outputFor}
 use Rattle.interleaving.specs.InterleavingLaws.{pairsBit-lt, outputOf-lt, output-for}
-use Rattle.cells.specs.Profile.{Profile, cellsPerBuffer, buffersIn}
+use Rattle.cells.specs.Profile.{Profile, symbolOf, cellsPerBuffer, buffersIn}
 use Rattle.cells.specs.Cells.{toBits}
-use Rattle.cells.specs.CellLaws.{width-pos, buffer-whole, cells-pos, toBits-bit, buffer-bits}
+use Rattle.cells.specs.ProfileLaws.{width-pos, buffer-whole, cells-pos}
+use Rattle.cells.specs.CellLaws.{toBits-bit, buffer-bits}
 use Rattle.line.specs.Sides.{Side, side0, side1, encoder, buffers}
 use Rattle.line.specs.Line.{outputBit, payloadCellOf, lineByte, lineBit}
 use Rattle.line.specs.Outward.{pairsOfBuffer}
@@ -152,7 +153,7 @@ module _ (p : Profile) where
   line-bit frames e R C r c lC lr lc cells on =
       sym
       (toBits-bit p cells n (omega (arith, ln, buffer-bits p cells (on .size)))
-      ∙ ap₂ (λ x y. bitOf (p .bits) (p .symbol x y) (n % p .bits)) (half 0 (k * 2) (omega arith) (omega arith)) (half 1 (k * 2 + 1) (omega arith) (omega arith)))
+      ∙ ap₂ (λ x y. bitOf (p .bits) (symbolOf p x y) (n % p .bits)) (half 0 (k * 2) (omega arith) (omega arith)) (half 1 (k * 2 + 1) (omega arith) (omega arith)))
     where
       n : ℕ
       n = outputBit e R C r c

@@ -23,7 +23,8 @@ use Rattle.interleaving.specs.Calls.{Interleaved, joined}
 use Rattle.interleaving.specs.CallLaws.{join-done}
 use Rattle.cells.specs.Profile.{Profile, cellsPerBuffer, buffersIn, rowsIn}
 use Rattle.cells.specs.Cells.{payloadRule, Legal, toCells, toBits}
-use Rattle.cells.specs.CellLaws.{cells-pos, toCells-legal, buffer-cells, buffer-back}
+use Rattle.cells.specs.ProfileLaws.{cells-pos}
+use Rattle.cells.specs.CellLaws.{toCells-legal, buffer-cells, buffer-back}
 use Rattle.cells.specs.Calls.{After, after, bitsToCells}
 use Rattle.cells.specs.CallLaws.{map-accepts}
 use Rattle.frames.specs.Frames.{isOverhead, payloadBefore, payloadCells, payloadStart, ownOverhead, framed, frameRule, subFrameOf, cellOf}

@@ -1,7 +1,8 @@
 // The levels of a bit pair, by a table, and its inverse (01: "A bit pair gives the level: 00 is −3").
 ghost use mathlib.Core.Path.{_≡_};
 ghost use Prim.Native.Nat.{_/_, _%_, _<_};
-ghost use Rattle.cells.specs.Levels.{Level, level, ordinal, levelAt, firstBit, secondBit};
+ghost use Rattle.cells.specs.Levels.{Level, level, ordinal};
+ghost use Rattle.cells.specs.Qam16Inverse.{levelAt, firstBit, secondBit};
 
 // The level of each bit pair: of 00, 01, 10, 11.
 const LEVELS: [i8; 4] = [-3, -1, 3, 1];

@@ -5,9 +5,10 @@ use crate::levels::pair;
 ghost use mathlib.Core.Path.{_≡_};
 ghost use Prim.Native.Nat.{_+_, _*_, _<_};
 ghost use lib.ListN.{length};
-ghost use Rattle.cells.specs.Levels.{level, levelAt, firstBit, secondBit, rails};
+ghost use Rattle.cells.specs.Levels.{level, rails};
 ghost use Rattle.cells.specs.Cells.{payloadRule, Legal, toCells, toBits};
-ghost use Rattle.cells.specs.Qam16.{cellByte, byteOfCell};
+ghost use Rattle.cells.specs.Qam16.{cellByte};
+ghost use Rattle.cells.specs.Qam16Inverse.{levelAt, firstBit, secondBit, byteOfCell};
 ghost use Rattle.cells.specs.Profiles.{qam16};
 
 // The byte 4×(I+3)/2 + (Q+3)/2 of the bit pairs (a, b) of I and (c, d) of Q.

@@ -21,7 +21,7 @@ use Rattle.ofec.specs.PromiseLaws.{coded-made}
 use Rattle.interleaving.specs.Interleaving.{interleaved}
 use Rattle.cells.specs.Profile.{Profile, cellsPerBuffer, buffersIn, pairsIn}
 use Rattle.cells.specs.Cells.{toCells}
-use Rattle.cells.specs.CellLaws.{buffer-whole, cells-pos}
+use Rattle.cells.specs.ProfileLaws.{buffer-whole, cells-pos}
 use Rattle.frames.specs.Frames.{payloadCells, payloadStart, ownOverhead, framed}
 use Rattle.frames.specs.FrameLaws.{framed-length}
 use Rattle.line.specs.Sides.{Side, side0, side1}

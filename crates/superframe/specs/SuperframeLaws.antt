@@ -21,7 +21,8 @@ use Rattle.interleaving.specs.Calls.{Interleaved, joined, interleave}
 use Rattle.interleaving.specs.CallLaws.{interleave-bits}
 use Rattle.cells.specs.Profile.{Profile, cellsPerBuffer}
 use Rattle.cells.specs.Cells.{overheadRule, payloadRule, Legal}
-use Rattle.cells.specs.CellLaws.{cells-pos, toCells-legal, buffer-cells}
+use Rattle.cells.specs.ProfileLaws.{cells-pos}
+use Rattle.cells.specs.CellLaws.{toCells-legal, buffer-cells}
 use Rattle.cells.specs.Calls.{After, after, bitsToCells}
 use Rattle.cells.specs.CallLaws.{map-accepts}
 use Rattle.frames.specs.Frames.{payloadCells, payloadStart, ownOverhead}
