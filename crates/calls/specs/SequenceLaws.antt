@@ -8,7 +8,7 @@ use native.Mathlib.Decide.{ℕ-discrete}
 use borrow.Author.Tests.{eq-eqb, ne-eqb}
 use lib.ListN.{length, getD}
 use Rattle.calls.specs.Answers.{refusalOf, Accepted, TurnedBack}
-use Rattle.calls.specs.Sequences.{Kind, At, here, later, Run, done, takes, turned, elsewhere, accepted, Keeping}
+use Rattle.calls.specs.Sequences.{At, here, later, Part, not-lent, was-lent, Kind, Run, done, takes, refused, accepted, Keeping}
 
 -- ---- places of a list
 
@@ -28,6 +28,14 @@ module _ {A : Type 0} where
   pub At-map : {B : Type 0} (f : A → B) (d : B) {l : List A} {i : ℕ} {x : A} → At l i x → getD (map f l) i d ≡ f x
   At-map f d here = refl
   At-map f d (later a) = At-map f d a
+
+  pub At-only : {l : List A} {i : ℕ} {x y : A} → At l i x → At l i y → x ≡ y
+  At-only {x = x} a b = sym (At-map (λ z. z) x a) ∙ At-map (λ z. z) x b
+
+  -- A part of the state is as it was, where the call left everything as it was lent.
+  pub part-kept : {lent left : List A} → left ≡ lent → {x y : A} → Part lent left x y → y ≡ x
+  part-kept e not-lent = refl
+  part-kept e (was-lent {i} {x} {y} a b) = At-only (subst (λ l. At l i y) e b) a
 
 module _ (K : Kind) where
   pub accepted-yes : (c : K .Call) (cs : List (K .Call)) → Accepted (K .answer c) → accepted K (c ∷ cs) ≡ c ∷ accepted K cs
@@ -59,9 +67,8 @@ module _ (K : Kind) where
   unfolding accepted
   without-refused keeps done = done
   without-refused keeps (takes {c = c} {cs = cs} ok e r) = rw (accepted-yes c cs ok) (takes ok e (without-refused keeps r))
-  without-refused keeps (turned {s} {t} {c = c} {cs = cs} bad e r) =
-      rw (accepted-no c cs bad) (subst (λ u. Run K u (accepted K cs) t) (keeps c bad ∙ e) (without-refused keeps r))
-  without-refused keeps (elsewhere {c = c} {cs = cs} bad r) = rw (accepted-no c cs bad) (without-refused keeps r)
+  without-refused keeps (refused {s} {u} {t} {c} {cs} bad e r) =
+      rw (accepted-no c cs bad) (subst (λ v. Run K v (accepted K cs) t) (keeps c bad s u e) (without-refused keeps r))
 
   -- ---- what each accepted call is lent
 
@@ -83,9 +90,6 @@ module _ (K : Kind) where
       (lent-at keeps (λ n. at (suc n)) r (f 0 d (subst (λ l. At l 0 d) (sym (accepted-yes d ds ok)) here) (p ∙ e))
       (λ j x b. f (suc j) x (subst (λ l. At l (suc j) x) (sym (accepted-yes d ds ok)) (later b))))
       (subst (λ l. At l i c) (accepted-yes d ds ok) a)
-  lent-at keeps at (turned {c = d} {cs = ds} bad p r) e f i c a =
-      lent-at keeps at r (keeps d bad ∙ p ∙ e) (λ j x b. f j x (subst (λ l. At l j x) (sym (accepted-no d ds bad)) b)) i c
-      (subst (λ l. At l i c) (accepted-no d ds bad) a)
-  lent-at keeps at (elsewhere {c = d} {cs = ds} bad r) e f i c a =
-      lent-at keeps at r e (λ j x b. f j x (subst (λ l. At l j x) (sym (accepted-no d ds bad)) b)) i c
+  lent-at keeps at (refused {s} {u} {c = d} {cs = ds} bad p r) e f i c a =
+      lent-at keeps at r (keeps d bad s u p ∙ e) (λ j x b. f j x (subst (λ l. At l j x) (sym (accepted-no d ds bad)) b)) i c
       (subst (λ l. At l i c) (accepted-no d ds bad) a)

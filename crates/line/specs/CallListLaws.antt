@@ -8,19 +8,18 @@ use native.Mathlib.Omega.{arith}
 use lib.Dec.{eqb}
 use lib.ListN.{length}
 use Rattle.calls.specs.Answers.{refusalOf, Accepted, TurnedBack}
-use Rattle.calls.specs.Sequences.{Kind, At, here, later, Run, done, takes, turned, elsewhere, accepted}
+use Rattle.calls.specs.Sequences.{At, here, later, Kind, Run, done, takes, refused, accepted, Separate}
 use Rattle.calls.specs.SequenceLaws.{At-nil, accepted-yes, accepted-no}
 use Rattle.line.specs.CallLists.{Among, none, same, more, hedged, oneByOne, stateAfter}
 
 module _ (K : Kind) where
   -- ---- refused calls among the calls of a run
 
-  pub among-run : {s t : K .State} {cs ds : List (K .Call)} → Among K cs ds → Run K s cs t → Run K s ds t
-  among-run none r = r
-  among-run (same w) (takes ok e r) = takes ok e (among-run w r)
-  among-run (same w) (turned bad e r) = turned bad e (among-run w r)
-  among-run (same w) (elsewhere bad r) = elsewhere bad (among-run w r)
-  among-run (more bad w) r = elsewhere bad (among-run w r)
+  pub among-run : Separate K → {s t : K .State} {cs ds : List (K .Call)} → Among K cs ds → Run K s cs t → Run K s ds t
+  among-run separate none r = r
+  among-run separate (same w) (takes ok e r) = takes ok e (among-run separate w r)
+  among-run separate (same w) (refused bad e r) = refused bad e (among-run separate w r)
+  among-run separate {s} (more {c} bad w) r = refused bad (separate c s) (among-run separate w r)
 
   pub among-accepted : {cs ds : List (K .Call)} → Among K cs ds → accepted K ds ≡ accepted K cs
   unfolding accepted

@@ -2,9 +2,9 @@
 -- Assumes nothing.
 use mathlib.Core.Path.{_≡_}
 use Prim.Native.Nat.{ℕ, _*_, _/_, _<_}
-use Rattle.calls.specs.Answers.{Accepted, TurnedBack, valueOr}
-use Rattle.calls.specs.Sequences.{At, accepted}
-use Rattle.ofec.specs.Calls.{Encoding, encode, Receiving, receive, Receivings}
+use Rattle.calls.specs.Answers.{Accepted, TurnedBack}
+use Rattle.calls.specs.Sequences.{At, Run, accepted}
+use Rattle.ofec.specs.Calls.{Encoding, encode, Encodings, Receiving, receive, Receivings, start}
 use Rattle.ofec.specs.Promise.{Promise}
 use Rattle.cells.specs.Profile.{Profile, buffersIn, rowsIn}
 use Rattle.line.specs.Sides.{Side}
@@ -20,9 +20,11 @@ pub record Goes (p : Profile) (o : Outward p) : Type 0 where
   pub framed : (f : ℕ) → f < 48 * o .superframes → Accepted (framing p o f .answer)
   -- "The frames, read backwards, hold every sent bit of both encoders in its place"
   pub holds : (e : Side) (R C r c : ℕ) → R < rowsIn p (o .superframes) → C < 8 → r < 16 → c < 16 → lineBit p (frames p o) e R C r c ≡ o .sent e R C r c
-  -- "Refused calls .. leave both as they were": history and pair number, and the other buffer that the call may write.
+  -- "Refused calls, whatever they are lent, may stand anywhere in a list and leave both as they were": history and pair number go on as if only
+  -- the accepted calls had been made; and the buffers that a refused call may write are as they were lent.
+  pub states : (e : Side) → Run Encodings start (accepted Encodings (o .calls e)) (o .last e)
   pub refused : (e : Side) (i : ℕ) (c : Encoding) → At (o .calls e) i c → TurnedBack (encode c .answer)
-      → (encode c .history ≡ c .history) × (encode c .coded ≡ c .coded) × (valueOr (encode c .answer) (c .pair) ≡ c .pair)
+      → (encode c .history ≡ c .history) × (encode c .coded ≡ c .coded)
 
 -- What comes in.
 pub record Comes (p : Profile) (o : Outward p) (i : Inward p o) : Type 0 where
@@ -32,9 +34,9 @@ pub record Comes (p : Profile) (o : Outward p) (i : Inward p o) : Type 0 where
   -- Of each word (R, r) of each accepted receiving call, that on pair P, the code layer's promise, with the received bits off the line.
   pub words : (e : Side) (P : ℕ) (c : Receiving) → At (accepted Receivings (i .calls e)) P c → (R r : ℕ) → R / 2 ≡ P → r < 16
       → Promise (o .sent e) (lineBit p (i .heard .frames) e) c R r
+  pub states : (e : Side) → Run Receivings start (accepted Receivings (i .calls e)) (i .last e)
   pub refused : (e : Side) (j : ℕ) (c : Receiving) → At (i .calls e) j c → TurnedBack (receive c .answer)
       → (receive c .history ≡ c .history) × (receive c .payload ≡ c .payload) × (receive c .marks ≡ c .marks)
-      × (valueOr (receive c .answer) (c .pair) ≡ c .pair)
 
 -- "This is a single claim about the four lists together, and not one for each call."
 pub record Demand3 (p : Profile) (o : Outward p) (i : Inward p o) : Type 0 where

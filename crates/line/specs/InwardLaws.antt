@@ -13,9 +13,9 @@ use Rattle.bits.specs.Bits.{bit}
 use Rattle.calls.specs.declared.Answer.the-variants.{Done}
 use Rattle.calls.specs.Answers.{refusalOf}
 use Rattle.calls.specs.Sequences.{At, accepted}
-use Rattle.calls.specs.SequenceLaws.{At-lt}
+use Rattle.calls.specs.SequenceLaws.{At-lt, without-refused}
 use Rattle.ofec.specs.Pairs.{pairBit}
-use Rattle.ofec.specs.Calls.{State, Encoding, Encodings, payloads, Receivings}
+use Rattle.ofec.specs.Calls.{Encoding, Encodings, payloads, Receivings}
 use Rattle.ofec.specs.CallLaws.{receive-refused, receive-keeps}
 use Rattle.ofec.specs.Promise.{Holds, Takes}
 use Rattle.ofec.specs.PromiseLaws.{promise}
@@ -178,7 +178,6 @@ module _ (p : Profile) (o : Outward p) (i : Inward p o) where
         words = λ e P c a R r is lr.
             promise (o .sent e) (lineBit p (i .heard .frames) e) (payloads (o .calls e)) (o .formulas e) (i .calls e) (i .runs e) (enough e) (takes e)
             (i .limit e) R r c lr (subst (λ Q. At (accepted Receivings (i .calls e)) Q c) (sym is) a);
-        refused = λ e j c a bad.
-            let kept = receive-refused c bad in
-            (kept .2, kept .0, kept .1, ap (λ (s : State). s .pair) (receive-keeps c bad));
+        states = λ e. without-refused Receivings receive-keeps (i .runs e);
+        refused = λ e j c a bad. let kept = receive-refused c bad in (kept .2, kept .0, kept .1);
       }

@@ -12,9 +12,9 @@ use Rattle.bits.specs.DigitLaws.{digit-lt}
 use Rattle.calls.specs.declared.Answer.the-variants.{Done}
 use Rattle.calls.specs.Answers.{refusalOf}
 use Rattle.calls.specs.Sequences.{At, accepted}
-use Rattle.calls.specs.SequenceLaws.{At-find, At-map}
+use Rattle.calls.specs.SequenceLaws.{At-find, At-map, without-refused}
 use Rattle.ofec.specs.Pairs.{pairBit}
-use Rattle.ofec.specs.Calls.{State, Encoding, encode, Encodings}
+use Rattle.ofec.specs.Calls.{Encoding, encode, Encodings}
 use Rattle.ofec.specs.CallLaws.{encode-refused, encode-keeps}
 use Rattle.ofec.specs.PromiseLaws.{coded-sent}
 use Rattle.interleaving.specs.Interleaving.{pairsBit, interleaved}
@@ -207,7 +207,6 @@ module _ (p : Profile) (o : Outward p) where
         mapped = λ b l. ap (λ (a : After). refusalOf (a .answer)) (mapping-is b);
         framed = λ f l. ap (λ (a : After). refusalOf (a .answer)) (framing-is f);
         holds = line-sent;
-        refused = λ e i c a bad.
-            let kept = encode-refused c bad in
-            (kept .1, kept .0, ap (λ (s : State). s .pair) (encode-keeps c bad));
+        states = λ e. without-refused Encodings encode-keeps (o .runs e);
+        refused = λ e i c a bad. let kept = encode-refused c bad in (kept .1, kept .0);
       }

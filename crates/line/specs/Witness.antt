@@ -19,7 +19,7 @@ use Rattle.ofec.specs.EncodingLaws.{payloadBit-own}
 use Rattle.ofec.specs.SentLaws.{madeBits, sent-exists}
 use Rattle.ofec.specs.Receiving.{mendedWord, payloadOut}
 use Rattle.ofec.specs.Calls.{start, Encoding, encode, Encodings, Received, Receiving, receive, Receivings, payloads}
-use Rattle.ofec.specs.CallLaws.{encode-accepted, receive-accepted}
+use Rattle.ofec.specs.CallLaws.{encode-accepted, encode-separate, receive-accepted, receive-separate}
 use Rattle.ofec.specs.Promise.{wrongBits, Limit, markOf, NotLost, AsSent}
 use Rattle.ofec.specs.PromiseLaws.{mark-within, mark-some}
 use Rattle.cells.specs.Profile.{Profile, pairsIn, rowsIn}
@@ -47,7 +47,7 @@ goes-out p g calls among = (
     superframes = g .superframes;
     calls = calls;
     last = λ e. stateAfter Encodings (encodingOf p g e) (pairsIn p (g .superframes)) 0 start;
-    runs = λ e. among-run Encodings (among e) (encodings-run p g e);
+    runs = λ e. among-run Encodings encode-separate (among e) (encodings-run p g e);
     filled = λ e. ap length (taken e) ∙ length-encodings p g e;
     overhead = g .overhead;
     overhead-long = g .overhead-long;
@@ -76,7 +76,7 @@ comes-in p o h limit room calls among = (
     heard = h;
     calls = calls;
     last = λ e. stateAfter Receivings (receivingOf p (o .superframes) h room e) (pairsIn p (o .superframes)) 0 start;
-    runs = λ e. among-run Receivings (among e) (receivings-run p (o .superframes) h room (within p o e) e);
+    runs = λ e. among-run Receivings receive-separate (among e) (receivings-run p (o .superframes) h room (within p o e) e);
     some = λ e. omega (arith, all e);
     in-order = λ e P c a. receivings-order p (o .superframes) h room (within p o e) e P c (subst (λ l. At l P c) (taken e) a);
     limit = λ e. subst (λ k. Limit (o .sent e) (lineBit p (h .frames) e) k) (sym (all e)) (limit e);

@@ -1,7 +1,7 @@
 -- Laws of the two calls: one for each case, what an accepted call is, and that a refused one leaves everything as it was lent.
 -- Assumes nothing.
-use mathlib.Core.Path.{_≡_, refl, sym, ap}
-use mathlib.Core.List.{List}
+use mathlib.Core.Path.{_≡_, refl, sym, ap, ap₂}
+use mathlib.Core.List.{List, [], _∷_}
 use mathlib.Core.Logic.{_≢_}
 use Prim.Native.Nat.{ℕ, _+_}
 use native.Mathlib.Decide.{ℕ-discrete}
@@ -11,7 +11,8 @@ use Rattle.calls.specs.declared.Answer.the-variants.{Done, Refused}
 use Rattle.calls.specs.declared.Refusal.the-variants.{Misfit, CountSpent}
 use Rattle.calls.specs.Answers.{refusalOf, valueOr, Accepted, TurnedBack}
 use Rattle.calls.specs.Cases.{Case, done, refused, case-accepted, case-turned}
-use Rattle.calls.specs.Sequences.{Keeping}
+use Rattle.calls.specs.Sequences.{Part, not-lent, Keeping, Separate}
+use Rattle.calls.specs.SequenceLaws.{part-kept}
 use Rattle.ofec.specs.History.{shift}
 use Rattle.ofec.specs.Encoding.{encoded}
 use Rattle.ofec.specs.Receiving.{newestPair, payloadOut, marks}
@@ -91,10 +92,21 @@ pub encode-refused : (c : Encoding) → TurnedBack (encode c .answer) → (encod
 encode-refused c =
     case-turned (λ (a : Encoded). a .answer) refl (λ (a : Encoded). (a .coded ≡ c .coded) × (a .history ≡ c .history)) (λ r. (refl, refl)) (encode-case c)
 
+-- So the state is as it was, whatever of it was lent.
+encode-lists : (c : Encoding) → TurnedBack (encode c .answer)
+    → _≡_ {A = List (List ℕ)} (c .payload ∷ encode c .coded ∷ encode c .history ∷ []) (c .payload ∷ c .coded ∷ c .history ∷ [])
+    × (_≡_ {A = List ℕ} (valueOr (encode c .answer) (c .pair) ∷ []) (c .pair ∷ []))
+encode-lists c =
+    case-turned (λ (a : Encoded). a .answer) refl
+    (λ (a : Encoded). _≡_ {A = List (List ℕ)} (c .payload ∷ a .coded ∷ a .history ∷ []) (c .payload ∷ c .coded ∷ c .history ∷ [])
+    × (_≡_ {A = List ℕ} (valueOr (a .answer) (c .pair) ∷ []) (c .pair ∷ [])))
+    (λ r. (refl, refl)) (encode-case c)
+
 pub encode-keeps : Keeping Encodings
-encode-keeps c =
-    case-turned (λ (a : Encoded). a .answer) refl (λ (a : Encoded). state (a .history) (valueOr (a .answer) (c .pair)) ≡ state (c .history) (c .pair)) (λ r. refl)
-    (encode-case c)
+encode-keeps c bad s t (h, n) = ap₂ state (part-kept (encode-lists c bad .0) h) (part-kept (encode-lists c bad .1) n)
+
+pub encode-separate : Separate Encodings
+encode-separate c s = (not-lent, not-lent)
 
 -- ---- receiving: the cases
 
@@ -175,7 +187,17 @@ receive-refused c =
     case-turned (λ (a : Received). a .answer) refl (λ (a : Received). (a .payload ≡ c .payload) × (a .marks ≡ c .marks) × (a .history ≡ c .history))
     (λ r. (refl, refl, refl)) (receive-case c)
 
+receive-lists : (c : Receiving) → TurnedBack (receive c .answer)
+    → _≡_ {A = List (List ℕ)} (c .coded ∷ receive c .payload ∷ receive c .marks ∷ receive c .history ∷ []) (c .coded ∷ c .payload ∷ c .marks ∷ c .history ∷ [])
+    × (_≡_ {A = List ℕ} (valueOr (receive c .answer) (c .pair) ∷ []) (c .pair ∷ []))
+receive-lists c =
+    case-turned (λ (a : Received). a .answer) refl
+    (λ (a : Received). _≡_ {A = List (List ℕ)} (c .coded ∷ a .payload ∷ a .marks ∷ a .history ∷ []) (c .coded ∷ c .payload ∷ c .marks ∷ c .history ∷ [])
+    × (_≡_ {A = List ℕ} (valueOr (a .answer) (c .pair) ∷ []) (c .pair ∷ [])))
+    (λ r. (refl, refl)) (receive-case c)
+
 pub receive-keeps : Keeping Receivings
-receive-keeps c =
-    case-turned (λ (a : Received). a .answer) refl (λ (a : Received). state (a .history) (valueOr (a .answer) (c .pair)) ≡ state (c .history) (c .pair)) (λ r. refl)
-    (receive-case c)
+receive-keeps c bad s t (h, n) = ap₂ state (part-kept (receive-lists c bad .0) h) (part-kept (receive-lists c bad .1) n)
+
+pub receive-separate : Separate Receivings
+receive-separate c s = (not-lent, not-lent)

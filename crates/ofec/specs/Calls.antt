@@ -3,7 +3,7 @@
 -- 4,294,967,295". "Buffers and pair number stay."
 -- Assumes nothing.
 use mathlib.Core.Bool.{cond, not}
-use mathlib.Core.List.{List, map}
+use mathlib.Core.List.{List, [], _∷_, map}
 use Prim.Native.Nat.{ℕ, _+_}
 use lib.Dec.{eqb}
 use lib.ListN.{length}
@@ -11,7 +11,7 @@ use Rattle.calls.specs.declared.Answer.{Answer}
 use Rattle.calls.specs.declared.Answer.the-variants.{Done, Refused}
 use Rattle.calls.specs.declared.Refusal.the-variants.{Misfit, CountSpent}
 use Rattle.calls.specs.Answers.{valueOr}
-use Rattle.calls.specs.Sequences.{Kind, accepted}
+use Rattle.calls.specs.Sequences.{Part, Kind, accepted}
 use Rattle.ofec.specs.History.{fresh, shift}
 use Rattle.ofec.specs.Encoding.{encoded}
 use Rattle.ofec.specs.Receiving.{newestPair, payloadOut, marks}
@@ -98,6 +98,9 @@ Encodings =
       answer = λ c. encode c .answer;
       lent = λ c. state (c .history) (c .pair);
       left = λ c. state (encode c .history) (valueOr (encode c .answer) (c .pair));
+      Becomes = λ c s t.
+      Part (c .payload ∷ c .coded ∷ c .history ∷ []) (c .payload ∷ encode c .coded ∷ encode c .history ∷ []) (s .history) (t .history)
+      × Part (c .pair ∷ []) (valueOr (encode c .answer) (c .pair) ∷ []) (s .pair) (t .pair);
     }
 
 abbrev pub Receivings : Kind
@@ -108,6 +111,9 @@ Receivings =
       answer = λ c. receive c .answer;
       lent = λ c. state (c .history) (c .pair);
       left = λ c. state (receive c .history) (valueOr (receive c .answer) (c .pair));
+      Becomes = λ c s t.
+      Part (c .coded ∷ c .payload ∷ c .marks ∷ c .history ∷ []) (c .coded ∷ receive c .payload ∷ receive c .marks ∷ receive c .history ∷ []) (s .history) (t .history)
+      × Part (c .pair ∷ []) (valueOr (receive c .answer) (c .pair) ∷ []) (s .pair) (t .pair);
     }
 
 -- "the payloads of its accepted calls"
