@@ -1,6 +1,7 @@
 // The library for C and Rust: one exported function for each entry point, buffers as pointer and length. See include/ofec.h.
 use calls::Answer;
 ghost use mathlib.Core.Path.{_≡_};
+ghost use mathlib.Core.List.{[], _∷_};
 ghost use Rattle.bch.specs.Calls.{repairCall};
 ghost use Rattle.ofec.specs.Calls.{encodeCall, receiveCall};
 ghost use Rattle.interleaving.specs.Calls.{interleave, deinterleave};
@@ -11,6 +12,7 @@ ghost use Rattle.lineformat.specs.Opening.{headerOf};
 ghost use Rattle.lineformat.specs.Reading.{readAnswer};
 ghost use Rattle.lineformat.specs.Writing.{writeCall};
 ghost use Rattle.capi.specs.Outcomes.{outcomeOf, flag, lineOf, stretchOf};
+ghost use Rattle.capi.specs.Exports.{exported, ofRepaired, ofEncoded, ofReceived, ofInterleaved, ofApart, ofAfter, ofWritten};
 
 // What an exported call answers: the refusal's number or 0, the call's own number, and the index of refusal 5.
 #[repr(C)]
@@ -43,7 +45,7 @@ fn outcome_of(a: Answer, refused: u32) -> Outcome
 // Repairs a word of 32 bytes in place; front 0: flips may fall in the back half only. value: flips 0 to 2, or 3 for lost.
 #[no_mangle]
 pub extern "C" fn ofec_repair_word(word: &mut [u8], front: u32) -> Outcome
-    ensures { λ r. ⌜ (r ≡ outcomeOf (repairCall (now (word .entry)) (flag front) .answer) 0) × (now (word .exit) ≡ repairCall (now (word .entry)) (flag front) .word) ⌝ }
+    ensures { λ r. ⌜ exported r (now (word .exit) ∷ []) ≡ ofRepaired 0 (repairCall (now (word .entry)) (flag front)) ⌝ }
 {
     outcome_of(checkword::repair_word(word, front != 0), 0)
 }
@@ -56,7 +58,7 @@ pub extern "C" fn ofec_encode_pair(
     history: &mut [u8],
     pair: u32,
 ) -> Outcome
-    ensures { λ r. ⌜ (r ≡ outcomeOf (encodeCall (now (payload .entry)) (now (coded .entry)) (now (history .entry)) pair .answer) pair) × (now (coded .exit) ≡ encodeCall (now (payload .entry)) (now (coded .entry)) (now (history .entry)) pair .coded) × (now (history .exit) ≡ encodeCall (now (payload .entry)) (now (coded .entry)) (now (history .entry)) pair .history) ⌝ }
+    ensures { λ r. ⌜ exported r (now (coded .exit) ∷ now (history .exit) ∷ []) ≡ ofEncoded pair (encodeCall (now (payload .entry)) (now (coded .entry)) (now (history .entry)) pair) ⌝ }
 {
     outcome_of(codec::encode_pair(payload, coded, history, pair), pair)
 }
@@ -70,7 +72,7 @@ pub extern "C" fn ofec_receive_pair(
     history: &mut [u8],
     pair: u32,
 ) -> Outcome
-    ensures { λ r. ⌜ (r ≡ outcomeOf (receiveCall (now (coded .entry)) (now (payload .entry)) (now (marks .entry)) (now (history .entry)) pair .answer) pair) × (now (payload .exit) ≡ receiveCall (now (coded .entry)) (now (payload .entry)) (now (marks .entry)) (now (history .entry)) pair .payload) × (now (marks .exit) ≡ receiveCall (now (coded .entry)) (now (payload .entry)) (now (marks .entry)) (now (history .entry)) pair .marks) × (now (history .exit) ≡ receiveCall (now (coded .entry)) (now (payload .entry)) (now (marks .entry)) (now (history .entry)) pair .history) ⌝ }
+    ensures { λ r. ⌜ exported r (now (payload .exit) ∷ now (marks .exit) ∷ now (history .exit) ∷ []) ≡ ofReceived pair (receiveCall (now (coded .entry)) (now (payload .entry)) (now (marks .entry)) (now (history .entry)) pair) ⌝ }
 {
     outcome_of(
         codec::receive_pair(coded, payload, marks, history, pair),
@@ -81,7 +83,7 @@ pub extern "C" fn ofec_receive_pair(
 // Interleaves a buffer: 21 pairs of each encoder.
 #[no_mangle]
 pub extern "C" fn ofec_interleave(pairs0: &[u8], pairs1: &[u8], bits: &mut [u8]) -> Outcome
-    ensures { λ r. ⌜ (r ≡ outcomeOf (interleave (now (pairs0 .entry)) (now (pairs1 .entry)) (now (bits .entry)) .answer) 0) × (now (bits .exit) ≡ interleave (now (pairs0 .entry)) (now (pairs1 .entry)) (now (bits .entry)) .bits) ⌝ }
+    ensures { λ r. ⌜ exported r (now (bits .exit) ∷ []) ≡ ofInterleaved 0 (interleave (now (pairs0 .entry)) (now (pairs1 .entry)) (now (bits .entry))) ⌝ }
 {
     outcome_of(interleaver::interleave(pairs0, pairs1, bits), 0)
 }
@@ -89,7 +91,7 @@ pub extern "C" fn ofec_interleave(pairs0: &[u8], pairs1: &[u8], bits: &mut [u8])
 // Takes a buffer apart.
 #[no_mangle]
 pub extern "C" fn ofec_deinterleave(bits: &[u8], pairs0: &mut [u8], pairs1: &mut [u8]) -> Outcome
-    ensures { λ r. ⌜ (r ≡ outcomeOf (deinterleave (now (bits .entry)) (now (pairs0 .entry)) (now (pairs1 .entry)) .answer) 0) × (now (pairs0 .exit) ≡ deinterleave (now (bits .entry)) (now (pairs0 .entry)) (now (pairs1 .entry)) .pairs0) × (now (pairs1 .exit) ≡ deinterleave (now (bits .entry)) (now (pairs0 .entry)) (now (pairs1 .entry)) .pairs1) ⌝ }
+    ensures { λ r. ⌜ exported r (now (pairs0 .exit) ∷ now (pairs1 .exit) ∷ []) ≡ ofApart 0 (deinterleave (now (bits .entry)) (now (pairs0 .entry)) (now (pairs1 .entry))) ⌝ }
 {
     outcome_of(interleaver::deinterleave(bits, pairs0, pairs1), 0)
 }
@@ -97,7 +99,7 @@ pub extern "C" fn ofec_deinterleave(bits: &[u8], pairs0: &mut [u8], pairs1: &mut
 // Maps a buffer's bits to cells.
 #[no_mangle]
 pub extern "C" fn ofec_bits_to_cells(bits: &[u8], cells: &mut [u8]) -> Outcome
-    ensures { λ r. ⌜ (r ≡ outcomeOf (bitsToCells qam16 (now (bits .entry)) (now (cells .entry)) .answer) 0) × (now (cells .exit) ≡ bitsToCells qam16 (now (bits .entry)) (now (cells .entry)) .written) ⌝ }
+    ensures { λ r. ⌜ exported r (now (cells .exit) ∷ []) ≡ ofAfter 0 (bitsToCells qam16 (now (bits .entry)) (now (cells .entry))) ⌝ }
 {
     outcome_of(symbols::bits_to_cells(bits, cells), 0)
 }
@@ -105,7 +107,7 @@ pub extern "C" fn ofec_bits_to_cells(bits: &[u8], cells: &mut [u8]) -> Outcome
 // Maps a buffer's cells back to bits.
 #[no_mangle]
 pub extern "C" fn ofec_cells_to_bits(cells: &[u8], bits: &mut [u8]) -> Outcome
-    ensures { λ r. ⌜ (r ≡ outcomeOf (cellsToBits qam16 (now (cells .entry)) (now (bits .entry)) .answer) 0) × (now (bits .exit) ≡ cellsToBits qam16 (now (cells .entry)) (now (bits .entry)) .written) ⌝ }
+    ensures { λ r. ⌜ exported r (now (bits .exit) ∷ []) ≡ ofAfter 0 (cellsToBits qam16 (now (cells .entry)) (now (bits .entry))) ⌝ }
 {
     outcome_of(symbols::cells_to_bits(cells, bits), 0)
 }
@@ -118,7 +120,7 @@ pub extern "C" fn ofec_frame(
     overhead: &[u8],
     frame: &mut [u8],
 ) -> Outcome
-    ensures { λ r. ⌜ (r ≡ outcomeOf (frameCall qam16 number (now (payload .entry)) (now (overhead .entry)) (now (frame .entry)) .answer) 0) × (now (frame .exit) ≡ frameCall qam16 number (now (payload .entry)) (now (overhead .entry)) (now (frame .entry)) .written) ⌝ }
+    ensures { λ r. ⌜ exported r (now (frame .exit) ∷ []) ≡ ofAfter 0 (frameCall qam16 number (now (payload .entry)) (now (overhead .entry)) (now (frame .entry))) ⌝ }
 {
     outcome_of(framing::frame(number, payload, overhead, frame), 0)
 }
@@ -131,7 +133,7 @@ pub extern "C" fn ofec_unframe(
     overhead: &[u8],
     payload: &mut [u8],
 ) -> Outcome
-    ensures { λ r. ⌜ (r ≡ outcomeOf (unframeCall qam16 number (now (frame .entry)) (now (overhead .entry)) (now (payload .entry)) .answer) 0) × (now (payload .exit) ≡ unframeCall qam16 number (now (frame .entry)) (now (overhead .entry)) (now (payload .entry)) .written) ⌝ }
+    ensures { λ r. ⌜ exported r (now (payload .exit) ∷ []) ≡ ofAfter 0 (unframeCall qam16 number (now (frame .entry)) (now (overhead .entry)) (now (payload .entry))) ⌝ }
 {
     outcome_of(framing::unframe(number, frame, overhead, payload), 0)
 }
@@ -182,7 +184,7 @@ pub extern "C" fn ofec_read_line(
 // Writes a line file's header of 16 bytes.
 #[no_mangle]
 pub extern "C" fn ofec_write_header(superframes: u32, header: &mut [u8]) -> Outcome
-    ensures { λ r. ⌜ (r ≡ outcomeOf (writeCall superframes (now (header .entry)) .answer) 0) × (now (header .exit) ≡ writeCall superframes (now (header .entry)) .header) ⌝ }
+    ensures { λ r. ⌜ exported r (now (header .exit) ∷ []) ≡ ofWritten 0 (writeCall superframes (now (header .entry))) ⌝ }
 {
     outcome_of(linefile::write_header(superframes, header), 0)
 }

@@ -1,17 +1,17 @@
 -- `capi::ofec_cells_to_bits` meets its contract: the answer of the library in numbers, and its buffers.
 -- Assumes nothing.
-use mathlib.Core.Path.{ap, _∙_}
-use Rattle.cells.specs.Calls.{After}
-use Rattle.capi.specs.Outcomes.{outcomeOf}
+use Rattle.capi.specs.ExportLaws.{exports}
 use borrow.Author.Needs.{needs}
 use Rattle.capi.proofs.ofec_cells_to_bits.Statement.{statement}
 use Rattle.capi.proofs.ofec_cells_to_bits.Tie as tie
+
+ruleset kit = (needs, exports)
 
 pub ofec-cells-to-bits-spec : {M : Type 1} → statement M
 ofec-cells-to-bits-spec =
     tie.close
     (tie.spec
-    (λ c κs. search needs)  -- cells-to-bits-requires
-    (λ c κs. search needs)  -- outcome-of-requires
-    (λ c. search needs)  -- same-length
-    (λ c. let e = c .before .before .before .cells-to-bits .ensures in (c .outcome-of .ensures ∙ ap (λ (x : After). outcomeOf (x .answer) 0) e, ap (λ (x : After). x .written) e)))  -- returns
+    (λ c κs. search kit)  -- cells-to-bits-requires
+    (λ c κs. search kit)  -- outcome-of-requires
+    (λ c. search kit)  -- same-length
+    (λ c. search kit))  -- returns
