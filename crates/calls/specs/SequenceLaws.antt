@@ -1,13 +1,13 @@
 -- Laws of lists of calls.
 -- Assumes nothing.
-use mathlib.Core.Path.{_≡_, refl, sym, subst, _∙_}
+use mathlib.Core.Path.{_≡_, refl, sym, ap, subst, _∙_}
 use mathlib.Core.List.{List, [], _∷_, map}
+use mathlib.Core.Logic.{_≢_}
 use Prim.Native.Nat.{ℕ, zero, suc, _<_}
 use native.Mathlib.Omega.{arith}
 use native.Mathlib.Decide.{ℕ-discrete}
 use borrow.Author.Tests.{eq-eqb, ne-eqb}
 use lib.ListN.{length, getD}
-use Rattle.calls.specs.Answers.{refusalOf, Accepted, TurnedBack}
 use Rattle.calls.specs.Sequences.{At, here, later, Part, not-lent, was-lent, Kind, Run, done, takes, refused, accepted, Keeping}
 
 -- ---- places of a list
@@ -38,26 +38,26 @@ module _ {A : Type 0} where
   part-kept e (was-lent {i} {x} {y} a b) = At-only (subst (λ l. At l i y) e b) a
 
 module _ (K : Kind) where
-  pub accepted-yes : (c : K .Call) (cs : List (K .Call)) → Accepted (K .answer c) → accepted K (c ∷ cs) ≡ c ∷ accepted K cs
+  pub accepted-yes : (c : K .Call) (cs : List (K .Call)) → K .number c ≡ 0 → accepted K (c ∷ cs) ≡ c ∷ accepted K cs
   unfolding accepted
-  accepted-yes c cs p = simp (eq-eqb (refusalOf (K .answer c)) 0 p)
+  accepted-yes c cs p = simp (eq-eqb (K .number c) 0 p)
 
-  pub accepted-no : (c : K .Call) (cs : List (K .Call)) → TurnedBack (K .answer c) → accepted K (c ∷ cs) ≡ accepted K cs
+  pub accepted-no : (c : K .Call) (cs : List (K .Call)) → K .number c ≢ 0 → accepted K (c ∷ cs) ≡ accepted K cs
   unfolding accepted
-  accepted-no c cs p = simp (ne-eqb (refusalOf (K .answer c)) 0 p)
+  accepted-no c cs p = simp (ne-eqb (K .number c) 0 p)
 
   -- An accepted call is accepted.
-  pub is-accepted : (cs : List (K .Call)) {i : ℕ} {x : K .Call} → At (accepted K cs) i x → Accepted (K .answer x)
+  pub is-accepted : (cs : List (K .Call)) {i : ℕ} {x : K .Call} → At (accepted K cs) i x → K .number x ≡ 0
   unfolding accepted
   is-accepted [] a = absurd (At-nil a)
-  is-accepted (c ∷ cs) {i} {x} a = go (ℕ-discrete (refusalOf (K .answer c)) 0) (λ j b. is-accepted cs {i = j} b)
+  is-accepted (c ∷ cs) {i} {x} a = go (ℕ-discrete (K .number c) 0) (λ j b. is-accepted cs {i = j} b)
     where
-      first : (ds : List (K .Call)) → Accepted (K .answer c) → {j : ℕ} {y : K .Call} → At (c ∷ ds) j y
-          → ((k : ℕ) → At ds k y → Accepted (K .answer y)) → Accepted (K .answer y)
+      first : (ds : List (K .Call)) → K .number c ≡ 0 → {j : ℕ} {y : K .Call} → At (c ∷ ds) j y
+          → ((k : ℕ) → At ds k y → K .number y ≡ 0) → K .number y ≡ 0
       first ds p here rest = p
       first ds p (later b) rest = rest _ b
 
-      go : Dec (Accepted (K .answer c)) → ((j : ℕ) → At (accepted K cs) j x → Accepted (K .answer x)) → Accepted (K .answer x)
+      go : Dec (K .number c ≡ 0) → ((j : ℕ) → At (accepted K cs) j x → K .number x ≡ 0) → K .number x ≡ 0
       go (yes p) rest = first (accepted K cs) p (subst (λ l. At l i x) (accepted-yes c cs p) a) rest
       go (no q) rest = rest i (subst (λ l. At l i x) (accepted-no c cs q) a)
 
@@ -93,3 +93,28 @@ module _ (K : Kind) where
   lent-at keeps at (refused {s} {u} {c = d} {cs = ds} bad p r) e f i c a =
       lent-at keeps at r (keeps d bad s u p ∙ e) (λ j x b. f j x (subst (λ l. At l j x) (sym (accepted-no d ds bad)) b)) i c
       (subst (λ l. At l i c) (accepted-no d ds bad) a)
+
+-- ---- the same calls seen as two kinds
+
+-- f and g take calls and states of one kind to those of another, with their refusal numbers and what they are lent and leave.
+pub record Mirrors (K L : Kind) (f : K .Call → L .Call) (g : K .State → L .State) : Type 0 where
+  pub numbers : (c : K .Call) → L .number (f c) ≡ K .number c
+  pub lent : (c : K .Call) → L .lent (f c) ≡ g (K .lent c)
+  pub left : (c : K .Call) → L .left (f c) ≡ g (K .left c)
+  pub becomes : (c : K .Call) (s t : K .State) → K .Becomes c s t → L .Becomes (f c) (g s) (g t)
+
+module _ {K L : Kind} {f : K .Call → L .Call} {g : K .State → L .State} (m : Mirrors K L f g) where
+  pub mirror-run : {s t : K .State} {cs : List (K .Call)} → Run K s cs t → Run L (g s) (map f cs) (g t)
+  mirror-run done = done
+  mirror-run (takes {t = t} {c} {cs} ok e r) =
+      takes (m .numbers c ∙ ok) (m .lent c ∙ ap g e) (subst (λ u. Run L u (map f cs) (g t)) (sym (m .left c)) (mirror-run r))
+  mirror-run (refused {s} {u} {c = c} bad b r) = refused (λ z. bad (sym (m .numbers c) ∙ z)) (m .becomes c s u b) (mirror-run r)
+
+  pub mirror-accepted : (cs : List (K .Call)) → accepted L (map f cs) ≡ map f (accepted K cs)
+  unfolding accepted
+  mirror-accepted [] = refl
+  mirror-accepted (c ∷ cs) = go (ℕ-discrete (K .number c) 0) (mirror-accepted cs)
+    where
+      go : Dec (K .number c ≡ 0) → accepted L (map f cs) ≡ map f (accepted K cs) → accepted L (f c ∷ map f cs) ≡ map f (accepted K (c ∷ cs))
+      go (yes p) e = accepted-yes L (f c) (map f cs) (m .numbers c ∙ p) ∙ ap (λ l. f c ∷ l) e ∙ ap (map f) (sym (accepted-yes K c cs p))
+      go (no q) e = accepted-no L (f c) (map f cs) (λ z. q (sym (m .numbers c) ∙ z)) ∙ e ∙ ap (map f) (sym (accepted-no K c cs q))

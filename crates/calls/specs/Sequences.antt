@@ -5,10 +5,9 @@
 use mathlib.Core.Path.{_≡_}
 use mathlib.Core.List.{List, [], _∷_}
 use mathlib.Core.Bool.{cond}
+use mathlib.Core.Logic.{_≢_}
 use Prim.Native.Nat.{ℕ, suc}
 use lib.Dec.{eqb}
-use Rattle.calls.specs.declared.Answer.{Answer}
-use Rattle.calls.specs.Answers.{refusalOf, Accepted, TurnedBack}
 
 -- x stands at place i of a list.
 pub data At {A : Type 0} : List A → ℕ → A → Type 0 where
@@ -21,12 +20,12 @@ pub data Part {A : Type 0} (lent left : List A) : A → A → Type 0 where
   not-lent : {x : A} → Part lent left x x
   was-lent : {i : ℕ} {x y : A} → At lent i x → At left i y → Part lent left x y
 
--- A kind of calls: what is lent to one, the state that one hands on to the next, the answer, the state as it is lent to an accepted call and
--- as that call leaves it, and what may become of a state over a refused one, whatever that is lent.
+-- A kind of calls: what is lent to one, the state that one hands on to the next, the refusal number, 0 for an accepted call, the state as it is
+-- lent to an accepted call and as that call leaves it, and what may become of a state over a refused one, whatever that is lent.
 pub record Kind : Type 1 where
   pub Call : Type 0
   pub State : Type 0
-  pub answer : Call → Answer
+  pub number : Call → ℕ
   pub lent : Call → State
   pub left : Call → State
   pub Becomes : Call → State → State → Type 0
@@ -37,17 +36,17 @@ module _ (K : Kind) where
   --   refused  a refused call may be lent anything, parts of the state too, and these are then what it left
   pub data Run : K .State → List (K .Call) → K .State → Type 0 where
     done : {s : K .State} → Run s [] s
-    takes : {s t : K .State} {c : K .Call} {cs : List (K .Call)} → Accepted (K .answer c) → K .lent c ≡ s → Run (K .left c) cs t → Run s (c ∷ cs) t
-    refused : {s u t : K .State} {c : K .Call} {cs : List (K .Call)} → TurnedBack (K .answer c) → K .Becomes c s u → Run u cs t → Run s (c ∷ cs) t
+    takes : {s t : K .State} {c : K .Call} {cs : List (K .Call)} → K .number c ≡ 0 → K .lent c ≡ s → Run (K .left c) cs t → Run s (c ∷ cs) t
+    refused : {s u t : K .State} {c : K .Call} {cs : List (K .Call)} → K .number c ≢ 0 → K .Becomes c s u → Run u cs t → Run s (c ∷ cs) t
 
   -- The accepted calls of a list, in order.
   unfoldable pub accepted : List (K .Call) → List (K .Call)
   accepted [] = []
-  accepted (c ∷ cs) = cond (eqb (refusalOf (K .answer c)) 0) (c ∷ accepted cs) (accepted cs)
+  accepted (c ∷ cs) = cond (eqb (K .number c) 0) (c ∷ accepted cs) (accepted cs)
 
   -- What each kind of calls must show: a refused call leaves the state as it was, and may be lent nothing of it.
   abbrev pub Keeping : Type 0
-  Keeping = (c : K .Call) → TurnedBack (K .answer c) → (s t : K .State) → K .Becomes c s t → t ≡ s
+  Keeping = (c : K .Call) → K .number c ≢ 0 → (s t : K .State) → K .Becomes c s t → t ≡ s
 
   abbrev pub Separate : Type 0
   Separate = (c : K .Call) (s : K .State) → K .Becomes c s s

@@ -3,11 +3,11 @@
 use mathlib.Core.Path.{_≡_, refl, ap, _∙_}
 use mathlib.Core.Bool.{cond}
 use mathlib.Core.List.{List, [], _∷_}
+use mathlib.Core.Logic.{_≢_}
 use Prim.Native.Nat.{ℕ, zero, suc, _+_, _<_, _≤_}
 use native.Mathlib.Omega.{arith}
 use lib.Dec.{eqb}
 use lib.ListN.{length}
-use Rattle.calls.specs.Answers.{refusalOf, Accepted, TurnedBack}
 use Rattle.calls.specs.Sequences.{At, here, later, Kind, Run, done, takes, refused, accepted, Separate}
 use Rattle.calls.specs.SequenceLaws.{At-nil, accepted-yes, accepted-no}
 use Rattle.line.specs.CallLists.{Among, none, same, more, hedged, oneByOne, stateAfter}
@@ -24,7 +24,7 @@ module _ (K : Kind) where
   pub among-accepted : {cs ds : List (K .Call)} → Among K cs ds → accepted K ds ≡ accepted K cs
   unfolding accepted
   among-accepted none = refl
-  among-accepted (same {c} w) = ap (λ (l : List (K .Call)). cond (eqb (refusalOf (K .answer c)) 0) (c ∷ l) l) (among-accepted w)
+  among-accepted (same {c} w) = ap (λ (l : List (K .Call)). cond (eqb (K .number c) 0) (c ∷ l) l) (among-accepted w)
   among-accepted (more {c} {ds = ds} bad w) = accepted-no K c ds bad ∙ among-accepted w
 
   -- There may be none, and there may be one at every place.
@@ -32,7 +32,7 @@ module _ (K : Kind) where
   among-none [] = none
   among-none (c ∷ cs) = same (among-none cs)
 
-  pub among-hedged : (c : K .Call) → TurnedBack (K .answer c) → (cs : List (K .Call)) → Among K cs (hedged K c cs)
+  pub among-hedged : (c : K .Call) → K .number c ≢ 0 → (cs : List (K .Call)) → Among K cs (hedged K c cs)
   unfolding hedged
   among-hedged c bad [] = more bad none
   among-hedged c bad (d ∷ ds) = more bad (same (among-hedged c bad ds))
@@ -62,7 +62,7 @@ module _ (K : Kind) where
 
     -- Where each number below a bound gives a call that is lent the state and accepted, and leaves a state that is good for the next, they are
     -- all accepted and make a run.
-    module _ (Good : ℕ → K .State → Type 0) (top : ℕ) (accepts : (i : ℕ) (s : K .State) → i < top → Good i s → Accepted (K .answer (make i s)))
+    module _ (Good : ℕ → K .State → Type 0) (top : ℕ) (accepts : (i : ℕ) (s : K .State) → i < top → Good i s → K .number (make i s) ≡ 0)
         (lends : (i : ℕ) (s : K .State) → K .lent (make i s) ≡ s) (leaves : (i : ℕ) (s : K .State) → i < top → Good i s → Good (suc i) (K .left (make i s))) where
       pub oneByOne-run : (n i : ℕ) (s : K .State) → i + n ≤ top → Good i s → Run K s (oneByOne K make n i s) (stateAfter K make n i s)
       unfolding oneByOne stateAfter

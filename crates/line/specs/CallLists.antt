@@ -1,8 +1,8 @@
 -- Lists of calls made one after the other, and refused calls put among them.
 -- Assumes nothing.
 use mathlib.Core.List.{List, [], _∷_}
+use mathlib.Core.Logic.{_≢_}
 use Prim.Native.Nat.{ℕ, zero, suc}
-use Rattle.calls.specs.Answers.{TurnedBack}
 use Rattle.calls.specs.Sequences.{Kind}
 
 module _ (K : Kind) where
@@ -10,7 +10,7 @@ module _ (K : Kind) where
   pub data Among : List (K .Call) → List (K .Call) → Type 0 where
     none : Among [] []
     same : {c : K .Call} {cs ds : List (K .Call)} → Among cs ds → Among (c ∷ cs) (c ∷ ds)
-    more : {c : K .Call} {cs ds : List (K .Call)} → TurnedBack (K .answer c) → Among cs ds → Among cs (c ∷ ds)
+    more : {c : K .Call} {cs ds : List (K .Call)} → K .number c ≢ 0 → Among cs ds → Among cs (c ∷ ds)
 
   -- One call before each of a list and after the last.
   unfoldable pub hedged : K .Call → List (K .Call) → List (K .Call)

@@ -10,7 +10,7 @@ use lib.ListN.{length}
 use Rattle.calls.specs.declared.Answer.{Answer}
 use Rattle.calls.specs.declared.Answer.the-variants.{Done, Refused}
 use Rattle.calls.specs.declared.Refusal.the-variants.{Misfit, CountSpent}
-use Rattle.calls.specs.Answers.{valueOr}
+use Rattle.calls.specs.Answers.{refusalOf, valueOr}
 use Rattle.calls.specs.Sequences.{Part, Kind, accepted}
 use Rattle.ofec.specs.History.{fresh, shift}
 use Rattle.ofec.specs.Encoding.{encoded}
@@ -95,7 +95,7 @@ Encodings =
     record {
       Call = Encoding;
       State = State;
-      answer = λ c. encode c .answer;
+      number = λ c. refusalOf (encode c .answer);
       lent = λ c. state (c .history) (c .pair);
       left = λ c. state (encode c .history) (valueOr (encode c .answer) (c .pair));
       Becomes = λ c s t.
@@ -108,7 +108,7 @@ Receivings =
     record {
       Call = Receiving;
       State = State;
-      answer = λ c. receive c .answer;
+      number = λ c. refusalOf (receive c .answer);
       lent = λ c. state (c .history) (c .pair);
       left = λ c. state (receive c .history) (valueOr (receive c .answer) (c .pair));
       Becomes = λ c s t.
