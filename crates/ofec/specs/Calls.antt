@@ -99,8 +99,8 @@ Encodings =
       lent = λ c. state (c .history) (c .pair);
       left = λ c. state (encode c .history) (valueOr (encode c .answer) (c .pair));
       Becomes = λ c s t.
-      Part (c .payload ∷ c .coded ∷ c .history ∷ []) (c .payload ∷ encode c .coded ∷ encode c .history ∷ []) (s .history) (t .history)
-      × Part (c .pair ∷ []) (valueOr (encode c .answer) (c .pair) ∷ []) (s .pair) (t .pair);
+          Part (c .payload ∷ c .coded ∷ c .history ∷ []) (c .payload ∷ encode c .coded ∷ encode c .history ∷ []) (s .history) (t .history)
+          × Part (c .pair ∷ []) (valueOr (encode c .answer) (c .pair) ∷ []) (s .pair) (t .pair);
     }
 
 abbrev pub Receivings : Kind
@@ -112,8 +112,8 @@ Receivings =
       lent = λ c. state (c .history) (c .pair);
       left = λ c. state (receive c .history) (valueOr (receive c .answer) (c .pair));
       Becomes = λ c s t.
-      Part (c .coded ∷ c .payload ∷ c .marks ∷ c .history ∷ []) (c .coded ∷ receive c .payload ∷ receive c .marks ∷ receive c .history ∷ []) (s .history) (t .history)
-      × Part (c .pair ∷ []) (valueOr (receive c .answer) (c .pair) ∷ []) (s .pair) (t .pair);
+          Part (c .coded ∷ c .payload ∷ c .marks ∷ c .history ∷ []) (c .coded ∷ receive c .payload ∷ receive c .marks ∷ receive c .history ∷ []) (s .history) (t .history)
+          × Part (c .pair ∷ []) (valueOr (receive c .answer) (c .pair) ∷ []) (s .pair) (t .pair);
     }
 
 -- "the payloads of its accepted calls"

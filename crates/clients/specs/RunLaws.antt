@@ -1,0 +1,157 @@
+-- The exported functions and demand 3 meet: runs of exported calls are demand 3's runs, and what it says of the library's buffers holds of those
+-- that the exported calls left.
+-- Assumes nothing.
+use mathlib.Core.Path.{_≡_, refl, sym, ap, ap₂, subst, _∙_}
+use mathlib.Core.List.{List, [], _∷_, map}
+use Prim.Native.Nat.{ℕ, suc, _/_, _<_, _≤_}
+use lib.ListN.{length, getD}
+use Rattle.calls.specs.Answers.{refusalOf, valueOr}
+use Rattle.calls.specs.Sequences.{At, here, later, Part, accepted}
+use Rattle.calls.specs.SequenceLaws.{Mirrors, mirror-run, mirror-accepted}
+use Rattle.ofec.specs.SentLaws.{madeBits, sent-exists}
+use Rattle.ofec.specs.Calls.{State, state, Encoding, encode, encodeCall, Encodings, Encoded, Receiving, receive, receiveCall, Receivings, Received, payloads}
+use Rattle.ofec.specs.Rows.{RowBits}
+use Rattle.ofec.specs.Promise.{Limit, Promise}
+use Rattle.cells.specs.Profile.{pairsIn}
+use Rattle.cells.specs.Profiles.{qam16}
+use Rattle.line.specs.Sides.{Side}
+use Rattle.line.specs.Line.{lineBit}
+use Rattle.line.specs.Outward.{Outward, codedPairs}
+use Rattle.line.specs.Inward.{Inward}
+use Rattle.capi.specs.declared.Outcome.{Outcome}
+use Rattle.capi.specs.Outcomes.{outcomeOf}
+use Rattle.capi.specs.Exports.{Exported, exported, ofEncoded, ofReceived}
+use Rattle.clients.specs.Runs.{EncodeCall, EncodeCalls, ReceiveCall, ReceiveCalls, Sends, Receives}
+
+-- ---- lists
+
+pub length-mapped : {A B : Type 0} (f : A → B) (l : List A) → length (map f l) ≡ length l
+length-mapped f [] = refl
+length-mapped f (x ∷ xs) = ap (λ n. suc n) (length-mapped f xs)
+
+-- What stands in a mapped list stands in the list.
+pub mapped-at : {A B : Type 0} (f : A → B) (l : List A) (i : ℕ) (y : B) → At (map f l) i y → (x : A) × At l i x × (f x ≡ y)
+mapped-at f (x ∷ xs) i y here = (x, here, refl)
+mapped-at f (x ∷ xs) i y (later a) = let r = mapped-at f xs _ y a in (r .0, later (r .1), r .2)
+
+pub at-mapped : {A B : Type 0} (f : A → B) {l : List A} {i : ℕ} {x : A} → At l i x → At (map f l) i (f x)
+at-mapped f here = here
+at-mapped f (later a) = later (at-mapped f a)
+
+map-map : {A B C : Type 0} (f : A → B) (g : B → C) (h : A → C) → ((x : A) → g (f x) ≡ h x) → (l : List A) → map g (map f l) ≡ map h l
+map-map f g h e [] = refl
+map-map f g h e (x ∷ xs) = ap₂ _∷_ (e x) (map-map f g h e xs)
+
+-- ---- what a call that meets its contract gives
+
+module _ (c : EncodeCall) where
+  pub encode-outcome : c .outcome ≡ outcomeOf (encode (c .lent) .answer) (c .lent .pair)
+  unfolding ofEncoded encode
+  encode-outcome = ap (λ (x : Exported). x .outcome) (c .meets)
+
+  pub encode-coded : c .coded ≡ encode (c .lent) .coded
+  unfolding ofEncoded encode
+  encode-coded = ap (λ (x : Exported). getD (x .buffers) 0 []) (c .meets)
+
+  pub encode-history : c .history ≡ encode (c .lent) .history
+  unfolding ofEncoded encode
+  encode-history = ap (λ (x : Exported). getD (x .buffers) 1 []) (c .meets)
+
+module _ (c : ReceiveCall) where
+  pub receive-outcome : c .outcome ≡ outcomeOf (receive (c .lent) .answer) (c .lent .pair)
+  unfolding ofReceived receive
+  receive-outcome = ap (λ (x : Exported). x .outcome) (c .meets)
+
+  pub receive-payload : c .payload ≡ receive (c .lent) .payload
+  unfolding ofReceived receive
+  receive-payload = ap (λ (x : Exported). getD (x .buffers) 0 []) (c .meets)
+
+  pub receive-marks : c .marks ≡ receive (c .lent) .marks
+  unfolding ofReceived receive
+  receive-marks = ap (λ (x : Exported). getD (x .buffers) 1 []) (c .meets)
+
+  pub receive-history : c .history ≡ receive (c .lent) .history
+  unfolding ofReceived receive
+  receive-history = ap (λ (x : Exported). getD (x .buffers) 2 []) (c .meets)
+
+-- Exported calls are the library's.
+abbrev pub encodingOf : EncodeCall → Encoding
+encodingOf c = c .lent
+
+abbrev pub receivingOf : ReceiveCall → Receiving
+receivingOf c = c .lent
+
+pub encode-mirrors : Mirrors EncodeCalls Encodings encodingOf (λ s. s)
+encode-mirrors =
+    record {
+      numbers = λ c. sym (ap (λ (o : Outcome). o .refusal) (encode-outcome c));
+      lent = λ c. refl;
+      left = λ c. ap₂ state (sym (encode-history c)) (sym (ap (λ (o : Outcome). o .value) (encode-outcome c)));
+      becomes = λ c s t (h, n). (
+        subst (λ (l : List (List ℕ)). Part (c .lent .payload ∷ c .lent .coded ∷ c .lent .history ∷ []) l (s .history) (t .history))
+            (ap₂ (λ x y. c .lent .payload ∷ x ∷ y ∷ []) (encode-coded c) (encode-history c)) h,
+        subst (λ (o : Outcome). Part (c .lent .pair ∷ []) (o .value ∷ []) (s .pair) (t .pair)) (encode-outcome c) n,
+      );
+    }
+
+pub receive-mirrors : Mirrors ReceiveCalls Receivings receivingOf (λ s. s)
+receive-mirrors =
+    record {
+      numbers = λ c. sym (ap (λ (o : Outcome). o .refusal) (receive-outcome c));
+      lent = λ c. refl;
+      left = λ c. ap₂ state (sym (receive-history c)) (sym (ap (λ (o : Outcome). o .value) (receive-outcome c)));
+      becomes = λ c s t (h, n). (
+        subst (λ (l : List (List ℕ)). Part (c .lent .coded ∷ c .lent .payload ∷ c .lent .marks ∷ c .lent .history ∷ []) (c .lent .coded ∷ l) (s .history) (t .history))
+            (ap₂ (λ x (l : List (List ℕ)). x ∷ l) (receive-payload c) (ap₂ (λ x y. x ∷ y ∷ []) (receive-marks c) (receive-history c))) h,
+        subst (λ (o : Outcome). Part (c .lent .pair ∷ []) (o .value ∷ []) (s .pair) (t .pair)) (receive-outcome c) n,
+      );
+    }
+
+-- ---- demand 3 of the exported functions
+
+-- What goes out, with the bits of 01's formulas.
+unfoldable pub outward : Sends → Outward qam16
+outward s =
+    record {
+      superframes = s .superframes;
+      calls = λ e. map encodingOf (s .calls e);
+      last = s .last;
+      runs = λ e. mirror-run encode-mirrors (s .runs e);
+      filled = λ e. ap length (mirror-accepted encode-mirrors (s .calls e)) ∙ length-mapped encodingOf (accepted EncodeCalls (s .calls e)) ∙ s .filled e;
+      overhead = s .overhead;
+      overhead-long = s .overhead-long;
+      overhead-legal = s .overhead-legal;
+      lent = s .lent;
+      sent = λ e. madeBits (payloads (map encodingOf (s .calls e)));
+      formulas = λ e. sent-exists (payloads (map encodingOf (s .calls e)));
+    }
+
+-- The coded pairs that go into the line are those that the exported calls left.
+pub coded-as-left : (s : Sends) (e : Side) → codedPairs (outward s .calls e) ≡ map (λ (c : EncodeCall). c .coded) (accepted EncodeCalls (s .calls e))
+unfolding codedPairs outward
+coded-as-left s e =
+    ap (map (λ (c : Encoding). encode c .coded)) (mirror-accepted encode-mirrors (s .calls e))
+    ∙ map-map encodingOf (λ (c : Encoding). encode c .coded) (λ (c : EncodeCall). c .coded) (λ c. sym (encode-coded c)) (accepted EncodeCalls (s .calls e))
+
+-- The bits that an encoder sent.
+abbrev pub sentBits : Sends → Side → RowBits
+sentBits s e = outward s .sent e
+
+-- What comes in.
+unfoldable pub inward : (s : Sends) → Receives (s .superframes) (sentBits s) → Inward qam16 (outward s)
+unfolding outward
+inward s t =
+    record {
+      heard = t .heard;
+      calls = λ e. map receivingOf (t .calls e);
+      last = t .last;
+      runs = λ e. mirror-run receive-mirrors (t .runs e);
+      some = λ e. subst (λ n. n ≤ pairsIn qam16 (s .superframes)) (sym (taken e)) (t .some e);
+      in-order = λ e P c a.
+          let r = mapped-at receivingOf (accepted ReceiveCalls (t .calls e)) P c (subst (λ l. At l P c) (mirror-accepted receive-mirrors (t .calls e)) a) in
+          ap (λ (d : Receiving). d .coded) (sym (r .2)) ∙ t .in-order e P (r .0) (r .1);
+      limit = λ e. subst (Limit (sentBits s e) (lineBit qam16 (t .heard .frames) e)) (sym (taken e)) (t .limit e);
+    }
+  where
+    taken : (e : Side) → length (accepted Receivings (map receivingOf (t .calls e))) ≡ length (accepted ReceiveCalls (t .calls e))
+    taken e = ap length (mirror-accepted receive-mirrors (t .calls e)) ∙ length-mapped receivingOf (accepted ReceiveCalls (t .calls e))
