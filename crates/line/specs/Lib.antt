@@ -9,6 +9,8 @@ pub mod Outward
 pub mod Inward
 pub mod Demand3
 pub mod LineLaws
+pub mod FramedLine
+pub mod AnyLine
 pub mod OutwardLaws
 pub mod InwardLaws
 pub mod Theorem
@@ -19,5 +21,8 @@ pub mod Runs
 pub mod RunLaws
 pub mod WrongLaws
 pub mod Witness
+pub mod ErrorWitness
+pub mod Instance
+pub mod InstanceLaws
 pub mod BenchValues
 pub mod BenchLaws
