@@ -23,25 +23,39 @@ use Rattle.line.specs.FramedLine.{frame, frames-long, frames-legal, on-l
 pairsWith : RowBits → ℕ → List ℕ
 pairsWith W b = pack 10752 (λ m. W (42 * b + m / 2048) (m % 128 / 16) (m % 2048 / 128) (m % 16))
 
-pairs-with : (W : RowBits) (R C r c : ℕ) → C < 8 → r < 16 → c < 16 → W R C r c < 2 → bit (pairsWith W (R / 42)) (pairsBit (R % 42) C r c) ≡ W R C r c
+pairs-with : (W : RowBits) (R C r c : ℕ) → C < 8 → r < 16 → c < 16 → W R C r c < 2
+    → bit (pairsWith W (R / 42)) (pairsBit (R % 42) C r c) ≡ W R C r c
 unfolding pairsWith
 pairs-with W R C r c lC lr lc b =
     bit-pack 10752 (λ m. W (42 * (R / 42) + m / 2048) (m % 128 / 16) (m % 2048 / 128) (m % 16)) (pairsBit (R % 42) C r c)
     (omega (arith, pairsBit-lt (R % 42) C r c lC lr lc (omega arith)))
-    ∙ rw (pairsBit-row (R % 42) C r c lC lr lc, pairsBit-block (R % 42) C r c lC lr lc, pairsBit-bitRow (R % 42) C r c lC lr lc, pairsBit-column (R % 42) C r c lC lr lc)
-    (ap (λ Q. W Q C r c % 2) row ∙ omega (arith, b))
+    ∙ rw (row-at, block-at, bitRow-at, column-at) (ap (λ Q. W Q C r c % 2) row ∙ omega (arith, b))
   where
+    row-at : pairsBit (R % 42) C r c / 2048 ≡ R % 42
+    row-at = pairsBit-row (R % 42) C r c lC lr lc
+
+    block-at : pairsBit (R % 42) C r c % 128 / 16 ≡ C
+    block-at = pairsBit-block (R % 42) C r c lC lr lc
+
+    bitRow-at : pairsBit (R % 42) C r c % 2048 / 128 ≡ r
+    bitRow-at = pairsBit-bitRow (R % 42) C r c lC lr lc
+
+    column-at : pairsBit (R % 42) C r c % 16 ≡ c
+    column-at = pairsBit-column (R % 42) C r c lC lr lc
+
     row : 42 * (R / 42) + R % 42 ≡ R
     row = omega arith
 
-module _ (p : Profile) (n : ℕ) (W : Side → RowBits) (overhead : List ℕ) (olong : length overhead ≡ 12288) (olegal : Legal overheadRule overhead) where
+module _ (p : Profile) (n : ℕ) (W : Side → RowBits) (overhead : List ℕ) (olong : length overhead ≡ 12288)
+    (olegal : Legal overheadRule overhead) where
   cells : ℕ → List ℕ
   cells b = toCells p (interleaved (pairsWith (W side0) b) (pairsWith (W side1) b))
 
   cells-long : (b : ℕ) → length (cells b) ≡ cellsPerBuffer p * 2
   unfolding cells
   cells-long b =
-      buffer-cells p (interleaved (pairsWith (W side0) b) (pairsWith (W side1) b)) (length-interleaved (pairsWith (W side0) b) (pairsWith (W side1) b))
+      buffer-cells p (interleaved (pairsWith (W side0) b) (pairsWith (W side1) b))
+      (length-interleaved (pairsWith (W side0) b) (pairsWith (W side1) b))
 
   cells-legal : (b : ℕ) → Legal (payloadRule p) (cells b)
   unfolding cells
@@ -49,7 +63,8 @@ module _ (p : Profile) (n : ℕ) (W : Side → RowBits) (overhead : List ℕ) (o
 
   -- Every assignment of bits to both encoders comes off some legal line, whatever legal overhead list it is framed and unframed with.
   pub any-bits : ((e : Side) (R C r c : ℕ) → R < rowsIn p n → C < 8 → r < 16 → c < 16 → W e R C r c < 2) → LentIn
-      → (h : Heard p n) × ((e : Side) (R C r c : ℕ) → R < rowsIn p n → C < 8 → r < 16 → c < 16 → lineBit p (h .frames) e R C r c ≡ W e R C r c)
+      → (h : Heard p n) × ((e : Side) (R C r c : ℕ) → R < rowsIn p n → C < 8 → r < 16 → c < 16
+      → lineBit p (h .frames) e R C r c ≡ W e R C r c)
   unfolding cells
   any-bits b lent = (
     record {
@@ -63,7 +78,8 @@ module _ (p : Profile) (n : ℕ) (W : Side → RowBits) (overhead : List ℕ) (o
       lent = lent;
     },
     λ e R C r c lR lC lr lc.
-        line-pairs p line (λ d. pairsWith (W d) (R / 42)) e R C r c lC lr lc (on-line p cells cells-long n overhead line is (R / 42) (omega arith))
+        line-pairs p line (λ d. pairsWith (W d) (R / 42)) e R C r c lC lr lc
+        (on-line p cells cells-long n overhead line is (R / 42) (omega arith))
         ∙ pairs-with (W e) R C r c lC lr lc (b e R C r c lR lC lr lc),
   )
     where

@@ -39,7 +39,8 @@ module _ (K : Kind) where
   among-hedged c bad (d ∷ ds) = more bad (same (among-hedged c bad ds))
 
   -- Accepted calls with a refused one before each and after the last.
-  pub hedged-accepted : (c : K .Call) → TurnedBack (K .answer c) → (cs ds : List (K .Call)) → accepted K cs ≡ cs → ds ≡ hedged K c cs → ds ≡ hedged K c (accepted K ds)
+  pub hedged-accepted : (c : K .Call) → TurnedBack (K .answer c) → (cs ds : List (K .Call)) → accepted K cs ≡ cs
+      → ds ≡ hedged K c cs → ds ≡ hedged K c (accepted K ds)
   hedged-accepted c bad cs ds all is = is ∙ ap (hedged K c) (sym (ap (accepted K) is ∙ among-accepted (among-hedged c bad cs) ∙ all))
 
   -- ---- calls one after the other

@@ -1,5 +1,5 @@
--- That demand 3 speaks of lines with errors: whatever at most three bits of the back half of a word are to be wrong, there is such a line, within
--- the limit, and receivers that take all of it; they mark that word 1, 2, or 3 for lost.
+-- That demand 3 speaks of lines with errors: whatever bits of the back half of a word are to be wrong, three at most, there is such a line
+-- within the limit, and receivers that take all of it; they mark that word 1, 2, or 3 for lost.
 -- Assumes nothing.
 use mathlib.Core.Path.{_≡_, refl, sym, _∙_, subst}
 use Prim.Native.Nat.{ℕ, zero, suc, _/_, _<_, _≤_}
@@ -12,8 +12,8 @@ use Rattle.calls.specs.Answers.{TurnedBack}
 use Rattle.calls.specs.Sequences.{At, accepted}
 use Rattle.ofec.specs.RowLaws.{word-at, backPlace, backPlace-lt}
 use Rattle.ofec.specs.Calls.{Receiving, receive, Receivings}
-use Rattle.ofec.specs.Promise.{markOf, NotLost}
-use Rattle.cells.specs.Profile.{Profile, buffersIn, rowsIn}
+use Rattle.ofec.specs.Promise.{Limit, markOf, NotLost}
+use Rattle.cells.specs.Profile.{Profile, buffersIn, pairsIn, rowsIn}
 use Rattle.cells.specs.CellLaws.{width-pos}
 use Rattle.line.specs.Sides.{Side}
 use Rattle.line.specs.Line.{lineBit}
@@ -23,30 +23,31 @@ use Rattle.line.specs.InwardLaws.{length-payloads, comes}
 use Rattle.line.specs.AnyLine.{any-bits}
 use Rattle.line.specs.CallLists.{hedged}
 use Rattle.line.specs.Runs.{LentBack, WordErrors, Errors, Erring, firstPlaces, Marked, emptyReceiving}
-use Rattle.line.specs.RunLaws.{refused-receiving}
+use Rattle.line.specs.RunLaws.{refused-empty}
 use Rattle.line.specs.WrongLaws.{errors-front, errors-own, errors-most, withErrors, with-bit, with-errors}
-use Rattle.line.specs.Witness.{comes-in-all, exact, taken-row}
+use Rattle.line.specs.Witness.{comes-in-hedged, exact, taken-row}
 
 -- Sent bits are bits.
-sent-bit : (p : Profile) (o : Outward p) (e : Side) (R C r c : ℕ) → R < rowsIn p (o .superframes) → C < 8 → r < 16 → c < 16 → o .sent e R C r c < 2
+sent-bit : (p : Profile) (o : Outward p) (e : Side) (R C r c : ℕ) → R < rowsIn p (o .superframes) → C < 8 → r < 16 → c < 16
+    → o .sent e R C r c < 2
 sent-bit p o e R C r c lR lC lr lc =
     subst (λ x. x < 2) (word-at (o .sent e) R C r c lr lc)
-    (o .formulas e .words .code R r (omega (arith, length-payloads (o .calls e), o .filled e)) lr .bits (backPlace C r c) (backPlace-lt C r c lC lr lc))
+    (o .formulas e .words .code R r (omega (arith, length-payloads (o .calls e), o .filled e)) lr .bits (backPlace C r c)
+    (backPlace-lt C r c lC lr lc))
 
 module _ (p : Profile) (o : Outward p) (w : Side → WordErrors (rowsIn p (o .superframes))) where
-  -- Over every line with these errors: the mark is their number, and no other word than one with three is lost.
+  -- Over every line with these errors: the mark is their number, ..
   module _ (i : Inward p o) (errors : (e : Side) → Errors (o .sent e) (lineBit p (i .heard .frames) e) (rowsIn p (o .superframes)) (w e)) where
-    pub errors-marked : (e : Side) (c : Receiving) → At (accepted Receivings (i .calls e)) (w e .R / 2) c → markOf (receive c) (w e .R) (w e .r) ≡ count 128 (w e .at)
+    pub errors-marked : (e : Side) (c : Receiving) → At (accepted Receivings (i .calls e)) (w e .R / 2) c
+        → markOf (receive c) (w e .R) (w e .r) ≡ count 128 (w e .at)
     errors-marked e c a = exact p o i e (w e .R) (w e .r) c (w e .bit-row) a (errors-front (w e) (errors e)) ∙ errors-own (w e) (errors e)
 
+    -- .. and no word is lost but one with three.
     pub errors-spared : (e : Side) (R r : ℕ) (c : Receiving) → r < 16 → At (accepted Receivings (i .calls e)) (R / 2) c
         → (R ≡ w e .R → r ≡ w e .r → count 128 (w e .at) ≡ 3 → ⊥) → NotLost (receive c) R r
     errors-spared e R r c lr a off =
         comes p o i .words e (R / 2) c a R r refl lr .spared
-        (errors-most (w e) (errors e) 2 R r (omega arith) (taken-row p o i e R c a) lr (λ q u. few (w e .three) (off q u)))
-      where
-        few : {m : ℕ} → m ≤ 3 → (m ≡ 3 → ⊥) → m ≤ 2
-        few l n = omega (arith, n)
+        (errors-most (w e) (errors e) 2 R r (omega arith) (taken-row p o i e R c a) lr (λ q u. omega (arith, w e .three, off q u)))
 
   -- There is such a line, ..
   pub errors-line : LentIn
@@ -61,13 +62,26 @@ module _ (p : Profile) (o : Outward p) (w : Side → WordErrors (rowsIn p (o .su
       → (i : Inward p o) × Erring p o w i × ((e : Side) → i .calls e ≡ hedged Receivings y (accepted Receivings (i .calls e)))
   erring lent room y bad =
       let line = errors-line lent in
-      let back = comes-in-all p o (line .0) (λ e. record { three = λ R r lR lr. errors-most (w e) (line .1 e) 3 R r (omega arith) (omega arith) lr (λ q u. w e .three) }) room y bad in
-      let errors : (e : Side) → Errors (o .sent e) (lineBit p (back .0 .heard .frames) e) (rowsIn p (o .superframes)) (w e) =
-      λ e. subst (λ (h : Heard p (o .superframes)). Errors (o .sent e) (lineBit p (h .frames) e) (rowsIn p (o .superframes)) (w e)) (sym (back .1)) (line .1 e) in (
+      let back = comes-in-hedged p o (line .0) (λ e. pairsIn p (o .superframes)) (λ e. omega arith) (limit (line .0) (line .1)) room y bad in
+      let errors : (e : Side) → Wrong (back .0 .heard) e = λ e. subst (λ (h : Heard p (o .superframes)). Wrong h e) (sym (back .1)) (line .1 e) in (
         back .0,
-        record { errors = errors; all = back .3; marked = errors-marked (back .0) errors; spared = errors-spared (back .0) errors },
+        record {
+          errors = errors;
+          all = back .3;
+          marked = errors-marked (back .0) errors;
+          spared = λ e R r c lr a off. let kept = errors-spared (back .0) errors e R r c lr a off in
+              (kept, comes p o (back .0) .words e (R / 2) c a R r refl lr .whole kept);
+        },
         back .2,
       )
+    where
+      Wrong : Heard p (o .superframes) → Side → Type 0
+      Wrong h e = Errors (o .sent e) (lineBit p (h .frames) e) (rowsIn p (o .superframes)) (w e)
+
+      limit : (h : Heard p (o .superframes)) → ((e : Side) → Wrong h e) → (e : Side)
+          → Limit (o .sent e) (lineBit p (h .frames) e) (pairsIn p (o .superframes))
+      limit h errors e =
+          record { three = λ R r lR lr. errors-most (w e) (errors e) 3 R r (omega arith) (omega arith) lr (λ q u. omega (arith, w e .three)) }
 
 -- ---- words by their numbers
 
@@ -92,12 +106,9 @@ first-errors n R r j lR lr lj =
       three = omega (arith, first-count j lj);
     }
 
-pub refused-empty : TurnedBack (receive emptyReceiving .answer)
-refused-empty = refused-receiving emptyReceiving (λ e. omega arith)
-
 -- Of every outward run, for every word (R, r) and every number of wrong bits up to three in it, for each encoder its own.
-pub word-marked : (p : Profile) (o : Outward p) (R r : ℕ) → R < rowsIn p (o .superframes) → r < 16 → (j : Side → ℕ) → ((e : Side) → j e ≤ 3) → LentIn → LentBack
-    → (i : Inward p o) × Marked p o R r j i
+pub word-marked : (p : Profile) (o : Outward p) (R r : ℕ) → R < rowsIn p (o .superframes) → r < 16 → (j : Side → ℕ) → ((e : Side) → j e ≤ 3)
+    → LentIn → LentBack → (i : Inward p o) × Marked p o R r j i
 unfolding first-errors
 word-marked p o R r lR lr j lj lent room =
     let w : Side → WordErrors (rowsIn p (o .superframes)) = λ e. first-errors (rowsIn p (o .superframes)) R r (j e) lR lr (lj e) in

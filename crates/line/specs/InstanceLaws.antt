@@ -20,10 +20,10 @@ use Rattle.line.specs.Theorem.{demand3}
 use Rattle.line.specs.CallLists.{hedged}
 use Rattle.line.specs.CallListLaws.{among-hedged, hedged-accepted}
 use Rattle.line.specs.Runs.{Given, encodings, LentBack, WordErrors, emptyEncoding, emptyReceiving}
-use Rattle.line.specs.RunLaws.{refused-encoding, encodings-accepted}
+use Rattle.line.specs.RunLaws.{refused-encoding, refused-empty, encodings-accepted}
 use Rattle.line.specs.Witness.{goes-out}
 use Rattle.line.specs.WrongLaws.{errors-own}
-use Rattle.line.specs.ErrorWitness.{first-count, first-errors, refused-empty, row-20, erring}
+use Rattle.line.specs.ErrorWitness.{first-count, first-errors, row-20, erring}
 use Rattle.line.specs.Instance.{OneSuperFrame}
 
 -- ---- buffers of zeros
@@ -112,7 +112,8 @@ one-super-frame =
     (λ e. among-hedged Encodings emptyEncoding refused (encodings qam16 given e)) in
     let o = out .0 in
     let w : Side → WordErrors (rowsIn qam16 (o .superframes)) =
-    λ e. first-errors (rowsIn qam16 (o .superframes)) 20 0 (wrongOf e) (row-20 qam16 (o .superframes) (omega (arith, out .1))) (omega arith) (wrong-most e) in
+    λ e. first-errors (rowsIn qam16 (o .superframes)) 20 0 (wrongOf e) (row-20 qam16 (o .superframes) (omega (arith, out .1))) (omega arith)
+    (wrong-most e) in
     let back = erring qam16 o w lent-in lent-back emptyReceiving refused-empty in
     let all : pairsIn qam16 (o .superframes) ≡ 168 = ap (pairsIn qam16) (out .1) ∙ qam16-sizes .2 in (
       o,
@@ -123,12 +124,14 @@ one-super-frame =
         zero = λ e. out .3 e ∙ ap (λ n. buffers n (λ P. replicate 444 0)) (qam16-sizes .2);
         taken = λ e. back .1 .all e ∙ all;
         refused = (refused, refused-empty);
-        between = λ e. hedged-accepted Encodings emptyEncoding refused (encodings qam16 given e) (o .calls e) (encodings-accepted qam16 given e)
+        between = λ e.
+            hedged-accepted Encodings emptyEncoding refused (encodings qam16 given e) (o .calls e) (encodings-accepted qam16 given e)
             (ap (λ (c : Side → List Encoding). c e) (out .2));
         between-back = back .2;
         three = errors-own (w side0) (back .1 .errors side0) ∙ first-count 3 (omega arith);
         lost = λ c a. back .1 .marked side0 c a ∙ first-count 3 (omega arith);
-        others = λ e R r c lr a off. back .1 .spared e R r c lr a (λ q u m. off (wrong-three e (sym (first-count (wrongOf e) (wrong-most e)) ∙ m)) q u);
+        others = λ e R r c lr a off.
+            back .1 .spared e R r c lr a (λ q u m. off (wrong-three e (sym (first-count (wrongOf e) (wrong-most e)) ∙ m)) q u) .0;
         demanded = demand3 qam16 o (back .0);
       },
     )

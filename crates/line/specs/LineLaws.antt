@@ -174,10 +174,12 @@ module _ (p : Profile) where
 
   -- Where the cells of its buffer are those of pairs, it is their bit.
   pub line-pairs : (frames : List (List ℕ)) (pairs : Side → List ℕ) (e : Side) (R C r c : ℕ) → C < 8 → r < 16 → c < 16
-      → OnLine frames (R / 42) (toCells p (interleaved (pairs side0) (pairs side1))) → lineBit p frames e R C r c ≡ bit (pairs e) (pairsBit (R % 42) C r c)
+      → OnLine frames (R / 42) (toCells p (interleaved (pairs side0) (pairs side1)))
+      → lineBit p frames e R C r c ≡ bit (pairs e) (pairsBit (R % 42) C r c)
   line-pairs frames pairs e R C r c lC lr lc on =
       let bits = interleaved (pairs side0) (pairs side1) in
       line-bit frames e R C r c lC lr lc (toCells p bits) on
-      ∙ ap₂ bit (buffer-back p bits (length-interleaved (pairs side0) (pairs side1)) (interleaved-below (pairs side0) (pairs side1))) (outputBit-for e R C r c lC lr lc)
+      ∙ ap₂ bit (buffer-back p bits (length-interleaved (pairs side0) (pairs side1)) (interleaved-below (pairs side0) (pairs side1)))
+      (outputBit-for e R C r c lC lr lc)
       ∙ bit-interleaved-for (encoder e) (R % 42) C r c (encoder-lt e) (omega arith) lC lr lc (pairs side0) (pairs side1)
       ∙ ap (λ (s : List ℕ). bit s (pairsBit (R % 42) C r c)) (pairsOf-side pairs e)

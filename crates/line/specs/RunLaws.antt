@@ -26,7 +26,7 @@ use Rattle.line.specs.Inward.{Heard, receivedPair}
 use Rattle.line.specs.InwardLaws.{length-received}
 use Rattle.line.specs.CallLists.{stateAfter}
 use Rattle.line.specs.CallListLaws.{length-oneByOne, made-at, oneByOne-run, oneByOne-accepted}
-use Rattle.line.specs.Runs.{Given, encodingOf, encodings, LentBack, receivingOf, receivings}
+use Rattle.line.specs.Runs.{Given, encodingOf, encodings, LentBack, receivingOf, receivings, emptyReceiving}
 
 -- ---- encoding
 
@@ -48,6 +48,9 @@ pub refused-receiving : (c : Receiving) → length (c .coded) ≢ 512 → Turned
 unfolding receive
 refused-receiving c n e =
     omega (arith, ap (λ (a : Received). refusalOf (a .answer)) (receive-coded (c .coded) (c .payload) (c .marks) (c .history) (c .pair) n), e)
+
+pub refused-empty : TurnedBack (receive emptyReceiving .answer)
+refused-empty = refused-receiving emptyReceiving (λ e. omega arith)
 
 module _ (p : Profile) (g : Given p) (e : Side) where
   fits : (P : ℕ) (s : State) → P < pairsIn p (g .superframes) → Ready P s → EncodeFits (encodingOf p g e P s)

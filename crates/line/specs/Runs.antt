@@ -12,7 +12,7 @@ use Rattle.bits.specs.Count.{count, differs}
 use Rattle.calls.specs.Sequences.{At, accepted}
 use Rattle.ofec.specs.Rows.{RowBits, wordOf}
 use Rattle.ofec.specs.Calls.{State, start, Encoding, Encodings, Receiving, Receivings, receive, payloads}
-use Rattle.ofec.specs.Promise.{wrongBits, markOf, NotLost}
+use Rattle.ofec.specs.Promise.{wrongBits, markOf, NotLost, AsSent}
 use Rattle.cells.specs.Profile.{Profile, pairsIn, rowsIn}
 use Rattle.cells.specs.Cells.{overheadRule, Legal}
 use Rattle.line.specs.Sides.{Side}
@@ -61,6 +61,13 @@ module _ (p : Profile) (n : ℕ) (h : Heard p n) (room : LentBack) where
   unfoldable pub receivings : Side → ℕ → List Receiving
   receivings e m = oneByOne Receivings (receivingOf e) m 0 start
 
+-- Calls that are lent nothing, which are refused.
+abbrev pub emptyEncoding : Encoding
+emptyEncoding = record { payload = []; coded = []; history = []; pair = 0 }
+
+abbrev pub emptyReceiving : Receiving
+emptyReceiving = record { coded = []; payload = []; marks = []; history = []; pair = 0 }
+
 -- ---- a line that alters nothing
 
 -- Of every pair taken, every mark is 0 and all payload comes back.
@@ -90,11 +97,13 @@ pub record Errors (S W : RowBits) (n : ℕ) (w : WordErrors n) : Type 0 where
 pub record Erring (p : Profile) (o : Outward p) (w : Side → WordErrors (rowsIn p (o .superframes))) (i : Inward p o) : Type 0 where
   pub errors : (e : Side) → Errors (o .sent e) (lineBit p (i .heard .frames) e) (rowsIn p (o .superframes)) (w e)
   pub all : (e : Side) → length (accepted Receivings (i .calls e)) ≡ pairsIn p (o .superframes)
-  -- The mark of that word is the number of its errors: it is lost where they are three, ..
-  pub marked : (e : Side) (c : Receiving) → At (accepted Receivings (i .calls e)) (w e .R / 2) c → markOf (receive c) (w e .R) (w e .r) ≡ count 128 (w e .at)
-  -- .. and no other word is.
+  -- The mark of that word is the number of its errors: 1, 2, or 3 for lost.
+  pub marked : (e : Side) (c : Receiving) → At (accepted Receivings (i .calls e)) (w e .R / 2) c
+      → markOf (receive c) (w e .R) (w e .r) ≡ count 128 (w e .at)
+  -- Unless it has three, it is not lost and repaired, as every other word.
   pub spared : (e : Side) (R r : ℕ) (c : Receiving) → r < 16 → At (accepted Receivings (i .calls e)) (R / 2) c
-      → (R ≡ w e .R → r ≡ w e .r → count 128 (w e .at) ≡ 3 → ⊥) → NotLost (receive c) R r
+      → (R ≡ w e .R → r ≡ w e .r → count 128 (w e .at) ≡ 3 → ⊥)
+      → NotLost (receive c) R r × ((k : ℕ) → 128 ≤ k → k < 256 → AsSent (o .sent e) (receive c) R r k)
 
 -- j errors at the first places of the back half.
 unfoldable pub firstPlaces : ℕ → ℕ → ℕ
@@ -105,12 +114,3 @@ pub record Marked (p : Profile) (o : Outward p) (R r : ℕ) (j : Side → ℕ) (
   pub all : (e : Side) → length (accepted Receivings (i .calls e)) ≡ pairsIn p (o .superframes)
   pub wrong : (e : Side) → wrongBits (o .sent e) (lineBit p (i .heard .frames) e) R r ≡ j e
   pub mark : (e : Side) (c : Receiving) → At (accepted Receivings (i .calls e)) (R / 2) c → markOf (receive c) R r ≡ j e
-
--- ---- refused calls
-
--- Calls that are lent nothing.
-abbrev pub emptyEncoding : Encoding
-emptyEncoding = record { payload = []; coded = []; history = []; pair = 0 }
-
-abbrev pub emptyReceiving : Receiving
-emptyReceiving = record { coded = []; payload = []; marks = []; history = []; pair = 0 }

@@ -31,8 +31,9 @@ use Rattle.line.specs.OutwardLaws.{goes, frames-many, frames-long, frame
 use Rattle.line.specs.InwardLaws.{length-payloads, takes, enough, comes}
 use Rattle.line.specs.CallLists.{Among, hedged, stateAfter}
 use Rattle.line.specs.CallListLaws.{among-run, among-accepted, among-hedged, hedged-accepted}
-use Rattle.line.specs.RunLaws.{encodings-run, encodings-accepted, length-encodings, encodings-payloads, within, receivings-run, receivings-accepted, length-receivings, receivings-order}
-use Rattle.line.specs.Runs.{Given, encodingOf, encodings, LentBack, receivingOf, receivings, AllBack}
+use Rattle.line.specs.RunLaws.{refused-empty, encodings-run, encodings-accepted, length-encodings, encodings-payloads, within}
+use Rattle.line.specs.RunLaws.{receivings-run, receivings-accepted, length-receivings, receivings-order}
+use Rattle.line.specs.Runs.{Given, encodingOf, encodings, LentBack, receivingOf, receivings, AllBack, emptyReceiving}
 use Rattle.line.specs.WrongLaws.{same-words, none-wrong}
 
 -- ---- what goes out
@@ -92,25 +93,22 @@ comes-in p o h m most limit room calls among = (
     many : (e : Side) → length (accepted Receivings (calls e)) ≡ m e
     many e = ap length (taken e) ∙ length-receivings p (o .superframes) h room (within p o e) e (m e) (most e)
 
--- All of them, with a refused call before each and after the last.
-pub comes-in-all : (p : Profile) (o : Outward p) (h : Heard p (o .superframes))
-    → ((e : Side) → Limit (o .sent e) (lineBit p (h .frames) e) (pairsIn p (o .superframes))) → LentBack → (y : Receiving) → TurnedBack (receive y .answer)
+-- And with any refused call before each of them and after the last.
+pub comes-in-hedged : (p : Profile) (o : Outward p) (h : Heard p (o .superframes)) (m : Side → ℕ) → ((e : Side) → m e ≤ pairsIn p (o .superframes))
+    → ((e : Side) → Limit (o .sent e) (lineBit p (h .frames) e) (m e)) → LentBack → (y : Receiving) → TurnedBack (receive y .answer)
     → (i : Inward p o) × (i .heard ≡ h) × ((e : Side) → i .calls e ≡ hedged Receivings y (accepted Receivings (i .calls e)))
-    × ((e : Side) → length (accepted Receivings (i .calls e)) ≡ pairsIn p (o .superframes))
-comes-in-all p o h limit room y bad =
-    let back = comes-in p o h (λ e. all) (λ e. omega arith) limit room (λ e. hedged Receivings y (calls e)) (λ e. among-hedged Receivings y bad (calls e)) in (
+    × ((e : Side) → length (accepted Receivings (i .calls e)) ≡ m e)
+comes-in-hedged p o h m most limit room y bad =
+    let back = comes-in p o h m most limit room (λ e. hedged Receivings y (calls e)) (λ e. among-hedged Receivings y bad (calls e)) in (
       back .0,
       back .1,
-      (λ e. hedged-accepted Receivings y bad (calls e) (back .0 .calls e) (receivings-accepted p (o .superframes) h room (within p o e) e all (omega arith))
-          (ap (λ (c : Side → List Receiving). c e) (back .2))),
+      (λ e. hedged-accepted Receivings y bad (calls e) (back .0 .calls e)
+          (receivings-accepted p (o .superframes) h room (within p o e) e (m e) (most e)) (ap (λ (c : Side → List Receiving). c e) (back .2))),
       back .3,
     )
   where
-    all : ℕ
-    all = pairsIn p (o .superframes)
-
     calls : Side → List Receiving
-    calls e = receivings p (o .superframes) h room e all
+    calls e = receivings p (o .superframes) h room e (m e)
 
 -- ---- a line that alters nothing
 
@@ -131,14 +129,24 @@ unaltered p o overhead long legal lent = (
 )
 
 module _ (p : Profile) (o : Outward p) (h : Heard p (o .superframes)) (same : h .frames ≡ frames p o) where
+  pub unaltered-bits : (e : Side) (R C r c : ℕ) → R < rowsIn p (o .superframes) → C < 8 → r < 16 → c < 16
+      → lineBit p (h .frames) e R C r c ≡ o .sent e R C r c
+  unaltered-bits e R C r c lR lC lr lc = ap (λ (f : List (List ℕ)). lineBit p f e R C r c) same ∙ goes p o .holds e R C r c lR lC lr lc
+
   pub none : (e : Side) (R r : ℕ) → R < rowsIn p (o .superframes) → r < 16 → wrongBits (o .sent e) (lineBit p (h .frames) e) R r ≡ 0
-  none e R r lR lr =
-      none-wrong (o .sent e) (lineBit p (h .frames) e) (rowsIn p (o .superframes))
-      (λ Q C a c lQ lC la lc. ap (λ (f : List (List ℕ)). lineBit p f e Q C a c) same ∙ goes p o .holds e Q C a c lQ lC la lc) R r lR lr
+  none e = none-wrong (o .sent e) (lineBit p (h .frames) e) (rowsIn p (o .superframes)) (unaltered-bits e)
 
   -- It is within the limit.
-  pub unaltered-limit : (e : Side) → Limit (o .sent e) (lineBit p (h .frames) e) (pairsIn p (o .superframes))
-  unaltered-limit e = record { three = λ R r lR lr. omega (arith, none e R r (omega arith) lr) }
+  pub unaltered-limit : (e : Side) (m : ℕ) → m ≤ pairsIn p (o .superframes) → Limit (o .sent e) (lineBit p (h .frames) e) m
+  unaltered-limit e m l = record { three = λ R r lR lr. omega (arith, none e R r (omega arith) lr) }
+
+-- So for every m up to the pairs of the line there are receivers that take just the first m.
+pub first-pairs : (p : Profile) (o : Outward p) (m : Side → ℕ) → ((e : Side) → m e ≤ pairsIn p (o .superframes)) → LentIn → LentBack
+    → (i : Inward p o) × ((e : Side) → length (accepted Receivings (i .calls e)) ≡ m e)
+first-pairs p o m most lent room =
+    let h = unaltered p o (o .overhead) (o .overhead-long) (o .overhead-legal) lent in
+    let back = comes-in-hedged p o (h .0) m most (λ e. unaltered-limit p o (h .0) (h .1) e (m e) (most e)) room emptyReceiving refused-empty in
+    (back .0, back .3)
 
 module _ (p : Profile) (o : Outward p) (i : Inward p o) where
   -- Where the front half of a word was delivered right, its mark is the number of its wrong bits.
@@ -156,9 +164,6 @@ module _ (p : Profile) (o : Outward p) (i : Inward p o) where
   unfolding ownIndex
   all-back same = record { marks = marks-back; payload = payload-back }
     where
-      agree : (e : Side) (Q C a c : ℕ) → Q < rowsIn p (o .superframes) → C < 8 → a < 16 → c < 16 → lineBit p (i .heard .frames) e Q C a c ≡ o .sent e Q C a c
-      agree e Q C a c lQ lC la lc = ap (λ (f : List (List ℕ)). lineBit p f e Q C a c) same ∙ goes p o .holds e Q C a c lQ lC la lc
-
       sound : (e : Side) (R r : ℕ) (c : Receiving) → r < 16 → At (accepted Receivings (i .calls e)) (R / 2) c
           → wrongBits (o .sent e) (lineBit p (i .heard .frames) e) R r ≡ 0
       sound e R r c lr a = none p o (i .heard) same e R r (taken-row e R c a) lr
@@ -171,7 +176,9 @@ module _ (p : Profile) (o : Outward p) (i : Inward p o) where
           let R = 2 * P + w / 16 in
           let b : At (accepted Receivings (i .calls e)) ((2 * P + w / 16) / 2) c = subst (λ Q. At (accepted Receivings (i .calls e)) Q c) (omega arith) a in
           ap (λ k. getD (receive c .marks) k 0) (word w P lw)
-          ∙ exact e R (w % 16) c (omega arith) b (λ k l. same-words (o .sent e) (lineBit p (i .heard .frames) e) _ (agree e) R (w % 16) k (taken-row e R c b) (omega arith) (omega arith))
+          ∙ exact e R (w % 16) c (omega arith) b
+          (λ k l. same-words (o .sent e) (lineBit p (i .heard .frames) e) (rowsIn p (o .superframes)) (unaltered-bits p o (i .heard) same e) R (w % 16) k
+          (taken-row e R c b) (omega arith) (omega arith))
           ∙ sound e R (w % 16) c (omega arith) b
         where
           word : (w P : ℕ) → w < 32 → w ≡ 16 * ((2 * P + w / 16) % 2) + w % 16
@@ -235,7 +242,9 @@ there-and-back p g lent room x bad y worse =
     let out = goes-out p g (λ e. hedged Encodings x (encodings p g e)) (λ e. among-hedged Encodings x bad (encodings p g e)) in
     let o = out .0 in
     let h = unaltered p o (o .overhead) (o .overhead-long) (o .overhead-legal) lent in
-    let back = comes-in-all p o (h .0) (unaltered-limit p o (h .0) (h .1)) room y worse in (
+    let all : (e : Side) → pairsIn p (o .superframes) ≤ pairsIn p (o .superframes) = λ e. omega arith in
+    let back =
+    comes-in-hedged p o (h .0) (λ e. pairsIn p (o .superframes)) all (λ e. unaltered-limit p o (h .0) (h .1) e (pairsIn p (o .superframes)) (all e)) room y worse in (
       o,
       back .0,
       (λ e. ap (λ (c : Side → List Encoding). c e) (out .2)),

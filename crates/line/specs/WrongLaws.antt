@@ -1,5 +1,5 @@
--- Laws of wrong bits: none in a line that alters nothing; and since two words share at most one bit, errors in the back half of one word are at most
--- one in every other.
+-- Laws of wrong bits: none in a line that alters nothing; and, since two words share at most one bit, at most one in every word but that
+-- whose back half has the errors.
 -- Assumes nothing.
 use mathlib.Core.Path.{_≡_, refl, sym, ap, ap₂, _∙_}
 use mathlib.Core.Bool.{Bool, true, false, cond}
@@ -52,7 +52,8 @@ module _ {S W : RowBits} {n : ℕ} (w : WordErrors n) (errors : Errors S W n w) 
     where
       go : Place (w .R) (w .r) k → wordOf W (w .R) (w .r) k ≡ wordOf S (w .R) (w .r) k
       go (zeros m is) = is W ∙ sym (is S)
-      go (before Q C a c m lo hi lC la lc is) = is W ∙ errors .right Q C a c (omega (arith, w .row)) lC la lc (λ q s. omega arith) ∙ sym (is S)
+      go (before Q C a c m lo hi lC la lc is) =
+          is W ∙ errors .right Q C a c (omega (arith, w .row)) lC la lc (λ q s. omega arith) ∙ sym (is S)
       go (own C c m lC lc is) = absurd (omega arith)
 
   -- Its wrong bits are the errors, ..
@@ -69,7 +70,7 @@ module _ {S W : RowBits} {n : ℕ} (w : WordErrors n) (errors : Errors S W n w) 
       wrong : ℕ → ℕ
       wrong k = differs (wordOf W (w .R) (w .r) k) (wordOf S (w .R) (w .r) k)
 
-  -- .. and every other word has at most one: that in row R, bit row r and the column that is its own bit row.
+  -- .. and every other word (Q, s) shares at most one bit with its back half, that of row R, bit row r and column s: so it has at most one.
   pub errors-other : (Q s : ℕ) → Q < n → s < 16 → (Q ≡ w .R → s ≡ w .r → ⊥) → wrongBits S W Q s ≤ 1
   unfolding wrongBits frontBit backBit
   errors-other Q s lQ ls off = one-place (wordOf W Q s) (wordOf S Q s) shared (omega arith) (λ k lk ne. at k lk ne (decLt k 128) (decLt Q 20))
@@ -142,12 +143,14 @@ module _ {n : ℕ} (S : RowBits) (w : WordErrors n) where
       wrong : (k : ℕ) → k < 128 → differs (wordOf W (w .R) (w .r) (128 + k)) (wordOf S (w .R) (w .r) (128 + k)) ≡ w .at k
       wrong k l =
           let low : 128 ≤ 128 + k = omega arith in
+          let C = (128 + k - 128) / 16 in
           let lC : (128 + k - 128) / 16 < 8 = omega arith in
+          let c = ((128 + k) % 16) ⊕ w .r in
           let lc : ((128 + k) % 16) ⊕ w .r < 16 = xor-16 ((128 + k) % 16) (w .r) (omega arith) (w .bit-row) in
-          let b = S (w .R) ((128 + k - 128) / 16) (w .r) (((128 + k) % 16) ⊕ w .r) in
+          let b = S (w .R) C (w .r) c in
           ap₂ differs
-          (word-back W (w .R) (w .r) (128 + k) low ∙ is (w .R) ((128 + k - 128) / 16) (w .r) (((128 + k) % 16) ⊕ w .r) (w .row) lC (w .bit-row) lc
+          (word-back W (w .R) (w .r) (128 + k) low ∙ is (w .R) C (w .r) c (w .row) lC (w .bit-row) lc
           ∙ simp (eq-eqb (16 * w .R + w .r) (16 * w .R + w .r) refl))
           (word-back S (w .R) (w .r) (128 + k) low)
-          ∙ ap (λ x. differs (differs b (w .at x)) b) (ap (λ x. 16 * ((128 + k - 128) / 16) + x) (xor-back ((128 + k) % 16) (w .r)) ∙ omega arith)
-          ∙ differs-twice b (w .at k) (bits (w .R) ((128 + k - 128) / 16) (w .r) (((128 + k) % 16) ⊕ w .r) (w .row) lC (w .bit-row) lc) (w .bits k l)
+          ∙ ap (λ x. differs (differs b (w .at x)) b) (ap (λ x. 16 * C + x) (xor-back ((128 + k) % 16) (w .r)) ∙ omega arith)
+          ∙ differs-twice b (w .at k) (bits (w .R) C (w .r) c (w .row) lC (w .bit-row) lc) (w .bits k l)
