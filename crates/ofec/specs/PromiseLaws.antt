@@ -29,7 +29,7 @@ use Rattle.ofec.specs.ReceivingLaws.{newest-bit, payload-bit, mark-is, r
 use Rattle.ofec.specs.WordLaws.{Outcome}
 use Rattle.ofec.specs.Calls.{Encoded, Received, State, state, start, Encoding, Receiving, encode, receive, Encodings, Receivings, payloads}
 use Rattle.ofec.specs.CallLaws.{encode-accepted, encode-keeps, receiveDone, receive-accepted, receive-keeps}
-use Rattle.ofec.specs.Promise.{Holds, Takes, wrongBits, Limit, markOf, NotLost, AsSent, Promise}
+use Rattle.ofec.specs.Promise.{Holds, Takes, wrongBits, Limit, markOf, AsSent, Promise}
 
 -- ---- what each accepted call is lent
 
