@@ -27,7 +27,7 @@ use Rattle.bch.specs.declared.Repair.the-variants.{Two, Lost}
 unfoldable pub setAt : List ℕ → Word
 setAt ps k = coefficient ps k
 
-set-bits : (ps : List ℕ) → Bits (setAt ps)
+pub set-bits : (ps : List ℕ) → Bits (setAt ps)
 unfolding setAt coefficient
 set-bits [] k l = lit< tt
 set-bits (p ∷ ps) k l = go (ℕ-discrete p k) (set-bits ps k l)
@@ -36,10 +36,10 @@ set-bits (p ∷ ps) k l = go (ℕ-discrete p k) (set-bits ps k l)
     go (yes e) rest = simp (eq-eqb p k e) (lit< tt)
     go (no n) rest = simp (ne-eqb p k n) rest
 
-zeroWord : Word
+unfoldable pub zeroWord : Word
 zeroWord = setAt []
 
-zero-code-word : CodeWord zeroWord
+pub zero-code-word : CodeWord zeroWord
 unfolding zeroWord setAt coefficient remainder reduce parity count
 zero-code-word = record { bits = set-bits []; divisible = refl; even = refl }
 

@@ -16,4 +16,5 @@ pub mod QuotientLaws
 pub mod Calls
 pub mod CallLaws
 pub mod BenchValues
+pub mod Tight
 pub mod CheckLaws

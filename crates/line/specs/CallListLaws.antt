@@ -1,6 +1,6 @@
 -- Laws of such lists: they are runs, refused calls among them do not matter, and each call is made of its number.
 -- Assumes nothing.
-use mathlib.Core.Path.{_≡_, refl, ap, _∙_}
+use mathlib.Core.Path.{_≡_, refl, sym, ap, _∙_}
 use mathlib.Core.Bool.{cond}
 use mathlib.Core.List.{List, [], _∷_}
 use mathlib.Core.Logic.{_≢_}
@@ -36,6 +36,11 @@ module _ (K : Kind) where
   unfolding hedged
   among-hedged c bad [] = more bad none
   among-hedged c bad (d ∷ ds) = more bad (same (among-hedged c bad ds))
+
+  -- Accepted calls with a refused one before each and after the last.
+  pub hedged-accepted : (c : K .Call) → K .number c ≢ 0 → (cs ds : List (K .Call)) → accepted K cs ≡ cs
+      → ds ≡ hedged K c cs → ds ≡ hedged K c (accepted K ds)
+  hedged-accepted c bad cs ds all is = is ∙ ap (hedged K c) (sym (ap (accepted K) is ∙ among-accepted (among-hedged c bad cs) ∙ all))
 
   -- ---- calls one after the other
 

@@ -1,7 +1,9 @@
 -- The statement of demand 3, top down: Demand3 (the claims), Outward and Inward (what goes out and what comes in), Line (the bit that
 -- the cells of a line give), Sides. Theorem is its proof, over LineLaws, OutwardLaws and InwardLaws,
 -- for every profile; Profiles names it for each.
--- Witness shows that it says something: Runs (what runs are made of), CallLists (calls one after the other, refused ones among them).
+-- Witness and ErrorWitness show that it says something, for runs there and back and for lines with errors: Runs (what they are made of and
+-- what is claimed of them), CallLists (calls one after the other, refused ones among them), AnyLine (any bits come off some line). Instance
+-- is one run with nothing left open.
 -- BenchValues are those of 01 with a dagger, together.
 pub mod Sides
 pub mod Line
@@ -9,6 +11,8 @@ pub mod Outward
 pub mod Inward
 pub mod Demand3
 pub mod LineLaws
+pub mod FramedLine
+pub mod AnyLine
 pub mod OutwardLaws
 pub mod InwardLaws
 pub mod Theorem
@@ -19,5 +23,8 @@ pub mod Runs
 pub mod RunLaws
 pub mod WrongLaws
 pub mod Witness
+pub mod ErrorWitness
+pub mod Instance
+pub mod InstanceLaws
 pub mod BenchValues
 pub mod BenchLaws

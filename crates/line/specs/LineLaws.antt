@@ -12,13 +12,13 @@ use Rattle.bits.specs.ListLaws.{getD-tabulate}
 use Rattle.bits.specs.Bits.{bitOf, bit}
 use Rattle.bits.specs.DigitLaws.{digit-lt, digits, group-of, place-of, place-lt, group-lt}
 use Rattle.ofec.specs.Pairs.{pairIndex, pairBit}
-use Rattle.interleaving.specs.Interleaving.{pairsBit, pairsOf}
+use Rattle.interleaving.specs.Interleaving.{pairsBit, pairsOf, interleaved}
 use Rattle.interleaving.specs.PositionLaws.{outputFor}
-use Rattle.interleaving.specs.InterleavingLaws.{pairsBit-lt, outputOf-lt, output-for}
+use Rattle.interleaving.specs.InterleavingLaws.{pairsBit-lt, outputOf-lt, output-for, length-interleaved, interleaved-below, bit-interleaved-for}
 use Rattle.cells.specs.Profile.{Profile, symbolOf, cellsPerBuffer, buffersIn}
-use Rattle.cells.specs.Cells.{toBits}
+use Rattle.cells.specs.Cells.{toCells, toBits}
 use Rattle.cells.specs.ProfileLaws.{width-pos, buffer-whole, cells-pos}
-use Rattle.cells.specs.CellLaws.{toBits-bit, buffer-bits}
+use Rattle.cells.specs.CellLaws.{toBits-bit, buffer-bits, buffer-back}
 use Rattle.line.specs.Sides.{Side, side0, side1, encoder, buffers}
 use Rattle.line.specs.Line.{outputBit, payloadCellOf, lineByte, lineBit}
 use Rattle.line.specs.Outward.{pairsOfBuffer}
@@ -172,3 +172,15 @@ module _ (p : Profile) where
           let d : i / 2 ≡ k = omega arith in
           let m : i % 2 ≡ h = omega arith in
           on .bytes i (omega (arith, lk)) ∙ ap₂ (λ x b. lineByte frames (R / 42 / p .bits) (R / 42 % p .bits * cellsPerBuffer p + x) b) d m
+
+  -- Where the cells of its buffer are those of pairs, it is their bit.
+  pub line-pairs : (frames : List (List ℕ)) (pairs : Side → List ℕ) (e : Side) (R C r c : ℕ) → C < 8 → r < 16 → c < 16
+      → OnLine frames (R / 42) (toCells p (interleaved (pairs side0) (pairs side1)))
+      → lineBit p frames e R C r c ≡ bit (pairs e) (pairsBit (R % 42) C r c)
+  line-pairs frames pairs e R C r c lC lr lc on =
+      let bits = interleaved (pairs side0) (pairs side1) in
+      line-bit frames e R C r c lC lr lc (toCells p bits) on
+      ∙ ap₂ bit (buffer-back p bits (length-interleaved (pairs side0) (pairs side1)) (interleaved-below (pairs side0) (pairs side1)))
+      (outputBit-for e R C r c lC lr lc)
+      ∙ bit-interleaved-for (encoder e) (R % 42) C r c (encoder-lt e) (omega arith) lC lr lc (pairs side0) (pairs side1)
+      ∙ ap (λ (s : List ℕ). bit s (pairsBit (R % 42) C r c)) (pairsOf-side pairs e)

@@ -26,7 +26,7 @@ use Rattle.line.specs.Inward.{Heard, receivedPair}
 use Rattle.line.specs.InwardLaws.{length-received}
 use Rattle.line.specs.CallLists.{stateAfter}
 use Rattle.line.specs.CallListLaws.{length-oneByOne, made-at, oneByOne-run, oneByOne-accepted}
-use Rattle.line.specs.Runs.{Given, encodingOf, encodings, LentBack, receivingOf, receivings}
+use Rattle.line.specs.Runs.{Given, encodingOf, encodings, LentBack, receivingOf, receivings, emptyReceiving}
 
 -- ---- encoding
 
@@ -48,6 +48,9 @@ pub refused-receiving : (c : Receiving) → length (c .coded) ≢ 512 → Turned
 unfolding receive
 refused-receiving c n e =
     omega (arith, ap (λ (a : Received). refusalOf (a .answer)) (receive-coded (c .coded) (c .payload) (c .marks) (c .history) (c .pair) n), e)
+
+pub refused-empty : TurnedBack (receive emptyReceiving .answer)
+refused-empty = refused-receiving emptyReceiving (λ e. omega arith)
 
 module _ (p : Profile) (g : Given p) (e : Side) where
   fits : (P : ℕ) (s : State) → P < pairsIn p (g .superframes) → Ready P s → EncodeFits (encodingOf p g e P s)
@@ -136,21 +139,22 @@ module _ (p : Profile) (n : ℕ) (h : Heard p n) (room : LentBack) (small : pair
         pair = ap (λ (a : Received). valueOr (a .answer) (c .pair)) is ∙ omega (arith, r .pair);
       }
 
-  pub receivings-run : Run Receivings start (receivings p n h room e) (stateAfter Receivings (receivingOf p n h room e) (pairsIn p n) 0 start)
-  unfolding receivings
-  receivings-run = oneByOne-run Receivings (receivingOf p n h room e) Ready (pairsIn p n) accepts-back (λ P s. refl) leaves-back (pairsIn p n) 0 start (omega arith) ready-fresh
+  module _ (m : ℕ) (lm : m ≤ pairsIn p n) where
+    pub receivings-run : Run Receivings start (receivings p n h room e m) (stateAfter Receivings (receivingOf p n h room e) m 0 start)
+    unfolding receivings
+    receivings-run = oneByOne-run Receivings (receivingOf p n h room e) Ready (pairsIn p n) accepts-back (λ P s. refl) leaves-back m 0 start (omega arith) ready-fresh
 
-  pub receivings-accepted : accepted Receivings (receivings p n h room e) ≡ receivings p n h room e
-  unfolding receivings
-  receivings-accepted =
-      oneByOne-accepted Receivings (receivingOf p n h room e) Ready (pairsIn p n) accepts-back (λ P s. refl) leaves-back (pairsIn p n) 0 start (omega arith) ready-fresh
+    pub receivings-accepted : accepted Receivings (receivings p n h room e m) ≡ receivings p n h room e m
+    unfolding receivings
+    receivings-accepted =
+        oneByOne-accepted Receivings (receivingOf p n h room e) Ready (pairsIn p n) accepts-back (λ P s. refl) leaves-back m 0 start (omega arith) ready-fresh
 
-  pub length-receivings : length (receivings p n h room e) ≡ pairsIn p n
-  unfolding receivings
-  length-receivings = length-oneByOne Receivings (receivingOf p n h room e) (pairsIn p n) 0 start
+    pub length-receivings : length (receivings p n h room e m) ≡ m
+    unfolding receivings
+    length-receivings = length-oneByOne Receivings (receivingOf p n h room e) m 0 start
 
-  pub receivings-order : (P : ℕ) (c : Receiving) → At (receivings p n h room e) P c → c .coded ≡ receivedPair p n h e P
-  unfolding receivings
-  receivings-order P c a =
-      let m = made-at Receivings (receivingOf p n h room e) (pairsIn p n) 0 start P c a in
-      ap (λ (d : Receiving). d .coded) (m .1) ∙ ap (receivedPair p n h e) (omega arith)
+    pub receivings-order : (P : ℕ) (c : Receiving) → At (receivings p n h room e m) P c → c .coded ≡ receivedPair p n h e P
+    unfolding receivings
+    receivings-order P c a =
+        let made = made-at Receivings (receivingOf p n h room e) m 0 start P c a in
+        ap (λ (d : Receiving). d .coded) (made .1) ∙ ap (receivedPair p n h e) (omega arith)

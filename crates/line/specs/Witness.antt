@@ -1,5 +1,5 @@
 -- That demand 3 says something: runs of every size with any payloads and refused calls anywhere, receivers that take all pairs of any line
--- within the limit, all payload back over an unaltered line, and one wrong bit repaired where its word is first checked.
+-- within the limit or only the first so many, and all payload back over an unaltered line. (Lines with errors: ErrorWitness.antt.)
 -- Assumes nothing.
 use mathlib.Core.Path.{_≡_, refl, sym, ap, ap₂, _∙_, subst}
 use mathlib.Core.List.{List, [], map}
@@ -11,8 +11,7 @@ use Rattle.bits.specs.BitLaws.{pack-below, bits-equal}
 use Rattle.calls.specs.Answers.{TurnedBack}
 use Rattle.calls.specs.Sequences.{At, accepted}
 use Rattle.calls.specs.SequenceLaws.{At-lt, At-find, At-map, is-accepted}
-use Rattle.ofec.specs.Rows.{payloadIndex}
-use Rattle.ofec.specs.RowLaws.{word-at, backPlace, backPlace-low, backPlace-lt}
+use Rattle.ofec.specs.Rows.{wordOf, payloadIndex}
 use Rattle.ofec.specs.Pairs.{laidOut, ownIndex, payloadOf}
 use Rattle.ofec.specs.PairLaws.{ownWord, ownPlace, own-from, length-payloadOf}
 use Rattle.ofec.specs.EncodingLaws.{payloadBit-own}
@@ -20,8 +19,8 @@ use Rattle.ofec.specs.SentLaws.{madeBits, sent-exists}
 use Rattle.ofec.specs.Receiving.{mendedWord, payloadOut}
 use Rattle.ofec.specs.Calls.{start, Encoding, encode, Encodings, Received, Receiving, receive, Receivings, payloads}
 use Rattle.ofec.specs.CallLaws.{encode-accepted, encode-separate, receive-accepted, receive-separate}
-use Rattle.ofec.specs.Promise.{wrongBits, Limit, markOf, NotLost, AsSent}
-use Rattle.ofec.specs.PromiseLaws.{mark-within, mark-some}
+use Rattle.ofec.specs.Promise.{wrongBits, Limit, markOf, NotLost}
+use Rattle.ofec.specs.PromiseLaws.{mark-exact}
 use Rattle.cells.specs.Profile.{Profile, pairsIn, rowsIn}
 use Rattle.cells.specs.Cells.{overheadRule, Legal}
 use Rattle.line.specs.Sides.{Side}
@@ -31,10 +30,11 @@ use Rattle.line.specs.Inward.{LentIn, Heard, Inward}
 use Rattle.line.specs.OutwardLaws.{goes, frames-many, frames-long, frames-legal}
 use Rattle.line.specs.InwardLaws.{length-payloads, takes, enough, comes}
 use Rattle.line.specs.CallLists.{Among, hedged, stateAfter}
-use Rattle.line.specs.CallListLaws.{among-run, among-accepted, among-hedged}
-use Rattle.line.specs.RunLaws.{encodings-run, encodings-accepted, length-encodings, encodings-payloads, within, receivings-run, receivings-accepted, length-receivings, receivings-order}
-use Rattle.line.specs.Runs.{Given, encodingOf, encodings, LentBack, receivingOf, receivings, AllBack, OneWrong}
-use Rattle.line.specs.WrongLaws.{none-wrong, one-wrong}
+use Rattle.line.specs.CallListLaws.{among-run, among-accepted, among-hedged, hedged-accepted}
+use Rattle.line.specs.RunLaws.{refused-empty, encodings-run, encodings-accepted, length-encodings, encodings-payloads, within}
+use Rattle.line.specs.RunLaws.{receivings-run, receivings-accepted, length-receivings, receivings-order}
+use Rattle.line.specs.Runs.{Given, encodingOf, encodings, LentBack, receivingOf, receivings, AllBack, emptyReceiving}
+use Rattle.line.specs.WrongLaws.{same-words, none-wrong}
 
 -- ---- what goes out
 
@@ -66,31 +66,49 @@ goes-out p g calls among = (
 
 -- ---- what comes in
 
--- For all that goes out and every line within the limit, and whatever refused calls stand before, between and after, there are receiving
--- calls that take all pairs of both encoders.
-pub comes-in : (p : Profile) (o : Outward p) (h : Heard p (o .superframes)) → ((e : Side) → Limit (o .sent e) (lineBit p (h .frames) e) (pairsIn p (o .superframes))) → (room : LentBack)
-    → (calls : Side → List Receiving) → ((e : Side) → Among Receivings (receivings p (o .superframes) h room e) (calls e))
-    → (i : Inward p o) × (i .heard ≡ h) × (i .calls ≡ calls) × ((e : Side) → length (accepted Receivings (i .calls e)) ≡ pairsIn p (o .superframes))
-comes-in p o h limit room calls among = (
+-- For all that goes out, for every m up to the pairs of the line, for every line within the limit in the first m pairs, and whatever refused
+-- calls stand before, between and after, there are receiving calls that take just the first m pairs; m may be another for each encoder.
+pub comes-in : (p : Profile) (o : Outward p) (h : Heard p (o .superframes)) (m : Side → ℕ) → ((e : Side) → m e ≤ pairsIn p (o .superframes))
+    → ((e : Side) → Limit (o .sent e) (lineBit p (h .frames) e) (m e)) → (room : LentBack)
+    → (calls : Side → List Receiving) → ((e : Side) → Among Receivings (receivings p (o .superframes) h room e (m e)) (calls e))
+    → (i : Inward p o) × (i .heard ≡ h) × (i .calls ≡ calls) × ((e : Side) → length (accepted Receivings (i .calls e)) ≡ m e)
+comes-in p o h m most limit room calls among = (
   record {
     heard = h;
     calls = calls;
-    last = λ e. stateAfter Receivings (receivingOf p (o .superframes) h room e) (pairsIn p (o .superframes)) 0 start;
-    runs = λ e. among-run Receivings receive-separate (among e) (receivings-run p (o .superframes) h room (within p o e) e);
-    some = λ e. omega (arith, all e);
-    in-order = λ e P c a. receivings-order p (o .superframes) h room (within p o e) e P c (subst (λ l. At l P c) (taken e) a);
-    limit = λ e. subst (λ k. Limit (o .sent e) (lineBit p (h .frames) e) k) (sym (all e)) (limit e);
+    last = λ e. stateAfter Receivings (receivingOf p (o .superframes) h room e) (m e) 0 start;
+    runs = λ e. among-run Receivings receive-separate (among e) (receivings-run p (o .superframes) h room (within p o e) e (m e) (most e));
+    some = λ e. omega (arith, many e, most e);
+    in-order = λ e P c a. receivings-order p (o .superframes) h room (within p o e) e (m e) (most e) P c (subst (λ l. At l P c) (taken e) a);
+    limit = λ e. subst (λ k. Limit (o .sent e) (lineBit p (h .frames) e) k) (sym (many e)) (limit e);
   },
   refl,
   refl,
-  all,
+  many,
 )
   where
-    taken : (e : Side) → accepted Receivings (calls e) ≡ receivings p (o .superframes) h room e
-    taken e = among-accepted Receivings (among e) ∙ receivings-accepted p (o .superframes) h room (within p o e) e
+    taken : (e : Side) → accepted Receivings (calls e) ≡ receivings p (o .superframes) h room e (m e)
+    taken e = among-accepted Receivings (among e) ∙ receivings-accepted p (o .superframes) h room (within p o e) e (m e) (most e)
 
-    all : (e : Side) → length (accepted Receivings (calls e)) ≡ pairsIn p (o .superframes)
-    all e = ap length (taken e) ∙ length-receivings p (o .superframes) h room (within p o e) e
+    many : (e : Side) → length (accepted Receivings (calls e)) ≡ m e
+    many e = ap length (taken e) ∙ length-receivings p (o .superframes) h room (within p o e) e (m e) (most e)
+
+-- And with any refused call before each of them and after the last.
+pub comes-in-hedged : (p : Profile) (o : Outward p) (h : Heard p (o .superframes)) (m : Side → ℕ) → ((e : Side) → m e ≤ pairsIn p (o .superframes))
+    → ((e : Side) → Limit (o .sent e) (lineBit p (h .frames) e) (m e)) → LentBack → (y : Receiving) → TurnedBack (receive y .answer)
+    → (i : Inward p o) × (i .heard ≡ h) × ((e : Side) → i .calls e ≡ hedged Receivings y (accepted Receivings (i .calls e)))
+    × ((e : Side) → length (accepted Receivings (i .calls e)) ≡ m e)
+comes-in-hedged p o h m most limit room y bad =
+    let back = comes-in p o h m most limit room (λ e. hedged Receivings y (calls e)) (λ e. among-hedged Receivings y bad (calls e)) in (
+      back .0,
+      back .1,
+      (λ e. hedged-accepted Receivings y bad (calls e) (back .0 .calls e)
+          (receivings-accepted p (o .superframes) h room (within p o e) e (m e) (most e)) (ap (λ (c : Side → List Receiving). c e) (back .2))),
+      back .3,
+    )
+  where
+    calls : Side → List Receiving
+    calls e = receivings p (o .superframes) h room e (m e)
 
 -- ---- a line that alters nothing
 
@@ -111,23 +129,34 @@ unaltered p o overhead long legal lent = (
 )
 
 module _ (p : Profile) (o : Outward p) (h : Heard p (o .superframes)) (same : h .frames ≡ frames p o) where
+  pub unaltered-bits : (e : Side) (R C r c : ℕ) → R < rowsIn p (o .superframes) → C < 8 → r < 16 → c < 16
+      → lineBit p (h .frames) e R C r c ≡ o .sent e R C r c
+  unaltered-bits e R C r c lR lC lr lc = ap (λ (f : List (List ℕ)). lineBit p f e R C r c) same ∙ goes p o .holds e R C r c lR lC lr lc
+
   pub none : (e : Side) (R r : ℕ) → R < rowsIn p (o .superframes) → r < 16 → wrongBits (o .sent e) (lineBit p (h .frames) e) R r ≡ 0
-  none e R r lR lr =
-      none-wrong (o .sent e) (lineBit p (h .frames) e) (rowsIn p (o .superframes))
-      (λ Q C a c lQ lC la lc. ap (λ (f : List (List ℕ)). lineBit p f e Q C a c) same ∙ goes p o .holds e Q C a c lQ lC la lc) R r lR lr
+  none e = none-wrong (o .sent e) (lineBit p (h .frames) e) (rowsIn p (o .superframes)) (unaltered-bits e)
 
   -- It is within the limit.
-  pub unaltered-limit : (e : Side) → Limit (o .sent e) (lineBit p (h .frames) e) (pairsIn p (o .superframes))
-  unaltered-limit e = record { three = λ R r lR lr. omega (arith, none e R r (omega arith) lr) }
+  pub unaltered-limit : (e : Side) (m : ℕ) → m ≤ pairsIn p (o .superframes) → Limit (o .sent e) (lineBit p (h .frames) e) m
+  unaltered-limit e m l = record { three = λ R r lR lr. omega (arith, none e R r (omega arith) lr) }
+
+-- So for every m up to the pairs of the line there are receivers that take just the first m.
+pub first-pairs : (p : Profile) (o : Outward p) (m : Side → ℕ) → ((e : Side) → m e ≤ pairsIn p (o .superframes)) → LentIn → LentBack
+    → (i : Inward p o) × ((e : Side) → length (accepted Receivings (i .calls e)) ≡ m e)
+first-pairs p o m most lent room =
+    let h = unaltered p o (o .overhead) (o .overhead-long) (o .overhead-legal) lent in
+    let back = comes-in-hedged p o (h .0) m most (λ e. unaltered-limit p o (h .0) (h .1) e (m e) (most e)) room emptyReceiving refused-empty in
+    (back .0, back .3)
 
 module _ (p : Profile) (o : Outward p) (i : Inward p o) where
-  marked : (e : Side) (R r : ℕ) (c : Receiving) → r < 16 → At (accepted Receivings (i .calls e)) (R / 2) c → NotLost (receive c) R r
-      → markOf (receive c) R r ≤ wrongBits (o .sent e) (lineBit p (i .heard .frames) e) R r
-  marked e R r c lr a n =
-      mark-within (o .sent e) (lineBit p (i .heard .frames) e) (payloads (o .calls e)) (o .formulas e) (i .calls e) (i .runs e) (enough p o i e) (takes p o i e) (i .limit e)
-      R r c lr a n
+  -- Where the front half of a word was delivered right, its mark is the number of its wrong bits.
+  pub exact : (e : Side) (R r : ℕ) (c : Receiving) → r < 16 → At (accepted Receivings (i .calls e)) (R / 2) c
+      → ((k : ℕ) → k < 128 → wordOf (lineBit p (i .heard .frames) e) R r k ≡ wordOf (o .sent e) R r k)
+      → markOf (receive c) R r ≡ wrongBits (o .sent e) (lineBit p (i .heard .frames) e) R r
+  exact e =
+      mark-exact (o .sent e) (lineBit p (i .heard .frames) e) (payloads (o .calls e)) (o .formulas e) (i .calls e) (i .runs e) (enough p o i e) (takes p o i e) (i .limit e)
 
-  taken-row : (e : Side) (R : ℕ) (c : Receiving) → At (accepted Receivings (i .calls e)) (R / 2) c → R < rowsIn p (o .superframes)
+  pub taken-row : (e : Side) (R : ℕ) (c : Receiving) → At (accepted Receivings (i .calls e)) (R / 2) c → R < rowsIn p (o .superframes)
   taken-row e R c a = omega (arith, At-lt a, i .some e)
 
   -- All comes back over it.
@@ -147,7 +176,10 @@ module _ (p : Profile) (o : Outward p) (i : Inward p o) where
           let R = 2 * P + w / 16 in
           let b : At (accepted Receivings (i .calls e)) ((2 * P + w / 16) / 2) c = subst (λ Q. At (accepted Receivings (i .calls e)) Q c) (omega arith) a in
           ap (λ k. getD (receive c .marks) k 0) (word w P lw)
-          ∙ omega (arith, marked e R (w % 16) c (omega arith) b (kept e R (w % 16) c (omega arith) b), sound e R (w % 16) c (omega arith) b)
+          ∙ exact e R (w % 16) c (omega arith) b
+          (λ k l. same-words (o .sent e) (lineBit p (i .heard .frames) e) (rowsIn p (o .superframes)) (unaltered-bits p o (i .heard) same e) R (w % 16) k
+          (taken-row e R c b) (omega arith) (omega arith))
+          ∙ sound e R (w % 16) c (omega arith) b
         where
           word : (w P : ℕ) → w < 32 → w ≡ 16 * ((2 * P + w / 16) % 2) + w % 16
           word w P l = let m : (2 * P + w / 16) % 2 ≡ w / 16 = omega arith in rw m (omega arith)
@@ -210,9 +242,9 @@ there-and-back p g lent room x bad y worse =
     let out = goes-out p g (λ e. hedged Encodings x (encodings p g e)) (λ e. among-hedged Encodings x bad (encodings p g e)) in
     let o = out .0 in
     let h = unaltered p o (o .overhead) (o .overhead-long) (o .overhead-legal) lent in
+    let all : (e : Side) → pairsIn p (o .superframes) ≤ pairsIn p (o .superframes) = λ e. omega arith in
     let back =
-    comes-in p o (h .0) (unaltered-limit p o (h .0) (h .1)) room (λ e. hedged Receivings y (receivings p (o .superframes) (h .0) room e))
-    (λ e. among-hedged Receivings y worse (receivings p (o .superframes) (h .0) room e)) in (
+    comes-in-hedged p o (h .0) (λ e. pairsIn p (o .superframes)) all (λ e. unaltered-limit p o (h .0) (h .1) e (pairsIn p (o .superframes)) (all e)) room y worse in (
       o,
       back .0,
       (λ e. ap (λ (c : Side → List Encoding). c e) (out .2)),
@@ -220,34 +252,3 @@ there-and-back p g lent room x bad y worse =
       back .3,
       all-back p o (back .0) (ap (λ (k : Heard p (o .superframes)). k .frames) (back .1) ∙ h .1),
     )
-
--- ---- a line that alters one bit
-
-module _ (p : Profile) (o : Outward p) (h : Heard p (o .superframes)) (e : Side) (R C r c : ℕ) (lC : C < 8) (lr : r < 16) (lc : c < 16)
-    (one : OneWrong (o .sent e) (lineBit p (h .frames) e) (rowsIn p (o .superframes)) R C r c) where
-  -- It is within the limit.
-  pub one-limit : Limit (o .sent e) (lineBit p (h .frames) e) (pairsIn p (o .superframes))
-  one-limit = record { three = λ Q s lQ ls. omega (arith, one-wrong lC lr lc one Q s (omega arith) ls) }
-
-module _ (p : Profile) (o : Outward p) (i : Inward p o) (e : Side) (R C r c : ℕ) (lC : C < 8) (lr : r < 16) (lc : c < 16)
-    (one : OneWrong (o .sent e) (lineBit p (i .heard .frames) e) (rowsIn p (o .superframes)) R C r c)
-    (d : Receiving) (a : At (accepted Receivings (i .calls e)) (R / 2) d) where
-  -- The word of (R, r) is where it is first checked. It is not lost, ..
-  pub one-kept : NotLost (receive d) R r
-  one-kept = comes p o i .words e (R / 2) d a R r refl lr .spared (omega (arith, one-wrong lC lr lc one R r (taken-row p o i e R d a) lr))
-
-  -- .. all its bits are as sent, ..
-  pub one-repaired : (k : ℕ) → 128 ≤ k → k < 256 → AsSent (o .sent e) (receive d) R r k
-  one-repaired = comes p o i .words e (R / 2) d a R r refl lr .whole one-kept
-
-  -- .. and its mark is 1.
-  pub one-mark : markOf (receive d) R r ≡ 1
-  one-mark =
-      omega (
-        arith,
-        marked p o i e R r d lr a one-kept,
-        one-wrong lC lr lc one R r (taken-row p o i e R d a) lr,
-        mark-some (o .sent e) (lineBit p (i .heard .frames) e) (payloads (o .calls e)) (o .formulas e) (i .calls e) (i .runs e) (enough p o i e) (takes p o i e) (i .limit e)
-            R r (backPlace C r c) d lr (backPlace-low C r c) (backPlace-lt C r c lC lr lc) a one-kept
-            (λ q. one .wrong (sym (word-at (lineBit p (i .heard .frames) e) R C r c lr lc) ∙ q ∙ word-at (o .sent e) R C r c lr lc)),
-      )

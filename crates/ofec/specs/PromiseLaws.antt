@@ -3,12 +3,12 @@
 -- Assumes nothing.
 use mathlib.Core.Path.{_≡_, refl, sym, ap, ap₂, _∙_, subst}
 use mathlib.Core.List.{List, [], _++_, map}
-use mathlib.Core.Logic.{_≢_}
 use Prim.Native.Nat.{ℕ, suc, _+_, _-_, _*_, _/_, _%_, _<_, _≤_}
 use native.Mathlib.Omega.{arith}
+use native.Mathlib.Decide.{ℕ-discrete, decLt}
 use lib.ListN.{length, getD, length-map}
 use Rattle.bits.specs.Bits.{bit}
-use Rattle.bits.specs.CountLaws.{distance-mono, distance-zero}
+use Rattle.bits.specs.CountLaws.{distance-ext}
 use Rattle.calls.specs.Answers.{valueOr}
 use Rattle.calls.specs.Sequences.{At, Run, accepted}
 use Rattle.calls.specs.SequenceLaws.{At-lt, At-find, At-map, is-accepted, lent-at}
@@ -29,7 +29,7 @@ use Rattle.ofec.specs.ReceivingLaws.{newest-bit, payload-bit, mark-is, r
 use Rattle.ofec.specs.WordLaws.{Outcome}
 use Rattle.ofec.specs.Calls.{Encoded, Received, State, state, start, Encoding, Receiving, encode, receive, Encodings, Receivings, payloads}
 use Rattle.ofec.specs.CallLaws.{encode-accepted, encode-keeps, receiveDone, receive-accepted, receive-keeps}
-use Rattle.ofec.specs.Promise.{Holds, Takes, wrongBits, Limit, markOf, NotLost, AsSent, Promise}
+use Rattle.ofec.specs.Promise.{Holds, Takes, wrongBits, Limit, markOf, AsSent, Promise}
 
 -- ---- what each accepted call is lent
 
@@ -206,31 +206,30 @@ module _ (S W : RowBits) (ys : List (List ℕ)) (sent : Sent ys S) (cs : List Re
       one-word c R r lr (receive-accepted c (is-accepted Receivings cs a) .1) (ap (λ (s : State). s .pair) (lent (R / 2) c a))
       (right-lent (R / 2) c a) (takes .takes (R / 2) c a) (code (R / 2) within R r refl lr) (three (R / 2) within R r refl lr)
 
-  -- A word that is not lost has at most as many flips as the line delivered wrong bits ..
-  pub mark-within : (R r : ℕ) (c : Receiving) → r < 16 → At (accepted Receivings cs) (R / 2) c → NotLost (receive c) R r → markOf (receive c) R r ≤ wrongBits S W R r
+  -- Where the front half of a word was delivered right, its mark is the number of its wrong bits: 3, lost, where they are three.
+  pub mark-exact : (R r : ℕ) (c : Receiving) → r < 16 → At (accepted Receivings cs) (R / 2) c → ((k : ℕ) → k < 128 → wordOf W R r k ≡ wordOf S R r k)
+      → markOf (receive c) R r ≡ wrongBits S W R r
   unfolding wrongBits
-  mark-within R r c lr a n =
-      omega (
-        arith,
-        promise R r c lr a .flips n,
-        distance-mono 256 (wordOf (heldBits 10 (c .history ++ c .coded) (R / 2)) R r) (wordOf S R r) (wordOf W R r) (wordOf S R r)
-            (λ k l. near (right-lent (R / 2) c a) R r k refl lr (c .coded) (takes .takes (R / 2) c a) l),
-      )
-
-  -- .. and at least one where a bit of its back half was delivered wrong.
-  pub mark-some : (R r k : ℕ) (c : Receiving) → r < 16 → 128 ≤ k → k < 256 → At (accepted Receivings cs) (R / 2) c → NotLost (receive c) R r
-      → wordOf W R r k ≢ wordOf S R r k → markOf (receive c) R r ≢ 0
-  mark-some R r k c lr low lk a n wrong none =
-      wrong (sym (go (place R r k lr lk)) ∙ distance-zero 256 held′ (wordOf S R r) (sym (promise R r c lr a .flips n) ∙ none) k lk)
+  mark-exact R r c lr a front = go (ℕ-discrete (markOf (receive c) R r) 3)
     where
-      held′ : Word
-      held′ = wordOf (heldBits 10 (c .history ++ c .coded) (R / 2)) R r
-
-      go : Place R r k → wordOf (heldBits 10 (c .history ++ c .coded) (R / 2)) R r k ≡ wordOf W R r k
-      go (zeros m is) = absurd (omega arith)
-      go (before Q C b d m lo hi lC lb ld is) = absurd (omega arith)
-      go (own C d m lC ld is) =
+      -- The word as held is as delivered.
+      at : (k : ℕ) → k < 256 → Place R r k → wordOf (heldBits 10 (c .history ++ c .coded) (R / 2)) R r k ≡ wordOf W R r k
+      at k lk (zeros m is) = is (heldBits 10 (c .history ++ c .coded) (R / 2)) ∙ sym (is W)
+      at k lk (before Q C b d m lo hi lC lb ld is) =
+          near (right-lent (R / 2) c a) R r k refl lr (c .coded) (takes .takes (R / 2) c a) lk (front k m) ∙ sym (front k m)
+      at k lk (own C d m lC ld is) =
           is (heldBits 10 (c .history ++ c .coded) (R / 2))
           ∙ held-newest 10 (c .history) (c .coded) (R / 2) (right-lent (R / 2) c a .size) R C r d lC lr ld refl
           ∙ takes .takes (R / 2) c a .holds R C r d refl lC lr ld
           ∙ sym (is W)
+
+      go : Dec (markOf (receive c) R r ≡ 3) → markOf (receive c) R r ≡ wrongBits S W R r
+      go (no n) =
+          promise R r c lr a .flips n
+          ∙ distance-ext 256 (wordOf (heldBits 10 (c .history ++ c .coded) (R / 2)) R r) (wordOf S R r) (wordOf W R r) (wordOf S R r)
+          (λ k l. at k l (place R r k lr l)) (λ k l. refl)
+      go (yes lost) = full (decLt (wrongBits S W R r) 3) (limit .three R r (omega (arith, At-lt a)) lr)
+        where
+          full : Dec (wrongBits S W R r < 3) → wrongBits S W R r ≤ 3 → markOf (receive c) R r ≡ wrongBits S W R r
+          full (yes few) l = absurd (promise R r c lr a .spared (omega arith) lost)
+          full (no n) l = omega arith

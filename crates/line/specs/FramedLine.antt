@@ -1,0 +1,105 @@
+-- A line made of the cells of its buffers: whatever legal cells they are, the frames are legal and each buffer's cells lie on the line.
+-- Assumes nothing.
+use mathlib.Core.Path.{_≡_, sym, ap, ap₂, _∙_}
+use mathlib.Core.Bool.{false}
+use mathlib.Core.List.{List, []}
+use Prim.Native.Nat.{ℕ, _+_, _*_, _/_, _%_, _<_, _≤_}
+use native.Mathlib.Omega.{arith}
+use lib.ListN.{length, getD}
+use Rattle.bits.specs.Lists.{tabulate}
+use Rattle.bits.specs.ListLaws.{length-tabulate, getD-tabulate}
+use Rattle.bits.specs.DigitLaws.{digit-lt}
+use Rattle.cells.specs.Profile.{Profile, cellsPerBuffer, buffersIn}
+use Rattle.cells.specs.Cells.{overheadRule, payloadRule, Legal}
+use Rattle.cells.specs.ProfileLaws.{cells-pos}
+use Rattle.frames.specs.Frames.{isOverhead, payloadBefore, payloadCells, payloadStart, ownOverhead, framed, frameRule, subFrameOf, cellOf}
+use Rattle.frames.specs.FrameLaws.{own-length, own-legal, framed-length, framed-payload, framed-legal}
+use Rattle.frames.specs.PlaceLaws.{payload-index-lt, Located, located}
+use Rattle.line.specs.Line.{lineByte}
+use Rattle.line.specs.LineLaws.{OnLine, buffer-lt, cell-lt, cell-buffer, cell-place}
+
+module _ (p : Profile) (cells : ℕ → List ℕ) where
+  -- Byte h of payload cell x of super-frame q, the payload of sub-frame f of the line, and its frame.
+  unfoldable pub payloadByte : ℕ → ℕ → ℕ → ℕ
+  payloadByte q x h = getD (cells (buffersIn p q + x / cellsPerBuffer p)) (x % cellsPerBuffer p * 2 + h) 0
+
+  unfoldable pub framePayload : ℕ → List ℕ
+  framePayload f = tabulate (payloadCells (f % 48) * 2) (λ i. payloadByte (f / 48) (payloadStart (f % 48) + i / 2) (i % 2))
+
+  unfoldable pub frame : List ℕ → ℕ → List ℕ
+  frame overhead f = framed (f % 48) (framePayload f) (ownOverhead (f % 48) overhead)
+
+  payload-at : (f i : ℕ) → i < payloadCells (f % 48) * 2 → getD (framePayload f) i 0 ≡ payloadByte (f / 48) (payloadStart (f % 48) + i / 2) (i % 2)
+  unfolding framePayload
+  payload-at f i l = getD-tabulate (payloadCells (f % 48) * 2) (λ i. payloadByte (f / 48) (payloadStart (f % 48) + i / 2) (i % 2)) i l
+
+  pub payload-length : (f : ℕ) → length (framePayload f) ≡ payloadCells (f % 48) * 2
+  unfolding framePayload
+  payload-length f = length-tabulate (payloadCells (f % 48) * 2) (λ i. payloadByte (f / 48) (payloadStart (f % 48) + i / 2) (i % 2))
+
+  module _ (long : (b : ℕ) → length (cells b) ≡ cellsPerBuffer p * 2) where
+    pub payload-legal : ((b : ℕ) → Legal (payloadRule p) (cells b)) → (f : ℕ) → Legal (payloadRule p) (framePayload f)
+    unfolding payloadRule payloadByte
+    payload-legal legal f =
+        record {
+          legal = λ k l. ap (p .illegal) (payload-at f k (omega (arith, payload-length f)))
+              ∙ byte (f / 48) (payloadStart (f % 48) + k / 2) (k % 2) (omega arith);
+        }
+      where
+        byte : (q x h : ℕ) → h < 2 → p .illegal (payloadByte q x h) ≡ false
+        byte q x h lh =
+            let b = buffersIn p q + x / cellsPerBuffer p in
+            legal b .legal (x % cellsPerBuffer p * 2 + h) (omega (arith, digit-lt (cellsPerBuffer p) (cells-pos p) x, long b))
+
+    -- A line of n super-frames of these frames.
+    module _ (n : ℕ) (overhead : List ℕ) (frames : List (List ℕ)) (is : (f : ℕ) → f < 48 * n → getD frames f [] ≡ frame overhead f) where
+      pub frames-long : (f : ℕ) → f < 48 * n → length (getD frames f []) ≡ 7424
+      unfolding frame
+      frames-long f l = ap length (is f l) ∙ framed-length (f % 48) (framePayload f) (ownOverhead (f % 48) overhead)
+
+      pub frames-legal : ((b : ℕ) → Legal (payloadRule p) (cells b)) → length overhead ≡ 12288 → Legal overheadRule overhead
+          → (f : ℕ) → f < 48 * n → Legal (frameRule p (f % 48)) (getD frames f [])
+      unfolding frame
+      frames-legal legal olong olegal f l =
+          let s : f % 48 ≤ 47 = omega arith in
+          rw (is f l)
+          (framed-legal p (f % 48) (framePayload f) (ownOverhead (f % 48) overhead) (payload-length f) (own-length (f % 48) overhead s olong)
+          (payload-legal legal f) (own-legal (f % 48) overhead s olong olegal))
+
+      frame-byte : (f m h : ℕ) → f < 48 * n → m < 3712 → h < 2 → isOverhead (f % 48) m ≡ false
+          → getD (getD frames f []) (m * 2 + h) 0 ≡ payloadByte (f / 48) (payloadStart (f % 48) + payloadBefore (f % 48) m) h
+      unfolding frame
+      frame-byte f m h lf lm lh e =
+          let d : (payloadBefore (f % 48) m * 2 + h) / 2 ≡ payloadBefore (f % 48) m = omega arith in
+          let r : (payloadBefore (f % 48) m * 2 + h) % 2 ≡ h = omega arith in
+          ap (λ (l : List ℕ). getD l (m * 2 + h) 0) (is f lf)
+          ∙ framed-payload (f % 48) (framePayload f) (ownOverhead (f % 48) overhead) m h lm lh e
+          ∙ payload-at f (payloadBefore (f % 48) m * 2 + h) (omega (arith, payload-index-lt (f % 48) m lm e))
+          ∙ ap₂ (λ x b. payloadByte (f / 48) (payloadStart (f % 48) + x) b) d r
+
+      line-byte : (q x h : ℕ) → q < n → x < 172032 → h < 2 → lineByte frames q x h ≡ payloadByte q x h
+      unfolding lineByte
+      line-byte q x h lq lx lh =
+          frame-byte (48 * q + subFrameOf x) (cellOf x) h (omega (arith, at .sub-frame)) (at .inside) lh (rw sub (at .payload))
+          ∙ ap₂ (λ t s. payloadByte t (payloadStart s + payloadBefore s (cellOf x)) h) super sub
+          ∙ ap (λ y. payloadByte q y h) (at .index)
+        where
+          at : Located x (subFrameOf x) (cellOf x)
+          at = located x lx
+
+          sub : (48 * q + subFrameOf x) % 48 ≡ subFrameOf x
+          sub = omega (arith, at .sub-frame)
+
+          super : (48 * q + subFrameOf x) / 48 ≡ q
+          super = omega (arith, at .sub-frame)
+
+      pub on-line : (b : ℕ) → b < buffersIn p n → OnLine p frames b (cells b)
+      unfolding payloadByte
+      on-line b lb =
+          record {
+            size = long b;
+            bytes = λ i li. let lc : i / 2 < cellsPerBuffer p = omega arith in
+                sym
+                (line-byte (b / p .bits) (b % p .bits * cellsPerBuffer p + i / 2) (i % 2) (buffer-lt p b n lb) (cell-lt p b (i / 2) lc) (omega arith)
+                ∙ ap₂ (λ c k. getD (cells c) k 0) (cell-buffer p b (i / 2) lc) (ap (λ k. k * 2 + i % 2) (cell-place p b (i / 2) lc) ∙ omega arith));
+          }
