@@ -1,7 +1,13 @@
 /* The oFEC line reference: the library for C and Rust (libcapi.a).
  *
- * Each buffer is passed as pointer and length in bytes. A call with a buffer of another length than the one stated is refused
- * (number 1); a refused call leaves every buffer as it was. No call keeps a state. */
+ * Buffers. Each is passed as pointer and length in bytes. The pointer is not null, and the length is true: the call may read, or where
+ * it is said write, as many bytes. The buffers of one call do not overlap, but that two which are only read may be the same. The library
+ * has no state: calls may run on several threads at once, as long as no call writes what another one uses meanwhile.
+ *
+ * Refusals. A call that cannot be done is refused with a number, the first of those in the call's list that applies, and a refused call
+ * leaves every buffer as it was. A buffer of another length than the one stated is refused with number 1, with two exceptions: a line
+ * file may have any length from 16 bytes on, and the payload of a sub-frame number of 48 or more is not measured (that call is refused
+ * with number 4, if its other buffers fit). */
 #ifndef OFEC_H
 #define OFEC_H
 
@@ -15,7 +21,7 @@ extern "C" {
 /* What a call answers.
  *   refusal  0: done; 1 misfit, 2 bad header, 3 count spent, 4 no such frame, 5 off grid
  *   value    the call's own number, said at each call; 0 where a call has none, and in a refusal unless said otherwise
- *   index    at refusal 5 the index of the first illegal byte in its buffer; otherwise 0, but for ofec_read_line */
+ *   index    at refusal 5 the index of the first illegal byte (16 or more) in its buffer; otherwise 0, but for ofec_read_line */
 typedef struct {
     uint32_t refusal;
     uint32_t value;
@@ -64,12 +70,17 @@ ofec_outcome ofec_bits_to_cells(const uint8_t *bits, size_t bits_length, uint8_t
 ofec_outcome ofec_cells_to_bits(const uint8_t *cells, size_t cells_length, uint8_t *bits, size_t bits_length);
 
 /* Frames sub-frame `number` (0 to 47): payload 6,980 bytes for number 0 and 7,172 otherwise, the whole overhead list 12,288, frame 7,424
- * (written). Refusals: 1, 4, 5. */
+ * (written). From number 48 on the payload is not measured. Refusals: 1, 4, 5.
+ *
+ * Of the list only the sub-frame's own bytes are read: 0 to 443 for number 0, and 252 bytes from 444 + 252 * (number - 1) on for each
+ * other. They are looked at before any byte of the other buffer, and the index of refusal 5 counts from the start of its buffer. So it
+ * is an index of the list where it falls in the sub-frame's own bytes and the list has 16 or more there; else it is one of the other
+ * buffer, the payload here and the frame in ofec_unframe. */
 ofec_outcome ofec_frame(uint32_t number, const uint8_t *payload, size_t payload_length, const uint8_t *overhead, size_t overhead_length,
                         uint8_t *frame, size_t frame_length);
 
 /* Unframes sub-frame `number`: the same buffers, the payload written. value: the number of overhead cells that differ from the list.
- * Refusals: 1, 4, 5. */
+ * Refusals: 1, 4, 5, with the index as in ofec_frame. */
 ofec_outcome ofec_unframe(uint32_t number, const uint8_t *frame, size_t frame_length, const uint8_t *overhead, size_t overhead_length,
                           uint8_t *payload, size_t payload_length);
 

@@ -16,7 +16,9 @@
 //! | [`capi`] | the C interface, call by call, on which the others stand |
 //!
 //! Each module names the lengths of its buffers. A buffer of another length is refused with
-//! [`Refusal::Misfit`]; a refused call leaves every buffer and every state as it was.
+//! [`Refusal::Misfit`], but for the payload of a sub-frame number of 48 or more, which is not
+//! measured; a refused call leaves every buffer and every state as it was. The library has no
+//! state of its own, so that calls may run on several threads at once.
 //!
 //! A pair over a line that flips two bits of one word:
 //!

@@ -149,3 +149,18 @@ fn numbers_and_names() {
         assert_eq!(refusal.to_string(), line);
     }
 }
+
+#[test]
+fn from_48_on_the_payload_is_not_measured() {
+    let (list, mut line) = ([0; OVERHEAD_BYTES], [LEFT; FRAME_BYTES]);
+    for length in [0, 1, 6_980, 7_172, 10_000] {
+        let mut payload = vec![LEFT; length];
+        for number in [48, u32::MAX] {
+            let refused = frame(number, &payload, &list, &mut line);
+            assert_eq!(refused, Err(Refusal::NoSuchFrame));
+            let refused = unframe(number, &line, &list, &mut payload);
+            assert_eq!(refused, Err(Refusal::NoSuchFrame));
+            assert!(payload.iter().chain(&line).all(|&byte| byte == LEFT));
+        }
+    }
+}
