@@ -14,12 +14,66 @@
 #include <stddef.h>
 #include <stdint.h>
 
+#define OFEC_VERSION "0.1.0"
+#define OFEC_VERSION_MAJOR 0
+#define OFEC_VERSION_MINOR 1
+#define OFEC_VERSION_PATCH 0
+
+/* Lengths in bytes. */
+#define OFEC_WORD_BYTES 32                  /* a check word */
+#define OFEC_PAYLOAD_BYTES 444              /* the payload of a pair */
+#define OFEC_CODED_BYTES 512                /* a coded pair */
+#define OFEC_MARKS_BYTES 32                 /* the marks of a pair, one for each word */
+#define OFEC_HISTORY_BYTES 5120             /* the ten coded pairs before */
+#define OFEC_PAIRS_BYTES 10752              /* a buffer's coded pairs of one encoder */
+#define OFEC_BITS_BYTES 21504               /* a buffer's bits */
+#define OFEC_CELLS_BYTES 43008              /* a buffer's cells */
+#define OFEC_FRAME_BYTES 7424               /* a sub-frame */
+#define OFEC_FRAME_PAYLOAD_BYTES 7172       /* the payload cells of a sub-frame, but */
+#define OFEC_FIRST_FRAME_PAYLOAD_BYTES 6980 /* those of sub-frame 0 */
+#define OFEC_FRAME_OVERHEAD_BYTES 252       /* the part of the overhead list that belongs to a sub-frame, but */
+#define OFEC_FIRST_FRAME_OVERHEAD_BYTES 444 /* that of sub-frame 0 */
+#define OFEC_OVERHEAD_BYTES 12288           /* the overhead list */
+#define OFEC_HEADER_BYTES 16                /* the header of a line file */
+#define OFEC_SUPERFRAME_BYTES 356352        /* a super-frame in a line file */
+
+/* Counts. */
+#define OFEC_BUFFER_PAIRS 21      /* pairs of one encoder in a buffer */
+#define OFEC_SUPERFRAME_BUFFERS 8 /* buffers in a super-frame, */
+#define OFEC_SUPERFRAME_PAIRS 168 /* so that it has so many pairs of each encoder */
+#define OFEC_SUBFRAMES 48         /* sub-frames of a super-frame */
+#define OFEC_MOST_SUPERFRAMES 64  /* super-frames of a line file, at most */
+#define OFEC_LOST 3               /* the mark of a lost word; lower ones are numbers of flips */
+
+/* Why a call is refused, in the order in which it is tested. */
+enum ofec_refusal {
+    OFEC_DONE = 0,          /* it is not */
+    OFEC_MISFIT = 1,        /* a buffer has another length than the one stated; a file has under 16 bytes */
+    OFEC_BAD_HEADER = 2,    /* a rule of the line file's header fails */
+    OFEC_COUNT_SPENT = 3,   /* the pair number is 4,294,967,295 */
+    OFEC_NO_SUCH_FRAME = 4, /* a sub-frame above 47, or a super-frame that the file has not */
+    OFEC_OFF_GRID = 5       /* a cell's byte is 16 or more */
+};
+
+/* The name of a refusal's number: "misfit" and so on, "done" for 0. */
+static inline const char *ofec_refusal_name(uint32_t refusal) {
+    switch (refusal) {
+    case OFEC_DONE: return "done";
+    case OFEC_MISFIT: return "misfit";
+    case OFEC_BAD_HEADER: return "bad header";
+    case OFEC_COUNT_SPENT: return "count spent";
+    case OFEC_NO_SUCH_FRAME: return "no such frame";
+    case OFEC_OFF_GRID: return "off grid";
+    default: return "no such refusal";
+    }
+}
+
 #ifdef __cplusplus
 extern "C" {
 #endif
 
 /* What a call answers.
- *   refusal  0: done; 1 misfit, 2 bad header, 3 count spent, 4 no such frame, 5 off grid
+ *   refusal  0: done; otherwise a number of enum ofec_refusal
  *   value    the call's own number, said at each call; 0 where a call has none, and in a refusal unless said otherwise
  *   index    at refusal 5 the index of the first illegal byte (16 or more) in its buffer; otherwise 0, but for ofec_read_line */
 typedef struct {

@@ -86,6 +86,33 @@ static void structs(void) {
     puts("structs: 16 bytes each, members in the order of the header");
 }
 
+static void constants(void) {
+    EXPECT(OFEC_WORD_BYTES == 32 && OFEC_PAYLOAD_BYTES == 444 && OFEC_CODED_BYTES == 512 && OFEC_MARKS_BYTES == 32);
+    EXPECT(OFEC_HISTORY_BYTES == 10 * OFEC_CODED_BYTES && OFEC_PAIRS_BYTES == OFEC_BUFFER_PAIRS * OFEC_CODED_BYTES);
+    EXPECT(OFEC_BITS_BYTES == 2 * OFEC_PAIRS_BYTES && OFEC_CELLS_BYTES == 2 * OFEC_BITS_BYTES);
+    EXPECT(OFEC_FRAME_BYTES == 2 * 3712 && OFEC_FRAME_PAYLOAD_BYTES == 2 * 3586 && OFEC_FIRST_FRAME_PAYLOAD_BYTES == 2 * 3490);
+    EXPECT(OFEC_FRAME_OVERHEAD_BYTES == 2 * 126 && OFEC_FIRST_FRAME_OVERHEAD_BYTES == 2 * 222 && OFEC_OVERHEAD_BYTES == 2 * 6144);
+    EXPECT(OFEC_HEADER_BYTES == 16 && OFEC_SUPERFRAME_BYTES == 356352 && OFEC_MOST_SUPERFRAMES == 64 && OFEC_LOST == 3);
+    EXPECT(OFEC_SUBFRAMES == 48 && OFEC_SUPERFRAME_BYTES == OFEC_SUBFRAMES * OFEC_FRAME_BYTES && OFEC_BUFFER_PAIRS == 21);
+    EXPECT(OFEC_SUPERFRAME_BUFFERS == 8 && OFEC_SUPERFRAME_PAIRS == OFEC_SUPERFRAME_BUFFERS * OFEC_BUFFER_PAIRS);
+    EXPECT(OFEC_SUPERFRAME_BUFFERS * OFEC_CELLS_BYTES == OFEC_FIRST_FRAME_PAYLOAD_BYTES + 47 * OFEC_FRAME_PAYLOAD_BYTES);
+    puts("constants: the lengths and counts of the scope paper");
+}
+
+static void names(void) {
+    static const char *const table[7] = {"done", "misfit", "bad header", "count spent", "no such frame", "off grid", "no such refusal"};
+    char version[32];
+    for (uint32_t number = 0; number < 7; number++) {
+        EXPECT(strcmp(ofec_refusal_name(number), table[number]) == 0);
+    }
+    EXPECT(strcmp(ofec_refusal_name(LAST), table[6]) == 0);
+    EXPECT(OFEC_DONE == 0 && OFEC_MISFIT == 1 && OFEC_BAD_HEADER == 2 && OFEC_COUNT_SPENT == 3 && OFEC_NO_SUCH_FRAME == 4);
+    EXPECT(OFEC_OFF_GRID == 5);
+    snprintf(version, sizeof version, "%d.%d.%d", OFEC_VERSION_MAJOR, OFEC_VERSION_MINOR, OFEC_VERSION_PATCH);
+    EXPECT(strcmp(version, OFEC_VERSION) == 0);
+    puts("ofec_refusal_name: the five names, that of 0 and that of any other number; the version");
+}
+
 static void repair_word(void) {
     /* Only bit 238 set among 0 to 238: check bits 240, 241, 243 to 246, 248, 249, 253, 254, 255. */
     uint8_t code[32] = {0}, word[32];
@@ -384,6 +411,8 @@ static void write_header(void) {
 
 int main(void) {
     structs();
+    constants();
+    names();
     repair_word();
     encode_pair();
     receive_pair();
