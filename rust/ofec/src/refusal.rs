@@ -1,7 +1,7 @@
 //! Why a call is refused.
 
-use std::error::Error;
-use std::fmt;
+use core::error::Error;
+use core::fmt;
 
 use crate::capi::{Line, Outcome};
 
