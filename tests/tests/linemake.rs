@@ -216,6 +216,19 @@ fn the_file_is_that_of_the_code_written_apart() {
 }
 
 #[test]
+fn the_sample_files() {
+    let folder = Path::new(env!("CARGO_MANIFEST_DIR")).join("../examples/line");
+    let room = Room::empty();
+    let inputs = ["payload0", "payload1", "overhead"].map(|name| {
+        let bytes = fs::read(folder.join(name)).expect("a sample file");
+        room.put(name, &bytes);
+        bytes
+    });
+    assert_eq!(room.run(&NAMES).out, line(1));
+    assert!(room.read("line") == expected([&inputs[0], &inputs[1]], &inputs[2]));
+}
+
+#[test]
 fn one_file_for_both_payloads_and_a_name_in_another_folder() {
     let (room, _) = filled(1, 6_200);
     let (payload, overhead) = (room.read("payload1"), room.read("overhead"));
