@@ -1,21 +1,81 @@
 /* The oFEC line reference: the library for C and Rust (libcapi.a).
  *
- * Each buffer is passed as pointer and length in bytes. A call with a buffer of another length than the one stated is refused
- * (number 1); a refused call leaves every buffer as it was. No call keeps a state. */
+ * Buffers. Each is passed as pointer and length in bytes. The pointer is not null, and the length is true: the call may read, or where
+ * it is said write, as many bytes. The buffers of one call do not overlap, but that two which are only read may be the same. The library
+ * has no state: calls may run on several threads at once, as long as no call writes what another one uses meanwhile.
+ *
+ * Refusals. A call that cannot be done is refused with a number, the first of those in the call's list that applies, and a refused call
+ * leaves every buffer as it was. A buffer of another length than the one stated is refused with number 1, with two exceptions: a line
+ * file may have any length from 16 bytes on, and the payload of a sub-frame number of 48 or more is not measured (that call is refused
+ * with number 4, if its other buffers fit). */
 #ifndef OFEC_H
 #define OFEC_H
 
 #include <stddef.h>
 #include <stdint.h>
 
+#define OFEC_VERSION "0.1.0"
+#define OFEC_VERSION_MAJOR 0
+#define OFEC_VERSION_MINOR 1
+#define OFEC_VERSION_PATCH 0
+
+/* Lengths in bytes. */
+#define OFEC_WORD_BYTES 32                  /* a check word */
+#define OFEC_PAYLOAD_BYTES 444              /* the payload of a pair */
+#define OFEC_CODED_BYTES 512                /* a coded pair */
+#define OFEC_MARKS_BYTES 32                 /* the marks of a pair, one for each word */
+#define OFEC_HISTORY_BYTES 5120             /* the ten coded pairs before */
+#define OFEC_PAIRS_BYTES 10752              /* a buffer's coded pairs of one encoder */
+#define OFEC_BITS_BYTES 21504               /* a buffer's bits */
+#define OFEC_CELLS_BYTES 43008              /* a buffer's cells */
+#define OFEC_FRAME_BYTES 7424               /* a sub-frame */
+#define OFEC_FRAME_PAYLOAD_BYTES 7172       /* the payload cells of a sub-frame, but */
+#define OFEC_FIRST_FRAME_PAYLOAD_BYTES 6980 /* those of sub-frame 0 */
+#define OFEC_FRAME_OVERHEAD_BYTES 252       /* the part of the overhead list that belongs to a sub-frame, but */
+#define OFEC_FIRST_FRAME_OVERHEAD_BYTES 444 /* that of sub-frame 0 */
+#define OFEC_OVERHEAD_BYTES 12288           /* the overhead list */
+#define OFEC_HEADER_BYTES 16                /* the header of a line file */
+#define OFEC_SUPERFRAME_BYTES 356352        /* a super-frame in a line file */
+
+/* Counts. */
+#define OFEC_BUFFER_PAIRS 21      /* pairs of one encoder in a buffer */
+#define OFEC_SUPERFRAME_BUFFERS 8 /* buffers in a super-frame, */
+#define OFEC_SUPERFRAME_PAIRS 168 /* so that it has so many pairs of each encoder */
+#define OFEC_SUBFRAMES 48         /* sub-frames of a super-frame */
+#define OFEC_MOST_SUPERFRAMES 64  /* super-frames of a line file, at most */
+#define OFEC_LOST 3               /* the mark of a lost word; lower ones are numbers of flips */
+
+/* Why a call is refused, in the order in which it is tested. */
+enum ofec_refusal {
+    OFEC_DONE = 0,          /* it is not */
+    OFEC_MISFIT = 1,        /* a buffer has another length than the one stated; a file has under 16 bytes */
+    OFEC_BAD_HEADER = 2,    /* a rule of the line file's header fails */
+    OFEC_COUNT_SPENT = 3,   /* the pair number is 4,294,967,295 */
+    OFEC_NO_SUCH_FRAME = 4, /* a sub-frame above 47, or a super-frame that the file has not */
+    OFEC_OFF_GRID = 5       /* a cell's byte is 16 or more */
+};
+
+/* The name of a refusal's number: "misfit" and so on, "done" for 0. */
+static inline const char *ofec_refusal_name(uint32_t refusal) {
+    switch (refusal) {
+    case OFEC_DONE: return "done";
+    case OFEC_MISFIT: return "misfit";
+    case OFEC_BAD_HEADER: return "bad header";
+    case OFEC_COUNT_SPENT: return "count spent";
+    case OFEC_NO_SUCH_FRAME: return "no such frame";
+    case OFEC_OFF_GRID: return "off grid";
+    default: return "no such refusal";
+    }
+}
+
 #ifdef __cplusplus
 extern "C" {
 #endif
 
 /* What a call answers.
- *   refusal  0: done; 1 misfit, 2 bad header, 3 count spent, 4 no such frame, 5 off grid
+ *   refusal  0: done; otherwise a number of enum ofec_refusal
  *   value    the call's own number, said at each call; 0 where a call has none, and in a refusal unless said otherwise
- *   index    at refusal 5 the index of the first illegal byte in its buffer; otherwise 0, but for ofec_read_line */
+ *   index    at refusal 5 the index of the first illegal byte (16 or more) in its buffer; otherwise 0, but for ofec_read_line */
 typedef struct {
     uint32_t refusal;
     uint32_t value;
@@ -64,12 +124,17 @@ ofec_outcome ofec_bits_to_cells(const uint8_t *bits, size_t bits_length, uint8_t
 ofec_outcome ofec_cells_to_bits(const uint8_t *cells, size_t cells_length, uint8_t *bits, size_t bits_length);
 
 /* Frames sub-frame `number` (0 to 47): payload 6,980 bytes for number 0 and 7,172 otherwise, the whole overhead list 12,288, frame 7,424
- * (written). Refusals: 1, 4, 5. */
+ * (written). From number 48 on the payload is not measured. Refusals: 1, 4, 5.
+ *
+ * Of the list only the sub-frame's own bytes are read: 0 to 443 for number 0, and 252 bytes from 444 + 252 * (number - 1) on for each
+ * other. They are looked at before any byte of the other buffer, and the index of refusal 5 counts from the start of its buffer. So it
+ * is an index of the list where it falls in the sub-frame's own bytes and the list has 16 or more there; else it is one of the other
+ * buffer, the payload here and the frame in ofec_unframe. */
 ofec_outcome ofec_frame(uint32_t number, const uint8_t *payload, size_t payload_length, const uint8_t *overhead, size_t overhead_length,
                         uint8_t *frame, size_t frame_length);
 
 /* Unframes sub-frame `number`: the same buffers, the payload written. value: the number of overhead cells that differ from the list.
- * Refusals: 1, 4, 5. */
+ * Refusals: 1, 4, 5, with the index as in ofec_frame. */
 ofec_outcome ofec_unframe(uint32_t number, const uint8_t *frame, size_t frame_length, const uint8_t *overhead, size_t overhead_length,
                           uint8_t *payload, size_t payload_length);
 

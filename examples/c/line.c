@@ -24,39 +24,39 @@ static void flip(uint8_t *bytes, size_t bit) {
 }
 
 static void repair_word(void) {
-    uint8_t zero[32] = {0}, word[32] = {0};
+    uint8_t zero[OFEC_WORD_BYTES] = {0}, word[OFEC_WORD_BYTES] = {0};
     flip(word, 0);
     flip(word, 255);
     ofec_outcome o = ofec_repair_word(word, sizeof word, 1);
-    expect(o.refusal == 0 && o.value == 2 && memcmp(word, zero, sizeof word) == 0, "two flips");
+    expect(o.refusal == OFEC_DONE && o.value == 2 && memcmp(word, zero, sizeof word) == 0, "two flips");
     printf("word: %u flips, and it is the code word again\n", (unsigned)o.value);
 
     flip(word, 0);
     flip(word, 1);
     flip(word, 2);
     o = ofec_repair_word(word, sizeof word, 1);
-    expect(o.refusal == 0 && o.value == 3 && word[0] == 0xe0, "a lost word, unaltered");
+    expect(o.refusal == OFEC_DONE && o.value == OFEC_LOST && word[0] == 0xe0, "a lost word, unaltered");
     puts("word: three wrong bits, lost and unaltered");
 }
 
 /* Twelve pairs, each with one wrong bit on the line; pairs 10 and 11 have full words. */
 static void send_pairs(void) {
-    static uint8_t sent[5120], held[5120]; /* the histories of encoder and receiver, fresh */
+    static uint8_t sent[OFEC_HISTORY_BYTES], held[OFEC_HISTORY_BYTES]; /* the histories of encoder and receiver, fresh */
     uint32_t next = 0;
     unsigned flips = 0;
     for (uint32_t pair = 0; pair < 12; pair++) {
-        uint8_t payload[444], coded[512], received[444], marks[32];
+        uint8_t payload[OFEC_PAYLOAD_BYTES], coded[OFEC_CODED_BYTES], received[OFEC_PAYLOAD_BYTES], marks[OFEC_MARKS_BYTES];
         for (size_t i = 0; i < sizeof payload; i++) {
             payload[i] = (uint8_t)(i * i + pair);
         }
         ofec_outcome o = ofec_encode_pair(payload, sizeof payload, coded, sizeof coded, sent, sizeof sent, pair);
-        expect(o.refusal == 0, "a pair encoded");
+        expect(o.refusal == OFEC_DONE, "a pair encoded");
         flip(coded, 300 * pair);
         o = ofec_receive_pair(coded, sizeof coded, received, sizeof received, marks, sizeof marks, held, sizeof held, pair);
-        expect(o.refusal == 0, "a pair received");
+        expect(o.refusal == OFEC_DONE, "a pair received");
         expect(memcmp(received, payload, sizeof payload) == 0, "the payload as it was sent");
         for (size_t word = 0; word < sizeof marks; word++) {
-            expect(marks[word] != 3, "no lost word");
+            expect(marks[word] != OFEC_LOST, "no lost word");
             flips += marks[word];
         }
         next = o.value;
@@ -66,21 +66,22 @@ static void send_pairs(void) {
 }
 
 static void frame_subframe(void) {
-    static uint8_t overhead[12288], payload[6980], frame[7424], received[6980];
+    static uint8_t overhead[OFEC_OVERHEAD_BYTES], payload[OFEC_FIRST_FRAME_PAYLOAD_BYTES], frame[OFEC_FRAME_BYTES],
+        received[OFEC_FIRST_FRAME_PAYLOAD_BYTES];
     memset(overhead, 5, sizeof overhead);
     memset(payload, 10, sizeof payload);
     ofec_outcome o = ofec_frame(0, payload, sizeof payload, overhead, sizeof overhead, frame, sizeof frame);
-    expect(o.refusal == 0, "a sub-frame framed");
+    expect(o.refusal == OFEC_DONE, "a sub-frame framed");
 
     frame[2 * 32] = 6; /* cell 32 is a pilot */
     o = ofec_unframe(0, frame, sizeof frame, overhead, sizeof overhead, received, sizeof received);
-    expect(o.refusal == 0 && memcmp(received, payload, sizeof payload) == 0, "the payload cells back");
+    expect(o.refusal == OFEC_DONE && memcmp(received, payload, sizeof payload) == 0, "the payload cells back");
     printf("sub-frame: %u overhead cell differs, the payload is untouched\n", (unsigned)o.value);
 
     frame[7423] = 16;
     o = ofec_unframe(0, frame, sizeof frame, overhead, sizeof overhead, received, sizeof received);
-    expect(o.refusal == 5 && memcmp(received, payload, sizeof payload) == 0, "an illegal cell refused");
-    printf("sub-frame: refusal %u at byte %lu\n", (unsigned)o.refusal, (unsigned long)o.index);
+    expect(o.refusal == OFEC_OFF_GRID && memcmp(received, payload, sizeof payload) == 0, "an illegal cell refused");
+    printf("sub-frame: refusal %u, %s, at byte %lu\n", (unsigned)o.refusal, ofec_refusal_name(o.refusal), (unsigned long)o.index);
 }
 
 int main(void) {

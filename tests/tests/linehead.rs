@@ -5,7 +5,7 @@ use std::io::{Seek, Write};
 use std::process::{Child, Command, Stdio};
 use std::sync::atomic::{AtomicU32, Ordering};
 use std::thread::sleep;
-use std::time::{Duration, Instant};
+use std::time::Duration;
 
 use ofec_tests::line_file::{self, Header, HEADER_BYTES};
 use ofec_tests::programs::program;
@@ -198,23 +198,6 @@ fn each_header_rule_broken() {
     for (header, length) in vectors {
         assert_printed(header, length, "refused 2\n");
     }
-}
-
-/// A file of 22 MB, 64 super-frames, in under 0.5 s: the best of three runs.
-#[test]
-fn time_for_the_longest_file_of_a_writer() {
-    let header = Header::written(64);
-    let mut best = Duration::MAX;
-    for _ in 0..3 {
-        let start = Instant::now();
-        let line = printed_of_sparse(header, 22_818_832);
-        best = best.min(start.elapsed());
-        assert_eq!(
-            line,
-            "superframes 64 overhead 16 frames 12304 total 22818832\n"
-        );
-    }
-    assert!(best < Duration::from_millis(500), "{best:?}");
 }
 
 /// Files around 2^32 bytes, with 64 MiB of memory in all.

@@ -1,6 +1,7 @@
 //! The C interface (`include/ofec.h`), call by call. Each function makes one call on the slices it
 //! is lent, of whatever lengths, and gives the numbers of the answer as they are. The safe types of
-//! the crate stand on it, and it holds the crate's only unsafe code.
+//! the crate stand on it, and it holds the crate's only unsafe code: slices have true lengths, and
+//! those of one call cannot overlap where one of them is written, as the interface asks.
 //!
 //! ```
 //! use ofec::capi::{Outcome, repair_word};
@@ -24,8 +25,8 @@ pub struct Outcome {
     pub refusal: u32,
     /// The call's own number; 0 where it has none, and in a refusal unless said otherwise.
     pub value: u32,
-    /// At refusal 5 the index of the first illegal byte in its buffer; otherwise 0, but for
-    /// [`read_line`].
+    /// At refusal 5 the index of the first illegal byte in its buffer, in [`frame`](frame()) and
+    /// [`unframe`] the overhead list first; otherwise 0, but for [`read_line`].
     pub index: u64,
 }
 
@@ -216,7 +217,7 @@ pub fn cells_to_bits(cells: &[u8], bits: &mut [u8]) -> Outcome {
 }
 
 /// Frames sub-frame `number`, 0 to 47: `payload` of 6,980 bytes (number 0) or 7,172, and its part of
-/// the `overhead` list of 12,288, to `frame` of 7,424.
+/// the `overhead` list of 12,288, to `frame` of 7,424. From 48 on the payload is not measured.
 pub fn frame(number: u32, payload: &[u8], overhead: &[u8], frame: &mut [u8]) -> Outcome {
     unsafe {
         ofec_frame(

@@ -1,6 +1,8 @@
 //! The super-frame: 48 sub-frames of 3,712 cells, in which overhead stands among the payload. The
 //! payload of a super-frame is the cells of eight buffers, one after the other.
 
+use core::ops::Range;
+
 use crate::{Refusal, capi};
 
 /// Sub-frames of a super-frame, numbered from 0.
@@ -29,11 +31,48 @@ pub fn payload_bytes(number: u32) -> Option<usize> {
     }
 }
 
+/// The part of the overhead list that belongs to sub-frame `number`, or nothing where there is no
+/// such sub-frame.
+///
+/// ```
+/// use ofec::Refusal;
+/// use ofec::frame::*;
+///
+/// assert_eq!([0, 1, 2, 48].map(overhead_part), [Some(0..444), Some(444..696), Some(696..948), None]);
+///
+/// // Which buffer an illegal byte is in: here the payload, since byte 500 belongs to sub-frame 1.
+/// let (mut overhead, mut payload) = ([0; OVERHEAD_BYTES], [0; 7_172]);
+/// (overhead[500], payload[500]) = (16, 16);
+/// let in_overhead = |number, index: usize| {
+///     overhead_part(number).unwrap().contains(&index) && overhead[index] >= 16
+/// };
+/// let mut to = [0; FRAME_BYTES];
+/// for (number, expected) in [(1, true), (2, false)] {
+///     let refused = frame(number, &payload, &overhead, &mut to).unwrap_err();
+///     assert_eq!(refused, Refusal::OffGrid { index: 500 });
+///     assert_eq!(in_overhead(number, 500), expected);
+/// }
+/// ```
+pub fn overhead_part(number: u32) -> Option<Range<usize>> {
+    match number {
+        0 => Some(0..444),
+        1..SUBFRAMES => {
+            let start = 444 + 252 * (number as usize - 1);
+            Some(start..start + 252)
+        }
+        _ => None,
+    }
+}
+
 /// Frames sub-frame `number`: `payload` of [`payload_bytes`] and its part of the `overhead` list of
 /// [`OVERHEAD_BYTES`] to `frame` of [`FRAME_BYTES`].
 ///
-/// Refusals: [`Refusal::Misfit`], [`Refusal::NoSuchFrame`], [`Refusal::OffGrid`] with the index in
-/// `overhead` or, if that is legal, in `payload`.
+/// Refusals: [`Refusal::Misfit`] (from number 48 on `payload` is not measured),
+/// [`Refusal::NoSuchFrame`], [`Refusal::OffGrid`].
+///
+/// Of the list only the sub-frame's own bytes are read ([`overhead_part`]), and before any byte of
+/// `payload`. So the index of [`Refusal::OffGrid`] is one of `overhead` where it falls in that part
+/// and `overhead` has 16 or more there; else it is one of `payload`.
 ///
 /// A super-frame of eight buffers' cells:
 ///
@@ -71,7 +110,7 @@ pub fn frame(
 /// Unframes sub-frame `number`: the buffers are those of [`frame`](frame()), the payload written.
 /// Gives the number of overhead cells that differ from the list.
 ///
-/// Refusals: as in [`frame`](frame()), but that the second index is one in `frame`.
+/// Refusals: as in [`frame`](frame()), with an index of `frame` in place of one of `payload`.
 ///
 /// ```
 /// use ofec::frame::*;

@@ -2,7 +2,7 @@
 //!
 //! Every function of that library is proved to meet its contract. This crate has slices where the
 //! library has pointers and a [`Refusal`] where it has a number, and types that carry a history or
-//! an open file. It has no dependency.
+//! an open file. It has no dependency and needs no standard library: nothing is allocated.
 //!
 //! | module | holds |
 //! |---|---|
@@ -11,12 +11,15 @@
 //! | [`interleaver`] | 21 pairs of each of two encoders to the bits of a buffer, and back |
 //! | [`cells`] | a buffer's bits to cells, and back |
 //! | [`frame`] | payload and overhead cells to the sub-frames of a super-frame, and back |
+//! | [`superframe`] | all of these for a super-frame: payload to frames, and back |
 //! | [`line_file`] | [`LineFile`] and the header of a line file |
 //! | [`refusal`] | why a call is refused |
 //! | [`capi`] | the C interface, call by call, on which the others stand |
 //!
 //! Each module names the lengths of its buffers. A buffer of another length is refused with
-//! [`Refusal::Misfit`]; a refused call leaves every buffer and every state as it was.
+//! [`Refusal::Misfit`], but for the payload of a sub-frame number of 48 or more, which is not
+//! measured; a refused call leaves every buffer and every state as it was. The library has no
+//! state of its own, so that calls may run on several threads at once.
 //!
 //! A pair over a line that flips two bits of one word:
 //!
@@ -37,7 +40,12 @@
 //! assert_eq!(received[..], payload[..]);
 //! # Ok::<(), ofec::Refusal>(())
 //! ```
+//!
+//! The build links `libcapi.a` from the folder that the environment variable `OFEC_LIB_DIR` names,
+//! or else from `target/staticlib` of the repository that the crate stands in. `examples/line.rs`
+//! is a whole program.
 
+#![no_std]
 #![deny(missing_docs)]
 #![deny(unsafe_code)]
 
@@ -48,6 +56,7 @@ pub mod interleaver;
 pub mod line_file;
 pub mod pair;
 pub mod refusal;
+pub mod superframe;
 pub mod word;
 
 pub use line_file::LineFile;

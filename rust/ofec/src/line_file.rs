@@ -1,6 +1,6 @@
 //! The line file: a header, the overhead list, and the frames of 1 to 64 super-frames.
 
-use crate::frame::OVERHEAD_BYTES;
+use crate::frame::{OVERHEAD_BYTES, SUPERFRAME_BYTES};
 use crate::{Refusal, capi};
 
 /// Bytes of the header.
@@ -44,7 +44,9 @@ pub fn write_header(superframes: u32, header: &mut [u8]) -> Result<(), Refusal> 
 /// assert_eq!(line.overhead()[..2], [7, 0]);
 /// let stretch = line.subframe(1, 47)?;
 /// assert_eq!((stretch.len(), stretch[FRAME_BYTES - 1]), (FRAME_BYTES, 11));
+/// assert_eq!(line.superframe(1)?[47 * FRAME_BYTES..], *stretch);
 /// assert_eq!(line.subframe(2, 0), Err(Refusal::NoSuchFrame));
+/// assert_eq!(line.superframe(2), Err(Refusal::NoSuchFrame));
 ///
 /// assert_eq!(LineFile::open(&file[1..]).unwrap_err(), Refusal::BadHeader);
 /// assert_eq!(LineFile::open(&file[..15]).unwrap_err(), Refusal::Misfit);
@@ -73,6 +75,15 @@ impl<'a> LineFile<'a> {
     /// The overhead list's stretch of the file.
     pub fn overhead(&self) -> &'a [u8] {
         &self.bytes[self.line.overhead as usize..][..OVERHEAD_BYTES]
+    }
+
+    /// A super-frame's stretch of the file, [`SUPERFRAME_BYTES`] long: its sub-frames one after the
+    /// other.
+    ///
+    /// Refusals: [`Refusal::NoSuchFrame`].
+    pub fn superframe(&self, superframe: u32) -> Result<&'a [u8], Refusal> {
+        let first = capi::read_line(self.bytes, self.line, superframe, 0).done()?;
+        Ok(&self.bytes[first.index as usize..][..SUPERFRAME_BYTES])
     }
 
     /// A sub-frame's stretch of the file, [`FRAME_BYTES`](crate::frame::FRAME_BYTES) long.

@@ -1,7 +1,7 @@
 //! Why a call is refused.
 
-use std::error::Error;
-use std::fmt;
+use core::error::Error;
+use core::fmt;
 
 use crate::capi::{Line, Outcome};
 
@@ -20,7 +20,8 @@ use crate::capi::{Line, Outcome};
 /// ```
 #[derive(Debug, Clone, Copy, PartialEq, Eq, Hash)]
 pub enum Refusal {
-    /// 1: a lent buffer is not of the stated length; a file has less than 16 bytes.
+    /// 1: a lent buffer is not of the stated length (but the payload of a sub-frame above 47, which
+    /// is not measured); a file has less than 16 bytes.
     Misfit,
     /// 2: a rule of the line file's header fails.
     BadHeader,
@@ -30,7 +31,8 @@ pub enum Refusal {
     NoSuchFrame,
     /// 5: an illegal byte in cells that the call reads, the overhead list first.
     OffGrid {
-        /// Where it first occurs in its buffer.
+        /// Where it first occurs in its buffer; [`frame`](crate::frame::frame) says how to tell
+        /// which one that is.
         index: usize,
     },
 }

@@ -1,12 +1,12 @@
 //! A refused call says why, and leaves every buffer and every state as it was.
 
 use ofec::cells::{self, CELLS_BYTES, bits_to_cells, cells_to_bits};
-use ofec::frame::{FRAME_BYTES, OVERHEAD_BYTES, frame, unframe};
+use ofec::frame::{FRAME_BYTES, OVERHEAD_BYTES, SUPERFRAME_BYTES, frame, unframe};
 use ofec::interleaver::{BITS_BYTES, PAIRS_BYTES, deinterleave, interleave};
 use ofec::line_file::{HEADER_BYTES, write_header};
 use ofec::pair::{CODED_BYTES, HISTORY_BYTES, PAYLOAD_BYTES, State};
 use ofec::word::{Reach, WORD_BYTES, repair};
-use ofec::{Encoder, LineFile, Receiver, Refusal};
+use ofec::{Encoder, LineFile, Mark, Receiver, Refusal, superframe};
 
 /// What stands in a buffer before a call.
 const LEFT: u8 = 0xa5;
@@ -148,4 +148,102 @@ fn numbers_and_names() {
         assert_eq!(refusal.number(), number);
         assert_eq!(refusal.to_string(), line);
     }
+}
+
+#[test]
+fn from_48_on_the_payload_is_not_measured() {
+    let (list, mut line) = ([0; OVERHEAD_BYTES], [LEFT; FRAME_BYTES]);
+    for length in [0, 1, 6_980, 7_172, 10_000] {
+        let mut payload = vec![LEFT; length];
+        for number in [48, u32::MAX] {
+            let refused = frame(number, &payload, &list, &mut line);
+            assert_eq!(refused, Err(Refusal::NoSuchFrame));
+            let refused = unframe(number, &line, &list, &mut payload);
+            assert_eq!(refused, Err(Refusal::NoSuchFrame));
+            assert!(payload.iter().chain(&line).all(|&byte| byte == LEFT));
+        }
+    }
+}
+
+#[test]
+fn a_super_frame_that_is_a_misfit() {
+    use superframe::{CODED_BYTES, PAYLOAD_BYTES, WORDS, encode, make, receive, take_apart};
+    misfits([PAYLOAD_BYTES, CODED_BYTES], |[payload, coded]| {
+        let mut encoder = Encoder::new();
+        let answer = encode(&mut encoder, payload, coded);
+        assert_eq!(encoder, Encoder::new());
+        answer
+    });
+    for words in [WORDS - 1, WORDS, WORDS + 1] {
+        // Where the number of marks is wrong, one of the two calls fits but for that.
+        let length = if words == WORDS {
+            CODED_BYTES
+        } else {
+            CODED_BYTES - 1
+        };
+        misfits([length, PAYLOAD_BYTES], |[coded, payload]| {
+            let (mut receiver, mut marks) = (Receiver::new(), vec![Mark::TwoFlips; words]);
+            let answer = receive(&mut receiver, coded, payload, &mut marks);
+            assert_eq!(receiver, Receiver::new());
+            assert!(marks.iter().all(|&mark| mark == Mark::TwoFlips));
+            answer
+        });
+    }
+    misfits(
+        [CODED_BYTES, CODED_BYTES, OVERHEAD_BYTES, SUPERFRAME_BYTES],
+        |[coded0, coded1, list, frames]| make([coded0, coded1], list, frames),
+    );
+    misfits(
+        [SUPERFRAME_BYTES, OVERHEAD_BYTES, CODED_BYTES, CODED_BYTES],
+        |[frames, list, coded0, coded1]| take_apart(frames, list, [coded0, coded1]),
+    );
+}
+
+#[test]
+fn a_super_frame_with_too_few_pairs_left() {
+    use superframe::{CODED_BYTES, PAIRS, PAYLOAD_BYTES, WORDS, encode, receive};
+    let last = u32::MAX - PAIRS as u32;
+    let state = |pair| State {
+        history: [1; HISTORY_BYTES],
+        pair,
+    };
+    let (mut payload, mut coded) = (vec![LEFT; PAYLOAD_BYTES], vec![LEFT; CODED_BYTES]);
+    let mut marks = vec![Mark::TwoFlips; WORDS];
+    for pair in [last + 1, u32::MAX] {
+        let mut encoder = Encoder::resume(state(pair));
+        let refused = encode(&mut encoder, &payload, &mut coded);
+        assert_eq!(refused, Err(Refusal::CountSpent));
+        assert_eq!(encoder.state(), &state(pair));
+        let mut receiver = Receiver::resume(state(pair));
+        let refused = receive(&mut receiver, &coded, &mut payload, &mut marks);
+        assert_eq!(refused, Err(Refusal::CountSpent));
+        assert_eq!(receiver.state(), &state(pair));
+    }
+    assert!(payload.iter().chain(&coded).all(|&byte| byte == LEFT));
+    assert!(marks.iter().all(|&mark| mark == Mark::TwoFlips));
+
+    let mut encoder = Encoder::resume(state(last));
+    encode(&mut encoder, &payload, &mut coded).expect("the last pairs");
+    assert_eq!(encoder.state().pair, u32::MAX);
+}
+
+#[test]
+fn a_super_frame_with_an_illegal_byte() {
+    use superframe::{CODED_BYTES, make, take_apart};
+    let (coded, mut list) = (vec![0; CODED_BYTES], [0; OVERHEAD_BYTES]);
+    let mut frames = vec![LEFT; SUPERFRAME_BYTES];
+    list[12_287] = 16;
+    let off_grid = |index| Err(Refusal::OffGrid { index });
+    assert_eq!(make([&coded, &coded], &list, &mut frames), off_grid(12_287));
+    assert!(frames.iter().all(|&byte| byte == LEFT));
+
+    let (mut coded0, mut coded1) = (vec![LEFT; CODED_BYTES], vec![LEFT; CODED_BYTES]);
+    frames.fill(0);
+    (frames[356_351], frames[200_000]) = (255, 16);
+    for (byte, index) in [(16, 12_287), (15, 200_000)] {
+        list[12_287] = byte;
+        let refused = take_apart(&frames, &list, [&mut coded0, &mut coded1]);
+        assert_eq!(refused.map(|_| ()), off_grid(index));
+    }
+    assert!(coded0.iter().chain(&coded1).all(|&byte| byte == LEFT));
 }

@@ -1,11 +1,12 @@
-//! Two payload streams through a line file with errors, and back.
+//! Two payload streams through a line file with errors, and back: call by call, and super-frame by
+//! super-frame.
 
 use ofec::cells::{CELLS_BYTES, bits_to_cells, cells_to_bits};
 use ofec::frame::{FRAME_BYTES, OVERHEAD_BYTES, SUBFRAMES, frame, payload_bytes, unframe};
 use ofec::interleaver::{BITS_BYTES, PAIRS_BYTES, deinterleave, interleave};
 use ofec::line_file::{HEADER_BYTES, write_header};
 use ofec::pair::{CODED_BYTES, PAYLOAD_BYTES};
-use ofec::{Encoder, LineFile, Receiver, Refusal};
+use ofec::{Encoder, LineFile, Mark, Receiver, Refusal, superframe};
 
 /// Pairs of each encoder in a super-frame.
 const PAIRS: usize = 168;
@@ -112,5 +113,48 @@ fn payloads_come_back_over_a_line_with_errors() -> Result<(), Refusal> {
     let (back, flips, differing) = receive(LineFile::open(&file)?)?;
     assert!(back == payloads);
     assert!(flips + differing == wrong && differing > 0);
+    Ok(())
+}
+
+/// The payloads, the flips and the overhead cells that differ, by the calls for a super-frame.
+fn receive_superframe(line: LineFile) -> Result<([Vec<u8>; 2], u32, u32), Refusal> {
+    let [mut coded0, mut coded1] = [0xa5, 0x5a].map(|left| vec![left; superframe::CODED_BYTES]);
+    let coded = [&mut coded0[..], &mut coded1[..]];
+    let differing = superframe::take_apart(line.superframe(0)?, line.overhead(), coded)?;
+    let (mut payloads, mut flips) = ([Vec::new(), Vec::new()], 0);
+    for (payload, coded) in payloads.iter_mut().zip([coded0, coded1]) {
+        let mut marks = [Mark::Lost; superframe::WORDS];
+        *payload = vec![0xa5; superframe::PAYLOAD_BYTES];
+        superframe::receive(&mut Receiver::new(), &coded, payload, &mut marks)?;
+        flips += marks.iter().filter_map(|mark| mark.flips()).sum::<u32>();
+        assert!(!marks.contains(&Mark::Lost));
+    }
+    Ok((payloads, flips, differing))
+}
+
+#[test]
+fn a_super_frame_at_once_is_its_calls_one_by_one() -> Result<(), Refusal> {
+    let payloads = [4, 5].map(|seed| bytes(seed, PAIRS * PAYLOAD_BYTES));
+    let mut overhead = bytes(6, OVERHEAD_BYTES);
+    overhead.iter_mut().for_each(|byte| *byte >>= 4);
+    let mut file = send([&payloads[0], &payloads[1]], &overhead)?;
+
+    let mut coded = [vec![0xa5; superframe::CODED_BYTES], Vec::new()];
+    coded[1] = coded[0].clone();
+    for (payload, coded) in payloads.iter().zip(&mut coded) {
+        let mut encoder = Encoder::new();
+        superframe::encode(&mut encoder, payload, coded)?;
+        assert!(*coded == encode(payload)?);
+        assert_eq!(encoder.state().pair, 168);
+    }
+    let mut frames = vec![0xa5; superframe::BUFFERS * CELLS_BYTES + OVERHEAD_BYTES];
+    superframe::make([&coded[0], &coded[1]], &overhead, &mut frames)?;
+    assert!(frames == file[HEADER_BYTES + OVERHEAD_BYTES..]);
+
+    for cells in file[HEADER_BYTES + OVERHEAD_BYTES..].chunks_mut(2 * CELLS_PER_ERROR) {
+        cells[1] ^= 4;
+    }
+    let line = LineFile::open(&file)?;
+    assert!(receive_superframe(line)? == receive(line)?);
     Ok(())
 }

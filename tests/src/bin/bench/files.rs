@@ -50,6 +50,13 @@ impl Files {
         self.folder.join(name)
     }
 
+    /// Writes a file of this folder, and gives its path.
+    pub fn put(&self, name: &str, bytes: &[u8]) -> PathBuf {
+        let path = self.path(name);
+        fs::write(&path, bytes).expect("a file of this folder");
+        path
+    }
+
     pub fn read(&self, name: &str) -> Vec<u8> {
         fs::read(self.path(name)).expect("a file of this folder")
     }

@@ -26,6 +26,12 @@ pub fn head() {
     println!("|---|---:|---:|---:|---:|---:|");
 }
 
+/// The row of a work that the library alone does.
+pub fn one(name: &str, work: impl Fn()) {
+    let [time] = medians(ROUNDS, |_| work());
+    println!("| {name} | {} | | | | |", milliseconds(time));
+}
+
 /// The row of a work that the library and the code written apart do, each in a copy of `out`.
 pub fn two<T: Clone + PartialEq>(
     name: &str,

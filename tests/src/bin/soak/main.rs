@@ -3,9 +3,10 @@
 //!
 //!     cargo run --release --bin soak -- SECONDS [SEED]
 //!
-//! The exit status is 1 at the first difference; and after 10 seconds or more also where an entry point
-//! was never done, or never refused with each number that it can give. Calls come in rounds, each from
-//! fresh and with a seed of its own, so that the seed that is printed at a difference repeats it at once.
+//! The exit status is 1 at the first difference. A run of 10 seconds or more goes on until every entry
+//! point was done, and refused with each number that it can give, and fails where ten minutes more do
+//! not suffice. Calls come in rounds, each from fresh and with a seed of its own, so that the seed that
+//! is printed at a difference repeats it at once.
 
 use std::process::ExitCode;
 use std::time::{Duration, Instant, SystemTime, UNIX_EPOCH};
@@ -28,6 +29,8 @@ const CALLS_PER_ROUND: usize = 1_000;
 const PROGRESS: Duration = Duration::from_secs(10);
 /// A run of this length must have met every refusal.
 const FULL: Duration = Duration::from_secs(10);
+/// So much longer it may take for that on a slow machine: some seconds suffice on any other.
+const PATIENCE: Duration = Duration::from_secs(600);
 
 fn main() -> ExitCode {
     let Some((seconds, seed)) = arguments() else {
@@ -64,7 +67,7 @@ fn arguments() -> Option<(u64, u64)> {
     }
 }
 
-/// Calls until the time is over, or what differed.
+/// Calls until the time is over and, in a full run, every refusal was met; or what differed.
 fn soak(duration: Duration, seed: u64, tally: &mut Tally) -> Result<(), String> {
     let start = Instant::now();
     let mut next_line = PROGRESS;
@@ -80,7 +83,10 @@ fn soak(duration: Duration, seed: u64, tally: &mut Tally) -> Result<(), String> 
             })?;
             tally.count(chosen, refusal);
             let elapsed = start.elapsed();
-            if elapsed >= duration {
+            let over = elapsed >= duration;
+            if over
+                && (duration < FULL || elapsed >= duration + PATIENCE || tally.missing().is_empty())
+            {
                 return Ok(());
             }
             if elapsed >= next_line {

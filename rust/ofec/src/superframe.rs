@@ -1,0 +1,224 @@
+//! Whole super-frames, outward and inward: the calls of the other modules for each of its pairs,
+//! buffers and sub-frames.
+//!
+//! ```text
+//!  payload 0 -- encode --.                                  .-- receive -- payload 0, marks
+//!                         +-- make -- frames -- take_apart --+
+//!  payload 1 -- encode --'                                  '-- receive -- payload 1, marks
+//! ```
+//!
+//! Everything is tested before the first byte is written, so that here too a refused call leaves
+//! every buffer and every state as it was. Nothing is allocated; [`take_apart`] has the largest
+//! arrays, about 72 kB of stack.
+//!
+//! ```
+//! use ofec::frame::{OVERHEAD_BYTES, SUPERFRAME_BYTES};
+//! use ofec::superframe::*;
+//! use ofec::{Encoder, Mark, Receiver};
+//!
+//! let payloads = [vec![0x3c; PAYLOAD_BYTES], vec![0x5a; PAYLOAD_BYTES]];
+//! let overhead = [5; OVERHEAD_BYTES];
+//!
+//! // Outward. An encoder goes on from one super-frame to the next.
+//! let mut encoders = [Encoder::new(), Encoder::new()];
+//! let mut coded = [vec![0; CODED_BYTES], vec![0; CODED_BYTES]];
+//! for i in 0..2 {
+//!     encode(&mut encoders[i], &payloads[i], &mut coded[i])?;
+//! }
+//! let mut frames = vec![0; SUPERFRAME_BYTES];
+//! make([&coded[0], &coded[1]], &overhead, &mut frames)?;
+//!
+//! frames[2] ^= 1; // cell 1 of sub-frame 0 is overhead
+//! frames[300_000] ^= 1; // a payload cell, so that one bit is wrong
+//!
+//! // Inward.
+//! let mut receivers = [Receiver::new(), Receiver::new()];
+//! let [mut pairs0, mut pairs1] = coded;
+//! let differing = take_apart(&frames, &overhead, [&mut pairs0, &mut pairs1])?;
+//! assert_eq!(differing, 1);
+//! let mut flips = 0;
+//! for (i, coded) in [pairs0, pairs1].iter().enumerate() {
+//!     let (mut payload, mut marks) = (vec![0; PAYLOAD_BYTES], [Mark::Lost; WORDS]);
+//!     receive(&mut receivers[i], coded, &mut payload, &mut marks)?;
+//!     assert_eq!(payload, payloads[i]);
+//!     flips += marks.iter().filter_map(|mark| mark.flips()).sum::<u32>();
+//! }
+//! assert_eq!(flips, 1);
+//! # Ok::<(), ofec::Refusal>(())
+//! ```
+
+use crate::cells::{self, CELLS_BYTES};
+use crate::frame::{self, FRAME_BYTES, OVERHEAD_BYTES, SUPERFRAME_BYTES, payload_bytes};
+use crate::interleaver::{self, BITS_BYTES, PAIRS_BYTES};
+use crate::{Encoder, Mark, Receiver, Refusal, pair};
+
+/// Buffers of a super-frame.
+pub const BUFFERS: usize = 8;
+/// Pairs of each encoder in a super-frame.
+pub const PAIRS: usize = 21 * BUFFERS;
+/// Bytes of the payload of one encoder.
+pub const PAYLOAD_BYTES: usize = PAIRS * pair::PAYLOAD_BYTES;
+/// Bytes of the coded pairs of one encoder.
+pub const CODED_BYTES: usize = PAIRS * pair::CODED_BYTES;
+/// Words of one encoder, each with its mark.
+pub const WORDS: usize = PAIRS * pair::WORDS;
+
+/// The most payload that a sub-frame has.
+const FRAME_PAYLOAD_BYTES: usize = 7_172;
+
+/// Refuses unless this holds of the lengths.
+fn fit(holds: bool) -> Result<(), Refusal> {
+    holds.then_some(()).ok_or(Refusal::Misfit)
+}
+
+/// Refuses where fewer than [`PAIRS`] follow.
+fn count_left(next: u32) -> Result<(), Refusal> {
+    let left = u32::MAX - next;
+    (left as usize >= PAIRS)
+        .then_some(())
+        .ok_or(Refusal::CountSpent)
+}
+
+/// Refuses the first illegal byte.
+fn legal(cells: &[u8]) -> Result<(), Refusal> {
+    let illegal = cells.iter().position(|&byte| byte >= 16);
+    illegal.map_or(Ok(()), |index| Err(Refusal::OffGrid { index }))
+}
+
+/// Encodes the next [`PAIRS`] pairs of an encoder: `payload` of [`PAYLOAD_BYTES`] to `coded` of
+/// [`CODED_BYTES`].
+///
+/// Refusals: [`Refusal::Misfit`], [`Refusal::CountSpent`] where not so many pairs are left.
+pub fn encode(encoder: &mut Encoder, payload: &[u8], coded: &mut [u8]) -> Result<(), Refusal> {
+    fit(payload.len() == PAYLOAD_BYTES && coded.len() == CODED_BYTES)?;
+    count_left(encoder.state().pair)?;
+    let places = coded.chunks_exact_mut(pair::CODED_BYTES);
+    for (payload, place) in payload.chunks_exact(pair::PAYLOAD_BYTES).zip(places) {
+        encoder.encode(payload, place)?;
+    }
+    Ok(())
+}
+
+/// Makes the sub-frames of a super-frame, one after the other as in a line file: `coded` pairs of
+/// two encoders, [`CODED_BYTES`] each, and the `overhead` list of
+/// [`OVERHEAD_BYTES`](crate::frame::OVERHEAD_BYTES) to `frames` of
+/// [`SUPERFRAME_BYTES`](crate::frame::SUPERFRAME_BYTES).
+///
+/// Refusals: [`Refusal::Misfit`], [`Refusal::OffGrid`] with the index in `overhead`.
+///
+/// ```
+/// use ofec::Refusal;
+/// use ofec::frame::{OVERHEAD_BYTES, SUPERFRAME_BYTES};
+/// use ofec::superframe::{CODED_BYTES, make};
+///
+/// let (coded, mut overhead) = (vec![0; CODED_BYTES], [0; OVERHEAD_BYTES]);
+/// let mut frames = vec![7; SUPERFRAME_BYTES];
+/// overhead[12_000] = 16;
+/// let refused = make([&coded, &coded], &overhead, &mut frames);
+/// assert_eq!(refused, Err(Refusal::OffGrid { index: 12_000 }));
+/// assert!(frames.iter().all(|&byte| byte == 7));
+/// ```
+pub fn make(coded: [&[u8]; 2], overhead: &[u8], frames: &mut [u8]) -> Result<(), Refusal> {
+    fit(coded.iter().all(|pairs| pairs.len() == CODED_BYTES))?;
+    fit(overhead.len() == OVERHEAD_BYTES && frames.len() == SUPERFRAME_BYTES)?;
+    legal(overhead)?;
+
+    // All payload cells first, at the end of `frames`: they leave as much room before them as there
+    // is overhead, so that no sub-frame overtakes the cells that are still to be framed.
+    let [pairs0, pairs1] = coded.map(|pairs| pairs.chunks_exact(PAIRS_BYTES));
+    let places = frames[OVERHEAD_BYTES..].chunks_exact_mut(CELLS_BYTES);
+    let mut bits = [0; BITS_BYTES];
+    for ((pairs0, pairs1), place) in pairs0.zip(pairs1).zip(places) {
+        interleaver::interleave(pairs0, pairs1, &mut bits)?;
+        cells::bits_to_cells(&bits, place)?;
+    }
+
+    let (mut from, mut to) = (OVERHEAD_BYTES, 0);
+    let mut payload = [0; FRAME_PAYLOAD_BYTES];
+    for (number, length) in (0..).map_while(|number| Some((number, payload_bytes(number)?))) {
+        payload[..length].copy_from_slice(&frames[from..from + length]);
+        let place = &mut frames[to..to + FRAME_BYTES];
+        frame::frame(number, &payload[..length], overhead, place)?;
+        (from, to) = (from + length, to + FRAME_BYTES);
+    }
+    Ok(())
+}
+
+/// Takes the sub-frames of a super-frame apart to the coded pairs of two encoders: the inverse of
+/// [`make`], with whatever the line left of them. Gives the number of overhead cells that differ
+/// from the list.
+///
+/// Refusals: [`Refusal::Misfit`], [`Refusal::OffGrid`] with the index in `overhead` if that has 16
+/// or more there, else in `frames`.
+///
+/// ```
+/// use ofec::Refusal;
+/// use ofec::frame::{OVERHEAD_BYTES, SUPERFRAME_BYTES};
+/// use ofec::superframe::{CODED_BYTES, take_apart};
+///
+/// let (overhead, mut frames) = ([3; OVERHEAD_BYTES], vec![0; SUPERFRAME_BYTES]);
+/// let (mut coded0, mut coded1) = (vec![1; CODED_BYTES], vec![1; CODED_BYTES]);
+/// let differing = take_apart(&frames, &overhead, [&mut coded0, &mut coded1])?;
+/// assert_eq!(differing, 6_144); // all of them
+/// assert!(coded0.iter().chain(&coded1).all(|&byte| byte == 0));
+///
+/// frames[100_000] = 99;
+/// let refused = take_apart(&frames, &overhead, [&mut coded0, &mut coded1]);
+/// assert_eq!(refused, Err(Refusal::OffGrid { index: 100_000 }));
+/// # Ok::<(), ofec::Refusal>(())
+/// ```
+pub fn take_apart(frames: &[u8], overhead: &[u8], coded: [&mut [u8]; 2]) -> Result<u32, Refusal> {
+    fit(frames.len() == SUPERFRAME_BYTES && overhead.len() == OVERHEAD_BYTES)?;
+    fit(coded.iter().all(|pairs| pairs.len() == CODED_BYTES))?;
+    legal(overhead)?;
+    legal(frames)?;
+
+    let [pairs0, pairs1] = coded.map(|pairs| pairs.chunks_exact_mut(PAIRS_BYTES));
+    let mut places = pairs0.zip(pairs1);
+    let (mut buffer, mut held) = ([0; CELLS_BYTES], 0);
+    let mut payload = [0; FRAME_PAYLOAD_BYTES];
+    let mut differing = 0;
+    for (number, frame) in (0..).zip(frames.chunks_exact(FRAME_BYTES)) {
+        let length = payload_bytes(number).unwrap_or(0);
+        differing += frame::unframe(number, frame, overhead, &mut payload[..length])?;
+        // A buffer's last cells and the first ones of the next may stand in one sub-frame.
+        let (ends, begins) = payload[..length].split_at(length.min(CELLS_BYTES - held));
+        buffer[held..held + ends.len()].copy_from_slice(ends);
+        held += ends.len();
+        if held == CELLS_BYTES {
+            if let Some((place0, place1)) = places.next() {
+                take_buffer_apart(&buffer, place0, place1)?;
+            }
+            buffer[..begins.len()].copy_from_slice(begins);
+            held = begins.len();
+        }
+    }
+    Ok(differing)
+}
+
+fn take_buffer_apart(cells: &[u8], pairs0: &mut [u8], pairs1: &mut [u8]) -> Result<(), Refusal> {
+    let mut bits = [0; BITS_BYTES];
+    cells::cells_to_bits(cells, &mut bits)?;
+    interleaver::deinterleave(&bits, pairs0, pairs1)
+}
+
+/// Receives the next [`PAIRS`] pairs of a receiver: `coded` of [`CODED_BYTES`] to `payload` of
+/// [`PAYLOAD_BYTES`] and the `marks` of [`WORDS`] words, [`pair::WORDS`] for each pair.
+///
+/// Refusals: [`Refusal::Misfit`], [`Refusal::CountSpent`] where not so many pairs are left.
+pub fn receive(
+    receiver: &mut Receiver,
+    coded: &[u8],
+    payload: &mut [u8],
+    marks: &mut [Mark],
+) -> Result<(), Refusal> {
+    fit(coded.len() == CODED_BYTES)?;
+    fit(payload.len() == PAYLOAD_BYTES && marks.len() == WORDS)?;
+    count_left(receiver.state().pair)?;
+    let payloads = payload.chunks_exact_mut(pair::PAYLOAD_BYTES);
+    let places = payloads.zip(marks.chunks_exact_mut(pair::WORDS));
+    for (coded, (payload, marks)) in coded.chunks_exact(pair::CODED_BYTES).zip(places) {
+        marks.copy_from_slice(&receiver.receive(coded, payload)?);
+    }
+    Ok(())
+}

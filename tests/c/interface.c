@@ -1,0 +1,426 @@
+/* Every function of include/ofec.h called as a C or C++ program calls it, against values known beforehand: those of the scope paper's
+ * bench, and its formulas. The numbers of a call all differ, every member of both answers is read, and every refusal that a call can
+ * give is met. The text is C99 and C++11 alike.
+ *
+ * It prints what was checked; the exit status is 1 at the first thing that is not as it should be. */
+#include <stdio.h>
+#include <stdlib.h>
+#include <string.h>
+
+#include "ofec.h"
+
+#define LEFT 0xa5 /* what stands in a written buffer before a call */
+#define LAST 4294967295u
+
+static unsigned checks = 0;
+
+static void expect_at(int line, int holds, const char *what) {
+    checks++;
+    if (!holds) {
+        printf("line %d: not as it should be: %s\n", line, what);
+        exit(1);
+    }
+}
+#define EXPECT(claim) expect_at(__LINE__, (claim) ? 1 : 0, #claim)
+
+static void answer_at(int line, ofec_outcome o, uint32_t refusal, uint32_t value, uint64_t index) {
+    checks++;
+    if (o.refusal != refusal || o.value != value || o.index != index) {
+        printf("line %d: refusal %lu, value %lu, index %lu\n", line, (unsigned long)o.refusal, (unsigned long)o.value,
+               (unsigned long)o.index);
+        exit(1);
+    }
+}
+#define ANSWER(call, refusal, value, index) answer_at(__LINE__, call, refusal, value, index)
+
+static void line_at(int line, ofec_line l, uint32_t refusal, uint32_t superframes, uint32_t overhead, uint32_t frames) {
+    checks++;
+    if (l.refusal != refusal || l.superframes != superframes || l.overhead != overhead || l.frames != frames) {
+        printf("line %d: refusal %lu, superframes %lu, overhead %lu, frames %lu\n", line, (unsigned long)l.refusal,
+               (unsigned long)l.superframes, (unsigned long)l.overhead, (unsigned long)l.frames);
+        exit(1);
+    }
+}
+#define LINE(call, refusal, superframes, overhead, frames) line_at(__LINE__, call, refusal, superframes, overhead, frames)
+
+static void fill(uint8_t *bytes, size_t length, int byte) {
+    memset(bytes, byte, length);
+}
+
+/* Whether every byte is this one. */
+static int filled(const uint8_t *bytes, size_t length, int byte) {
+    for (size_t i = 0; i < length; i++) {
+        if (bytes[i] != byte) {
+            return 0;
+        }
+    }
+    return 1;
+}
+
+/* Bit numbers rise from the most significant bit of the first byte on. */
+static void set_bit(uint8_t *bytes, size_t bit) {
+    bytes[bit / 8] = (uint8_t)(bytes[bit / 8] | 0x80 >> bit % 8);
+}
+
+static int bit_alone(const uint8_t *bytes, size_t length, size_t bit) {
+    for (size_t i = 0; i < length; i++) {
+        if (bytes[i] != (i == bit / 8 ? 0x80 >> bit % 8 : 0)) {
+            return 0;
+        }
+    }
+    return 1;
+}
+
+/* Most significant byte first. */
+static void put32(uint8_t *bytes, uint32_t number) {
+    for (int i = 0; i < 4; i++) {
+        bytes[i] = (uint8_t)(number >> (24 - 8 * i));
+    }
+}
+
+static void structs(void) {
+    EXPECT(sizeof(ofec_outcome) == 16 && sizeof(ofec_line) == 16);
+    EXPECT(offsetof(ofec_outcome, refusal) == 0 && offsetof(ofec_outcome, value) == 4 && offsetof(ofec_outcome, index) == 8);
+    EXPECT(offsetof(ofec_line, refusal) == 0 && offsetof(ofec_line, superframes) == 4 && offsetof(ofec_line, overhead) == 8 &&
+           offsetof(ofec_line, frames) == 12);
+    puts("structs: 16 bytes each, members in the order of the header");
+}
+
+static void constants(void) {
+    EXPECT(OFEC_WORD_BYTES == 32 && OFEC_PAYLOAD_BYTES == 444 && OFEC_CODED_BYTES == 512 && OFEC_MARKS_BYTES == 32);
+    EXPECT(OFEC_HISTORY_BYTES == 10 * OFEC_CODED_BYTES && OFEC_PAIRS_BYTES == OFEC_BUFFER_PAIRS * OFEC_CODED_BYTES);
+    EXPECT(OFEC_BITS_BYTES == 2 * OFEC_PAIRS_BYTES && OFEC_CELLS_BYTES == 2 * OFEC_BITS_BYTES);
+    EXPECT(OFEC_FRAME_BYTES == 2 * 3712 && OFEC_FRAME_PAYLOAD_BYTES == 2 * 3586 && OFEC_FIRST_FRAME_PAYLOAD_BYTES == 2 * 3490);
+    EXPECT(OFEC_FRAME_OVERHEAD_BYTES == 2 * 126 && OFEC_FIRST_FRAME_OVERHEAD_BYTES == 2 * 222 && OFEC_OVERHEAD_BYTES == 2 * 6144);
+    EXPECT(OFEC_HEADER_BYTES == 16 && OFEC_SUPERFRAME_BYTES == 356352 && OFEC_MOST_SUPERFRAMES == 64 && OFEC_LOST == 3);
+    EXPECT(OFEC_SUBFRAMES == 48 && OFEC_SUPERFRAME_BYTES == OFEC_SUBFRAMES * OFEC_FRAME_BYTES && OFEC_BUFFER_PAIRS == 21);
+    EXPECT(OFEC_SUPERFRAME_BUFFERS == 8 && OFEC_SUPERFRAME_PAIRS == OFEC_SUPERFRAME_BUFFERS * OFEC_BUFFER_PAIRS);
+    EXPECT(OFEC_SUPERFRAME_BUFFERS * OFEC_CELLS_BYTES == OFEC_FIRST_FRAME_PAYLOAD_BYTES + 47 * OFEC_FRAME_PAYLOAD_BYTES);
+    puts("constants: the lengths and counts of the scope paper");
+}
+
+static void names(void) {
+    static const char *const table[7] = {"done", "misfit", "bad header", "count spent", "no such frame", "off grid", "no such refusal"};
+    char version[32];
+    for (uint32_t number = 0; number < 7; number++) {
+        EXPECT(strcmp(ofec_refusal_name(number), table[number]) == 0);
+    }
+    EXPECT(strcmp(ofec_refusal_name(LAST), table[6]) == 0);
+    EXPECT(OFEC_DONE == 0 && OFEC_MISFIT == 1 && OFEC_BAD_HEADER == 2 && OFEC_COUNT_SPENT == 3 && OFEC_NO_SUCH_FRAME == 4);
+    EXPECT(OFEC_OFF_GRID == 5);
+    snprintf(version, sizeof version, "%d.%d.%d", OFEC_VERSION_MAJOR, OFEC_VERSION_MINOR, OFEC_VERSION_PATCH);
+    EXPECT(strcmp(version, OFEC_VERSION) == 0);
+    puts("ofec_refusal_name: the five names, that of 0 and that of any other number; the version");
+}
+
+static void repair_word(void) {
+    /* Only bit 238 set among 0 to 238: check bits 240, 241, 243 to 246, 248, 249, 253, 254, 255. */
+    uint8_t code[32] = {0}, word[32];
+    code[29] = 0x02, code[30] = 0xde, code[31] = 0xc7;
+    memcpy(word, code, 32);
+    ANSWER(ofec_repair_word(word, 32, 1), 0, 0, 0);
+    EXPECT(memcmp(word, code, 32) == 0);
+
+    fill(word, 32, 0);
+    set_bit(word, 0);
+    set_bit(word, 255);
+    ANSWER(ofec_repair_word(word, 32, 0), 0, 3, 0); /* bit 0 is in the front half */
+    EXPECT(word[0] == 0x80 && word[31] == 0x01);
+    ANSWER(ofec_repair_word(word, 32, 2), 0, 2, 0); /* any number but 0 is the flag */
+    EXPECT(filled(word, 32, 0));
+    set_bit(word, 255);
+    ANSWER(ofec_repair_word(word, 32, 0), 0, 1, 0);
+    EXPECT(filled(word, 32, 0));
+
+    set_bit(word, 0);
+    set_bit(word, 1);
+    set_bit(word, 2);
+    ANSWER(ofec_repair_word(word, 32, 1), 0, 3, 0);
+    EXPECT(word[0] == 0xe0 && filled(word + 1, 31, 0));
+
+    fill(word, 32, LEFT);
+    ANSWER(ofec_repair_word(word, 31, 1), 1, 0, 0);
+    ANSWER(ofec_repair_word(word, 33, 1), 1, 0, 0);
+    EXPECT(filled(word, 32, LEFT));
+    puts("ofec_repair_word: 0, 1 and 2 flips, lost, the front flag; refusal 1");
+}
+
+/* The last payload bit, 3551, is bit 238 of word (1, 15): block 6 of row 1, bit row 15, column 14^15. Its check bits stand in block 7. */
+static void last_payload_bit(uint8_t *payload, uint8_t *coded) {
+    fill(payload, 444, 0);
+    fill(coded, 512, 0);
+    set_bit(payload, 3551);
+    coded[508] = 0x40, coded[510] = 0xe3, coded[511] = 0x7b;
+}
+
+static void encode_pair(void) {
+    static uint8_t payload[444], known[512], coded[512], history[5120], before[5120];
+    last_payload_bit(payload, known);
+    fill(coded, 512, LEFT);
+    for (size_t i = 0; i < 5120; i++) {
+        history[i] = before[i] = (uint8_t)(i / 512 + 1);
+    }
+    /* Below pair 10 the history does not matter, and is shifted by a pair. */
+    ANSWER(ofec_encode_pair(payload, 444, coded, 512, history, 5120, 7), 0, 8, 0);
+    EXPECT(memcmp(coded, known, 512) == 0);
+    EXPECT(memcmp(history, before + 512, 4608) == 0 && memcmp(history + 4608, known, 512) == 0);
+
+    fill(coded, 512, LEFT);
+    memcpy(before, history, 5120);
+    ANSWER(ofec_encode_pair(payload, 443, coded, 512, history, 5120, 7), 1, 7, 0);
+    ANSWER(ofec_encode_pair(payload, 444, coded, 511, history, 5120, 8), 1, 8, 0);
+    ANSWER(ofec_encode_pair(payload, 444, coded, 512, history, 5119, 9), 1, 9, 0);
+    ANSWER(ofec_encode_pair(payload, 444, coded, 512, history, 5119, LAST), 1, LAST, 0);
+    ANSWER(ofec_encode_pair(payload, 444, coded, 512, history, 5120, LAST), 3, LAST, 0);
+    EXPECT(filled(coded, 512, LEFT) && memcmp(history, before, 5120) == 0);
+    ANSWER(ofec_encode_pair(payload, 444, coded, 512, history, 5120, LAST - 1), 0, LAST, 0);
+    puts("ofec_encode_pair: a known pair, the history shifted, the next number; refusals 1 and 3");
+}
+
+static void receive_pair(void) {
+    static uint8_t payload[444], known[512], coded[512], received[444], marks[32], history[5120], before[5120];
+    last_payload_bit(payload, known);
+    memcpy(coded, known, 512);
+    coded[0] = 0x80;        /* word (0, 0): one flip */
+    coded[16] = 0x30;       /* word (0, 1): two */
+    coded[256 + 32] = 0x0e; /* word (1, 2): three, so lost */
+    coded[508] ^= 0x40;     /* word (1, 15): its payload bit */
+    fill(history, 5120, 9);
+    ANSWER(ofec_receive_pair(coded, 512, received, 444, marks, 32, history, 5120, 3), 0, 4, 0);
+    for (int word = 0; word < 32; word++) {
+        EXPECT(marks[word] == (word == 0 ? 1 : word == 1 ? 2 : word == 18 ? 3 : word == 31 ? 1 : 0));
+    }
+    /* The lost word passes as received: columns 4 to 6 of block 0, which bit row 2 crosses to k = 6, 7 and 4; payload bits of row 1
+     * start at 256. */
+    uint8_t passed[444], kept[512];
+    memcpy(passed, payload, 444);
+    set_bit(passed, (16 + 2) * 16 + 4);
+    set_bit(passed, (16 + 2) * 16 + 6);
+    set_bit(passed, (16 + 2) * 16 + 7);
+    EXPECT(memcmp(received, passed, 444) == 0);
+    memcpy(kept, known, 512);
+    kept[256 + 32] = 0x0e;
+    EXPECT(filled(history, 4608, 9) && memcmp(history + 4608, kept, 512) == 0);
+
+    fill(received, 444, LEFT);
+    fill(marks, 32, LEFT);
+    memcpy(before, history, 5120);
+    ANSWER(ofec_receive_pair(coded, 511, received, 444, marks, 32, history, 5120, 5), 1, 5, 0);
+    ANSWER(ofec_receive_pair(coded, 512, received, 443, marks, 32, history, 5120, 6), 1, 6, 0);
+    ANSWER(ofec_receive_pair(coded, 512, received, 444, marks, 31, history, 5120, 7), 1, 7, 0);
+    ANSWER(ofec_receive_pair(coded, 512, received, 444, marks, 32, history, 5119, 8), 1, 8, 0);
+    ANSWER(ofec_receive_pair(coded, 512, received, 444, marks, 32, history, 5120, LAST), 3, LAST, 0);
+    EXPECT(filled(received, 444, LEFT) && filled(marks, 32, LEFT) && memcmp(history, before, 5120) == 0);
+    ANSWER(ofec_receive_pair(coded, 512, received, 444, marks, 32, history, 5120, LAST - 1), 0, LAST, 0);
+    puts("ofec_receive_pair: flips and a lost word in their places, the history shifted, the next number; refusals 1 and 3");
+}
+
+/* A bit of a pair's bytes: row R counted in the buffer, block C, bit row r, column c. */
+static size_t pair_bit(int R, int C, int r, int c) {
+    return (size_t)(2048 * R + 128 * r + 16 * C + c);
+}
+
+/* The output bit of this one bit of an encoder, both ways. */
+static void interleaved(int encoder, size_t bit, size_t output) {
+    static uint8_t pairs[2][10752], back[2][10752], bits[21504];
+    fill(pairs[0], 10752, 0);
+    fill(pairs[1], 10752, 0);
+    set_bit(pairs[encoder], bit);
+    fill(bits, 21504, LEFT);
+    ANSWER(ofec_interleave(pairs[0], 10752, pairs[1], 10752, bits, 21504), 0, 0, 0);
+    EXPECT(bit_alone(bits, 21504, output));
+    fill(back[0], 10752, LEFT);
+    fill(back[1], 10752, LEFT);
+    ANSWER(ofec_deinterleave(bits, 21504, back[0], 10752, back[1], 10752), 0, 0, 0);
+    EXPECT(memcmp(back[0], pairs[0], 10752) == 0 && memcmp(back[1], pairs[1], 10752) == 0);
+}
+
+static void interleaver(void) {
+    static uint8_t pairs0[10752], pairs1[10752], bits[21504];
+    interleaved(0, pair_bit(0, 0, 14, 15), 1);
+    interleaved(0, pair_bit(21, 0, 0, 0), 16);
+    interleaved(0, pair_bit(0, 0, 15, 7), 32);
+    interleaved(1, pair_bit(41, 7, 0, 15), 172031);
+
+    fill(bits, 21504, LEFT);
+    ANSWER(ofec_interleave(pairs0, 10751, pairs1, 10752, bits, 21504), 1, 0, 0);
+    ANSWER(ofec_interleave(pairs0, 10752, pairs1, 10751, bits, 21504), 1, 0, 0);
+    ANSWER(ofec_interleave(pairs0, 10752, pairs1, 10752, bits, 21503), 1, 0, 0);
+    EXPECT(filled(bits, 21504, LEFT));
+    fill(pairs0, 10752, LEFT);
+    fill(pairs1, 10752, LEFT);
+    ANSWER(ofec_deinterleave(bits, 21503, pairs0, 10752, pairs1, 10752), 1, 0, 0);
+    ANSWER(ofec_deinterleave(bits, 21504, pairs0, 10751, pairs1, 10752), 1, 0, 0);
+    ANSWER(ofec_deinterleave(bits, 21504, pairs0, 10752, pairs1, 10751), 1, 0, 0);
+    EXPECT(filled(pairs0, 10752, LEFT) && filled(pairs1, 10752, LEFT));
+    puts("ofec_interleave, ofec_deinterleave: the four output bits of the bench, each encoder in its own buffer; refusal 1");
+}
+
+static void cells(void) {
+    static const uint8_t bytes[4] = {255, 128, 8, 1}, points[8] = {10, 10, 12, 0, 3, 0, 0, 1};
+    static uint8_t bits[21504], cells[43008], back[21504];
+    memcpy(bits, bytes, 4);
+    memcpy(bits + 21500, bytes, 4);
+    fill(cells, 43008, LEFT);
+    ANSWER(ofec_bits_to_cells(bits, 21504, cells, 43008), 0, 0, 0);
+    EXPECT(memcmp(cells, points, 8) == 0 && filled(cells + 8, 42992, 0) && memcmp(cells + 43000, points, 8) == 0);
+    ANSWER(ofec_cells_to_bits(cells, 43008, back, 21504), 0, 0, 0);
+    EXPECT(memcmp(back, bits, 21504) == 0);
+
+    fill(back, 21504, LEFT);
+    cells[30001] = 255;
+    cells[30003] = 16;
+    ANSWER(ofec_cells_to_bits(cells, 43008, back, 21504), 5, 0, 30001);
+    ANSWER(ofec_cells_to_bits(cells, 43007, back, 21504), 1, 0, 0);
+    ANSWER(ofec_cells_to_bits(cells, 43008, back, 21503), 1, 0, 0);
+    EXPECT(filled(back, 21504, LEFT));
+    fill(cells, 43008, LEFT);
+    ANSWER(ofec_bits_to_cells(bits, 21503, cells, 43008), 1, 0, 0);
+    ANSWER(ofec_bits_to_cells(bits, 21504, cells, 43007), 1, 0, 0);
+    EXPECT(filled(cells, 43008, LEFT));
+    puts("ofec_bits_to_cells, ofec_cells_to_bits: the cells of the bench; refusals 1 and 5");
+}
+
+/* Pilots, training and, in sub-frame 0, the cells up to 109. */
+static int is_overhead(uint32_t number, int cell) {
+    return cell % 32 == 0 || cell < 11 || (number == 0 && cell < 110);
+}
+
+/* A list and a payload in which neighbours differ, and their frame by the rule above. */
+static size_t framed(uint32_t number, uint8_t *payload, uint8_t *overhead, uint8_t *frame) {
+    size_t in_list = number == 0 ? 0 : 444 + 252 * (size_t)(number - 1), in_payload = 0;
+    for (size_t i = 0; i < 12288; i++) {
+        overhead[i] = (uint8_t)(i * 7 % 13);
+    }
+    for (size_t i = 0; i < 7172; i++) {
+        payload[i] = (uint8_t)(i * 5 % 11);
+    }
+    for (int cell = 0; cell < 3712; cell++) {
+        int over = is_overhead(number, cell);
+        for (int rail = 0; rail < 2; rail++) {
+            frame[2 * cell + rail] = over ? overhead[in_list++] : payload[in_payload++];
+        }
+    }
+    return in_payload;
+}
+
+static void one_subframe(uint32_t number, size_t payload_length) {
+    static uint8_t payload[7172], overhead[12288], known[7424], frame[7424], back[7172];
+    EXPECT(framed(number, payload, overhead, known) == payload_length);
+    fill(frame, 7424, LEFT);
+    ANSWER(ofec_frame(number, payload, payload_length, overhead, 12288, frame, 7424), 0, 0, 0);
+    EXPECT(memcmp(frame, known, 7424) == 0);
+
+    frame[2 * 10 + 1] ^= 1; /* the last training cell */
+    frame[2 * 3680] ^= 1;   /* two pilots, one of them in both bytes */
+    frame[2 * 640] ^= 1;
+    frame[2 * 640 + 1] ^= 1;
+    fill(back, 7172, LEFT);
+    ANSWER(ofec_unframe(number, frame, 7424, overhead, 12288, back, payload_length), 0, 3, 0);
+    EXPECT(memcmp(back, payload, payload_length) == 0 && filled(back + payload_length, 7172 - payload_length, LEFT));
+}
+
+/* Refusals of both calls for sub-frame 2, whose part of the overhead list is bytes 696 to 947. */
+static void frame_refusals(void) {
+    static uint8_t payload[7172], overhead[12288], known[7424], frame[7424], back[7172];
+    framed(2, payload, overhead, known);
+    fill(frame, 7424, LEFT);
+    fill(back, 7172, LEFT);
+    ANSWER(ofec_frame(2, payload, 6980, overhead, 12288, frame, 7424), 1, 0, 0);
+    ANSWER(ofec_frame(2, payload, 7172, overhead, 12287, frame, 7424), 1, 0, 0);
+    ANSWER(ofec_frame(2, payload, 7172, overhead, 12288, frame, 7423), 1, 0, 0);
+    ANSWER(ofec_frame(0, payload, 7172, overhead, 12288, frame, 7424), 1, 0, 0);
+    ANSWER(ofec_unframe(2, known, 7423, overhead, 12288, back, 7172), 1, 0, 0);
+    ANSWER(ofec_unframe(2, known, 7424, overhead, 12287, back, 7172), 1, 0, 0);
+    ANSWER(ofec_unframe(2, known, 7424, overhead, 12288, back, 6980), 1, 0, 0);
+    ANSWER(ofec_unframe(0, known, 7424, overhead, 12288, back, 7172), 1, 0, 0);
+    /* From 48 on the payload is not measured; the other buffers are. */
+    ANSWER(ofec_frame(48, payload, 5, overhead, 12288, frame, 7424), 4, 0, 0);
+    ANSWER(ofec_frame(48, payload, 5, overhead, 12287, frame, 7424), 1, 0, 0);
+    ANSWER(ofec_frame(48, payload, 5, overhead, 12288, frame, 7423), 1, 0, 0);
+    ANSWER(ofec_unframe(LAST, known, 7424, overhead, 12288, back, 5), 4, 0, 0);
+    ANSWER(ofec_unframe(LAST, known, 7423, overhead, 12288, back, 5), 1, 0, 0);
+    ANSWER(ofec_unframe(LAST, known, 7424, overhead, 12287, back, 5), 1, 0, 0);
+    /* An illegal byte of the payload or the frame, with illegal bytes of the list that belong to other sub-frames. */
+    overhead[695] = overhead[948] = 16;
+    payload[700] = payload[5] = 200;
+    known[7423] = known[700] = 16;
+    ANSWER(ofec_frame(2, payload, 7172, overhead, 12288, frame, 7424), 5, 0, 5);
+    ANSWER(ofec_unframe(2, known, 7424, overhead, 12288, back, 7172), 5, 0, 700);
+    /* The list comes first, and its byte at the index says that the index is one of the list. */
+    EXPECT(overhead[700] < 16);
+    overhead[947] = overhead[701] = 16;
+    ANSWER(ofec_frame(2, payload, 7172, overhead, 12288, frame, 7424), 5, 0, 701);
+    ANSWER(ofec_unframe(2, known, 7424, overhead, 12288, back, 7172), 5, 0, 701);
+    EXPECT(filled(frame, 7424, LEFT) && filled(back, 7172, LEFT));
+}
+
+static void frames(void) {
+    one_subframe(0, 6980);
+    one_subframe(1, 7172);
+    one_subframe(47, 7172);
+    frame_refusals();
+    puts("ofec_frame, ofec_unframe: sub-frames 0, 1 and 47 cell by cell, 3 cells that differ; refusals 1, 4 and 5");
+}
+
+/* A file of two super-frames with gaps: the overhead list at 20, the frames at 12,400. */
+static void line_file(void) {
+    enum { o = 20, f = 12400, total = f + 2 * 356352 };
+    uint8_t *file = (uint8_t *)calloc(total, 1);
+    if (file == NULL) {
+        puts("no memory");
+        exit(1);
+    }
+    put32(file, 2);
+    put32(file + 4, o);
+    put32(file + 8, f);
+    put32(file + 12, total);
+    LINE(ofec_open_line(file, total), 0, 2, o, f);
+    ANSWER(ofec_read_line(file, total, 2, o, f, 1, 3), 0, 7424, f + 356352 + 3 * 7424);
+    ANSWER(ofec_read_line(file, total, 2, o, f, 0, 47), 0, 7424, f + 47 * 7424);
+    ANSWER(ofec_read_line(file, total, 2, o, f, 1, 47), 0, 7424, total - 7424);
+    ANSWER(ofec_read_line(file, total, 2, o, f, 2, 3), 4, 0, 0);
+    ANSWER(ofec_read_line(file, total, 2, o, f, 1, 48), 4, 0, 0);
+    ANSWER(ofec_read_line(file, total, 3, o, f, 1, 3), 2, 0, 0);
+    ANSWER(ofec_read_line(file, total, 2, o + 1, f, 1, 3), 2, 0, 0);
+    ANSWER(ofec_read_line(file, total, 2, o, f - 1, 1, 3), 2, 0, 0);
+    ANSWER(ofec_read_line(file, total - 1, 2, o, f, 1, 3), 2, 0, 0);
+    ANSWER(ofec_read_line(file, 15, 2, o, f, 1, 3), 1, 0, 0);
+    LINE(ofec_open_line(file, total - 1), 2, 0, 0, 0);
+    LINE(ofec_open_line(file, 16), 2, 0, 0, 0);
+    LINE(ofec_open_line(file, 15), 1, 0, 0, 0);
+    free(file);
+    puts("ofec_open_line, ofec_read_line: a file of two super-frames with gaps, super-frame and sub-frame told apart; refusals 1, 2 and 4");
+}
+
+static void write_header(void) {
+    static const uint8_t two[16] = {0, 0, 0, 2, 0, 0, 0, 16, 0, 0, 0x30, 0x10, 0, 0x0b, 0x10, 0x10};
+    uint8_t header[16];
+    fill(header, 16, LEFT);
+    ANSWER(ofec_write_header(0, header, 16), 2, 0, 0);
+    ANSWER(ofec_write_header(65, header, 16), 2, 0, 0);
+    ANSWER(ofec_write_header(65, header, 15), 1, 0, 0);
+    ANSWER(ofec_write_header(2, header, 17), 1, 0, 0);
+    EXPECT(filled(header, 16, LEFT));
+    ANSWER(ofec_write_header(2, header, 16), 0, 0, 0);
+    EXPECT(memcmp(header, two, 16) == 0);
+    ANSWER(ofec_write_header(64, header, 16), 0, 0, 0);
+    EXPECT(header[3] == 64);
+    puts("ofec_write_header: the bytes for two super-frames; refusals 1 and 2");
+}
+
+int main(void) {
+    structs();
+    constants();
+    names();
+    repair_word();
+    encode_pair();
+    receive_pair();
+    interleaver();
+    cells();
+    frames();
+    line_file();
+    write_header();
+    printf("12 functions, %u checks\n", checks);
+    return 0;
+}
