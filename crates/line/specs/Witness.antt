@@ -12,9 +12,10 @@ use Rattle.calls.specs.Answers.{TurnedBack}
 use Rattle.calls.specs.Sequences.{At, accepted}
 use Rattle.calls.specs.SequenceLaws.{At-lt, At-find, At-map, is-accepted}
 use Rattle.ofec.specs.Rows.{payloadIndex}
-use Rattle.ofec.specs.RowLaws.{word-at, backPlace, backPlace-low, backPlace-lt}
+use Rattle.ofec.specs.RowLaws.{all-checked, word-at, backPlace, backPlace-low, backPlace-lt}
 use Rattle.ofec.specs.Pairs.{laidOut, ownIndex, payloadOf}
 use Rattle.ofec.specs.PairLaws.{ownWord, ownPlace, own-from, length-payloadOf}
+use Rattle.ofec.specs.History.{depth}
 use Rattle.ofec.specs.EncodingLaws.{payloadBit-own}
 use Rattle.ofec.specs.SentLaws.{madeBits, sent-exists}
 use Rattle.ofec.specs.Receiving.{mendedWord, payloadOut}
@@ -118,7 +119,7 @@ module _ (p : Profile) (o : Outward p) (h : Heard p (o .superframes)) (same : h 
 
   -- It is within the limit.
   pub unaltered-limit : (e : Side) → Limit (o .sent e) (lineBit p (h .frames) e) (pairsIn p (o .superframes))
-  unaltered-limit e = record { three = λ R r lR lr. omega (arith, none e R r (omega arith) lr) }
+  unaltered-limit e = record { three = λ R r lR lr _. omega (arith, none e R r (omega arith) lr) }
 
 module _ (p : Profile) (o : Outward p) (i : Inward p o) where
   marked : (e : Side) (R r : ℕ) (c : Receiving) → r < 16 → At (accepted Receivings (i .calls e)) (R / 2) c → NotLost (receive c) R r
@@ -140,7 +141,7 @@ module _ (p : Profile) (o : Outward p) (i : Inward p o) where
       sound e R r c lr a = none p o (i .heard) same e R r (taken-row e R c a) lr
 
       kept : (e : Side) (R r : ℕ) (c : Receiving) → r < 16 → At (accepted Receivings (i .calls e)) (R / 2) c → NotLost (receive c) R r
-      kept e R r c lr a = comes p o i .words e (R / 2) c a R r refl lr .spared (omega (arith, sound e R r c lr a))
+      kept e R r c lr a = comes p o i .words e (R / 2) c a R r refl lr .spared (all-checked R) (omega (arith, sound e R r c lr a))
 
       marks-back : (e : Side) (P : ℕ) (c : Receiving) → At (accepted Receivings (i .calls e)) P c → (w : ℕ) → w < 32 → getD (receive c .marks) w 0 ≡ 0
       marks-back e P c a w lw =
@@ -185,14 +186,14 @@ unfolding payloads payloadOut payloadOf
 payload-whole p o i back e P c a bytes =
     bits-equal (receive c .payload) (getD (payloads (o .calls e)) P []) (long ∙ sym given-long) small bytes (λ j l. back .payload e P c a j (omega (arith, long)))
   where
-    is : receive c .payload ≡ payloadOut (c .history) (c .pair) (c .coded)
+    is : receive c .payload ≡ payloadOut depth (c .history) (c .pair) (c .coded)
     is = ap (λ (d : Received). d .payload) (receive-accepted c (is-accepted Receivings (i .calls e) a) .1)
 
     long : length (receive c .payload) ≡ 444
-    long = ap length is ∙ length-payloadOf (mendedWord (c .history) (c .pair) (c .coded))
+    long = ap length is ∙ length-payloadOf (mendedWord depth (c .history) (c .pair) (c .coded))
 
     small : (j : ℕ) → getD (receive c .payload) j 0 < 256
-    small j = rw is (pack-below 444 (laidOut 111 ownIndex (mendedWord (c .history) (c .pair) (c .coded))) j)
+    small j = rw is (pack-below 444 (laidOut 111 ownIndex (mendedWord depth (c .history) (c .pair) (c .coded))) j)
 
     f : (d : Encoding) × At (accepted Encodings (o .calls e)) P d
     f = At-find (accepted Encodings (o .calls e)) P (omega (arith, At-lt a, i .some e, o .filled e))
@@ -227,17 +228,17 @@ module _ (p : Profile) (o : Outward p) (h : Heard p (o .superframes)) (e : Side)
     (one : OneWrong (o .sent e) (lineBit p (h .frames) e) (rowsIn p (o .superframes)) R C r c) where
   -- It is within the limit.
   pub one-limit : Limit (o .sent e) (lineBit p (h .frames) e) (pairsIn p (o .superframes))
-  one-limit = record { three = λ Q s lQ ls. omega (arith, one-wrong lC lr lc one Q s (omega arith) ls) }
+  one-limit = record { three = λ Q s lQ ls _. omega (arith, one-wrong lC lr lc one Q s (omega arith) ls) }
 
 module _ (p : Profile) (o : Outward p) (i : Inward p o) (e : Side) (R C r c : ℕ) (lC : C < 8) (lr : r < 16) (lc : c < 16)
     (one : OneWrong (o .sent e) (lineBit p (i .heard .frames) e) (rowsIn p (o .superframes)) R C r c)
     (d : Receiving) (a : At (accepted Receivings (i .calls e)) (R / 2) d) where
   -- The word of (R, r) is where it is first checked. It is not lost, ..
   pub one-kept : NotLost (receive d) R r
-  one-kept = comes p o i .words e (R / 2) d a R r refl lr .spared (omega (arith, one-wrong lC lr lc one R r (taken-row p o i e R d a) lr))
+  one-kept = comes p o i .words e (R / 2) d a R r refl lr .spared (all-checked R) (omega (arith, one-wrong lC lr lc one R r (taken-row p o i e R d a) lr))
 
   -- .. all its bits are as sent, ..
-  pub one-repaired : (k : ℕ) → 128 ≤ k → k < 256 → AsSent (o .sent e) (receive d) R r k
+  pub one-repaired : (k : ℕ) → 128 ≤ k → k < 256 → AsSent depth (o .sent e) (receive d) R r k
   one-repaired = comes p o i .words e (R / 2) d a R r refl lr .whole one-kept
 
   -- .. and its mark is 1.
