@@ -58,5 +58,5 @@ pub record Promise (n : ℕ) (S W : RowBits) (c : Receiving) (after : Received) 
   -- back half only)."
   pub flips : NotLost after R r
       → markOf after R r ≡ distance 256 (wordOf (heldBits n (c .history ++ c .coded) (R / 2)) R r) (wordOf S R r)
-  -- "A word with at most two wrong received bits is not marked lost."
+  -- "A word with at most two wrong received bits is not marked lost": one that is checked.
   pub spared : Checked R → wrongBits S W R r ≤ 2 → NotLost after R r

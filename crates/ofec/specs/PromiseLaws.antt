@@ -2,6 +2,7 @@
 -- that a receiver takes, whatever the received pairs hold, within the limit of three wrong bits in a word.
 -- Assumes nothing.
 use mathlib.Core.Path.{_≡_, refl, sym, ap, ap₂, _∙_, subst}
+use mathlib.Core.Bool.{true}
 use mathlib.Core.List.{List, [], _++_, map}
 use mathlib.Core.Logic.{_⊎_, _≢_}
 use Prim.Native.Nat.{ℕ, suc, _+_, _-_, _*_, _/_, _%_, _<_, _≤_}
@@ -96,11 +97,11 @@ module _ {n : ℕ} (far : reach ≤ n) {S W : RowBits} (c : Receiving) (R r : �
   mark-at =
       ap (λ P. getD (marks n (c .history) P (c .coded)) (16 * (R % 2) + r) 0) number
       ∙ mark-is n (c .history) (R / 2) (c .coded) (16 * (R % 2) + r) (omega arith)
-      ∙ ap mark (repair-of n (c .history) (R / 2) (c .coded) R r refl lr t)
+      ∙ ap mark (repair-of n (c .history) (R / 2) (c .coded) R r refl lr true t)
 
   mended-at : (k : ℕ) → mendedWord n (c .history) (R / 2) (c .coded) (16 * (R % 2) + r) k ≡ repaired fix held k
   mended-at k =
-      ap (λ (w : Word). w k) (mended-word n (c .history) (R / 2) (c .coded) R r refl lr _ (repair-of n (c .history) (R / 2) (c .coded) R r refl lr t))
+      ap (λ (w : Word). w k) (mended-word n (c .history) (R / 2) (c .coded) R r refl lr _ (repair-of n (c .history) (R / 2) (c .coded) R r refl lr true t))
 
   newest-at : (k : ℕ) → 128 ≤ k → k < 256 → wordOf (heldBits n (receiveDone n c .history) (R / 2 + 1)) R r k ≡ repaired fix held k
   unfolding backBit

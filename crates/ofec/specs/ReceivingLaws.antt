@@ -1,7 +1,7 @@
 -- Laws of receiving a pair: where each bit of a word goes, and what its repair gives where the history is right.
 -- Assumes nothing.
 use mathlib.Core.Path.{_≡_, refl, sym, ap, ap₂, _∙_}
-use mathlib.Core.Bool.{Bool, true, false}
+use mathlib.Core.Bool.{Bool, true, false, cond}
 use mathlib.Core.List.{List, _++_}
 use Prim.Native.Nat.{ℕ, _+_, _-_, _*_, _/_, _%_, _<_, _≤_}
 use native.Mathlib.Omega.{arith}
@@ -64,20 +64,12 @@ module _ (n : ℕ) (h : List ℕ) (P : ℕ) (p : List ℕ) where
     unfolding heldWord
     held-word = let w = numbered P R r own-pair lr in ap₂ (wordOf (heldBits n (h ++ p) P)) (w .row) (w .bitRow)
 
-    -- The repair of one that is checked, and of one that is not.
-    pub repair-of : Checked R → repairOf n h P p (16 * (R % 2) + r) ≡ repair (frontCounts R) (wordOf (heldBits n (h ++ p) P) R r)
+    -- The repair of one that is checked, or not.
+    pub repair-of : (b : Bool) → checked R ≡ b → repairOf n h P p (16 * (R % 2) + r) ≡ cond b (repair (frontCounts R) (wordOf (heldBits n (h ++ p) P) R r)) Sound
     unfolding repairOf
-    repair-of e =
+    repair-of b e =
         let w = numbered P R r own-pair lr in
-        let t : checked (rowOf P (16 * (R % 2) + r)) ≡ true = ap checked (w .row) ∙ e in
-        rw t (ap₂ repair (ap frontCounts (w .row)) held-word)
-
-    pub repair-none : checked R ≡ false → repairOf n h P p (16 * (R % 2) + r) ≡ Sound
-    unfolding repairOf
-    repair-none e =
-        let w = numbered P R r own-pair lr in
-        let t : checked (rowOf P (16 * (R % 2) + r)) ≡ false = ap checked (w .row) ∙ e in
-        rw t
+        ap₂ (λ (a : Bool) (f : Repair). cond a f Sound) (ap checked (w .row) ∙ e) (ap₂ repair (ap frontCounts (w .row)) held-word)
 
     pub mended-word : (f : Repair) → repairOf n h P p (16 * (R % 2) + r) ≡ f → mendedWord n h P p (16 * (R % 2) + r) ≡ repaired f (wordOf (heldBits n (h ++ p) P) R r)
     unfolding mendedWord
@@ -110,10 +102,10 @@ module _ {n : ℕ} (far : reach ≤ n) {S W : RowBits} {P : ℕ} {h : List ℕ} 
       where
         go : (b : Bool) → checked R ≡ b → mendedWord n h P p (16 * (R % 2) + r) k ≡ wordOf S R r k
         go true t =
-            ap (λ (w : Word). w k) (mended-word n h P p R r e lr _ (repair-of n h P p R r e lr t))
+            ap (λ (w : Word). w k) (mended-word n h P p R r e lr _ (repair-of n h P p R r e lr true t))
             ∙ word-outcome R r e lr (code R r e lr t) (three R r e lr t) .right k lk same
         go false t =
-            ap (λ (w : Word). w k) (mended-word n h P p R r e lr Sound (repair-none n h P p R r e lr t))
+            ap (λ (w : Word). w k) (mended-word n h P p R r e lr _ (repair-of n h P p R r e lr false t))
             ∙ repaired-off Sound (wordOf (heldBits n (h ++ p) P) R r) k tt ∙ near far inv R r k e lr p holds lk same
 
     -- and so is the newest pair.
