@@ -113,13 +113,6 @@ repaired-bits Lost w k b = b
 
 -- ---- the mark
 
-pub mark-le : (r : Repair) → mark r ≤ 3
-unfolding mark
-mark-le Sound = omega arith
-mark-le (One i) = omega arith
-mark-le (Two i j) = omega arith
-mark-le Lost = omega arith
-
 -- Every repair's mark says that the word is not lost or that it is, ..
 pub mark-says : (r : Repair) → (fate (mark r) ≡ notLost) ⊎ (fate (mark r) ≡ lost)
 unfolding fate mark
