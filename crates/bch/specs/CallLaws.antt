@@ -16,6 +16,7 @@ use Rattle.calls.specs.declared.Refusal.the-variants.{Misfit}
 use Rattle.bch.specs.CodeWord.{Word, parity}
 use Rattle.bch.specs.Syndromes.{syndromesOf}
 use Rattle.bch.specs.Repair.{repair, repaired, mark}
+use Rattle.bch.specs.Marks.{lost, fate}
 use Rattle.bch.specs.RepairLaws.{lost-unaltered}
 use Rattle.bch.specs.Calls.{afterRepair, repairCall}
 use Rattle.bch.specs.declared.Repair.{Repair}
@@ -71,7 +72,7 @@ module _ (word : List ℕ) (front : Bool) where
       go (no d) = sym (ap (λ a. a .word) (repair-misfit d))
 
   -- "the word is lost and unaltered"
-  pub lost-keeps : length word ≡ 32 → ((j : ℕ) → getD word j 0 < 256) → mark (repair front (bit word)) ≡ 3 → repairCall word front .word ≡ word
+  pub lost-keeps : length word ≡ 32 → ((j : ℕ) → getD word j 0 < 256) → fate (mark (repair front (bit word))) ≡ lost → repairCall word front .word ≡ word
   lost-keeps l b e =
       ap (λ a. a .word) (repair-accepted l)
       ∙ pack-ext 32 (repaired (repair front (bit word)) (bit word)) (bit word) (λ k h. lost-unaltered (repair front (bit word)) e (bit word) k)

@@ -1,5 +1,6 @@
 pub mod CodeWord
 pub mod Repair
+pub mod Marks
 pub mod Completion
 pub mod Checks
 pub mod RemainderLaws

@@ -3,8 +3,8 @@
 -- Assumes nothing.
 use mathlib.Core.Path.{_≡_, refl, sym, ap, ap₂, _∙_, subst}
 use mathlib.Core.Bool.{Bool, true, false, cond}
-use mathlib.Core.Logic.{_≢_}
-use Prim.Native.Nat.{ℕ, _+_, _-_, _%_, _<_, _≤_}
+use mathlib.Core.Logic.{_⊎_, inl, inr, _≢_}
+use Prim.Native.Nat.{ℕ, zero, suc, _+_, _-_, _%_, _<_, _≤_}
 use native.Mathlib.Omega.{arith}
 use native.Mathlib.Decide.{ℕ-discrete}
 use borrow.Author.Tests.{eq-eqb, eqb-true}
@@ -16,6 +16,7 @@ use Rattle.bits.specs.CountLaws.{count-ext, count-one, count-two, differs-other
 use Rattle.bch.specs.CodeWord.{Word, remainder, parity, CodeWord, isCodeWord}
 use Rattle.bch.specs.RemainderLaws.{BitsTo, remainder-ext}
 use Rattle.bch.specs.Repair.{places, flipAll, repaired, mark}
+use Rattle.bch.specs.Marks.{notLost, lost, fate}
 use Rattle.bch.specs.Search.{Allowed}
 use Rattle.bch.specs.declared.Repair.{Repair}
 use Rattle.bch.specs.declared.Repair.the-variants.{Sound, One, Two, Lost}
@@ -112,26 +113,48 @@ repaired-bits Lost w k b = b
 
 -- ---- the mark
 
-pub mark-le : (r : Repair) → mark r ≤ 3
-unfolding mark
-mark-le Sound = omega arith
-mark-le (One i) = omega arith
-mark-le (Two i j) = omega arith
-mark-le Lost = omega arith
+-- Every repair's mark says that the word is not lost or that it is, ..
+pub mark-says : (r : Repair) → (fate (mark r) ≡ notLost) ⊎ (fate (mark r) ≡ lost)
+unfolding fate mark
+mark-says Sound = inl refl
+mark-says (One i) = inl refl
+mark-says (Two i j) = inl refl
+mark-says Lost = inr refl
 
-pub mark-lost : (r : Repair) → mark r ≡ 3 → r ≡ Lost
-unfolding mark
-mark-lost Sound e = absurd (omega arith)
-mark-lost (One i) e = absurd (omega arith)
-mark-lost (Two i j) e = absurd (omega arith)
-mark-lost Lost e = refl
+-- .. and no number says both.
+pub not-both : (m : ℕ) → fate m ≡ notLost → fate m ≡ lost → ⊥
+not-both m n l = let z : _≡_ {A = ℕ} 0 1 = cc in omega arith
 
-pub lost-mark : mark Lost ≡ 3
-unfolding mark
+-- Not lost: 0, 1 or 2; lost: 3.
+pub not-lost-le : (m : ℕ) → fate m ≡ notLost → m ≤ 2
+unfolding fate
+not-lost-le zero e = omega arith
+not-lost-le (suc zero) e = omega arith
+not-lost-le (suc (suc zero)) e = omega arith
+not-lost-le (suc (suc (suc zero))) e = absurd (let z : _≡_ {A = ℕ} 0 1 = cc in omega arith)
+not-lost-le (suc (suc (suc (suc m)))) e = absurd (let z : _≡_ {A = ℕ} 0 1 = cc in omega arith)
+
+pub lost-is : (m : ℕ) → fate m ≡ lost → m ≡ 3
+unfolding fate
+lost-is zero e = absurd (not-both 0 refl e)
+lost-is (suc zero) e = absurd (not-both 1 refl e)
+lost-is (suc (suc zero)) e = absurd (not-both 2 refl e)
+lost-is (suc (suc (suc zero))) e = refl
+lost-is (suc (suc (suc (suc m)))) e = absurd (let z : _≡_ {A = ℕ} 0 1 = cc in omega arith)
+
+pub lost-mark : fate (mark Lost) ≡ lost
+unfolding fate mark
 lost-mark = refl
 
+pub mark-lost : (r : Repair) → fate (mark r) ≡ lost → r ≡ Lost
+unfolding fate mark
+mark-lost Sound e = absurd (not-both 0 refl e)
+mark-lost (One i) e = absurd (not-both 1 refl e)
+mark-lost (Two i j) e = absurd (not-both 2 refl e)
+mark-lost Lost e = refl
+
 -- "the word is lost and unaltered"
-pub lost-unaltered : (r : Repair) → mark r ≡ 3 → (w : Word) (k : ℕ) → repaired r w k ≡ w k
+pub lost-unaltered : (r : Repair) → fate (mark r) ≡ lost → (w : Word) (k : ℕ) → repaired r w k ≡ w k
 lost-unaltered r e w k = ap (λ s. repaired s w k) (mark-lost r e) ∙ repaired-off Lost w k tt
 
 -- The mark of an allowed repair is the number of places at which the word is changed.

@@ -12,8 +12,9 @@ use Rattle.bits.specs.CountLaws.{count-zero, Differs, same, other, tell, differ
 use Rattle.bch.specs.CodeWord.{Word, CodeWord, isCodeWord}
 use Rattle.bch.specs.Distance.{Last, peel, code-distance}
 use Rattle.bch.specs.Repair.{repaired, mark, firstPlace, openPlaces, candidates, firstThat, repair}
+use Rattle.bch.specs.Marks.{notLost, lost, fate}
 use Rattle.bch.specs.Search.{Allowed, first-passes, first-found, in-open, of-open}
-use Rattle.bch.specs.RepairLaws.{Bits, FrontKept, code-ext, test-passes, test-passed, repaired-off, repaired-one, repaired-two-first, repaired-two-second, repaired-bits, repaired-ext, test-ext, lost-mark, mark-distance, same-repair}
+use Rattle.bch.specs.RepairLaws.{Bits, FrontKept, code-ext, test-passes, test-passed, repaired-off, repaired-one, repaired-two-first, repaired-two-second, repaired-bits, repaired-ext, test-ext, not-both, lost-is, lost-mark, mark-distance, same-repair}
 use Rattle.bch.specs.declared.Repair.{Repair}
 use Rattle.bch.specs.declared.Repair.the-variants.{Sound, One, Two, Lost}
 
@@ -180,26 +181,26 @@ module _ (front : Bool) (w : Word) (b : Bits w) where
   -- ---- the theorems
 
   -- A word that is not lost becomes a code word, by as many allowed flips as its mark says.
-  pub repair-found : mark (repair front w) ≢ 3
+  pub repair-found : fate (mark (repair front w)) ≡ notLost
       → CodeWord (repaired (repair front w) w) × (distance 256 w (repaired (repair front w) w) ≡ mark (repair front w))
       × FrontKept front w (repaired (repair front w) w)
   repair-found n =
-      ⊎-elim (λ e. absurd (n (ap mark e ∙ lost-mark)))
+      ⊎-elim (λ e. absurd (not-both (mark (repair front w)) n (ap (λ r. fate (mark r)) e ∙ lost-mark)))
       (λ p. (p .1, mark-distance w b (repair front w) (allowed-low front (repair front w) (p .0)), allowed-front front (repair front w) w (p .0)))
       found-or-lost
 
   -- A lost word has no code word within two allowed flips.
-  pub repair-lost : mark (repair front w) ≡ 3 → (c : Word) → CodeWord c → FrontKept front w c → 2 < distance 256 w c
+  pub repair-lost : fate (mark (repair front w)) ≡ lost → (c : Word) → CodeWord c → FrontKept front w c → 2 < distance 256 w c
   repair-lost e c C kept = go (decLe (distance 256 w c) 2)
     where
       go : Dec (distance 256 w c ≤ 2) → 2 < distance 256 w c
-      go (yes h) = absurd (omega (arith, repair-only c C kept h .0))
+      go (yes h) = absurd (omega (arith, lost-is (mark (repair front w)) e, repair-only c C kept h .0))
       go (no h) = omega arith
 
   -- Lost exactly when there is none: and the other way.
-  pub none-lost : ((c : Word) → CodeWord c → FrontKept front w c → 2 < distance 256 w c) → mark (repair front w) ≡ 3
+  pub none-lost : ((c : Word) → CodeWord c → FrontKept front w c → 2 < distance 256 w c) → fate (mark (repair front w)) ≡ lost
   none-lost f =
-      ⊎-elim (λ e. ap mark e ∙ lost-mark)
+      ⊎-elim (λ e. ap (λ r. fate (mark r)) e ∙ lost-mark)
       (λ p.
       let r = repair front w in
       let t = allowed-low front r (p .0) in

@@ -7,6 +7,7 @@ use lib.ListN.{getD}
 use Rattle.calls.specs.Answers.{Accepted}
 use Rattle.calls.specs.Sequences.{At, accepted}
 use Rattle.calls.specs.SequenceLaws.{mirror-accepted}
+use Rattle.ofec.specs.History.{depth}
 use Rattle.ofec.specs.Calls.{receive}
 use Rattle.ofec.specs.Promise.{Promise}
 use Rattle.interleaving.specs.Calls.{Interleaved, Apart}
@@ -28,7 +29,7 @@ use Rattle.clients.specs.RunLaws.{receivingOf, at-mapped, receive-mirror
 
 -- Word (R, r) of an accepted call of a receiver: the promise, about the buffers that the exported call left.
 pub record WordAsPromised (s : Sends) (t : Receives (s .superframes) (sentBits s)) (e : Side) (c : ReceiveCall) (R r : ℕ) : Type 0 where
-  pub promise : Promise (sentBits s e) (lineBit qam16 (t .heard .frames) e) (c .lent) R r
+  pub promise : Promise depth (sentBits s e) (lineBit qam16 (t .heard .frames) e) (c .lent) (receive (c .lent)) R r
   pub payload : c .payload ≡ receive (c .lent) .payload
   pub marks : c .marks ≡ receive (c .lent) .marks
   pub history : c .history ≡ receive (c .lent) .history

@@ -183,17 +183,17 @@ module _ (words : ℕ → Word) (bits : (w k : ℕ) → w < 32 → k < 256 → w
       (λ i l. let o = own-from i (omega arith) in
       back-at (payloadSource i) (ownWord i) (ownPlace i) (o .word) (omega (arith, o .place)) (payloadSource-is i) ∙ sym (payload-laid words i (omega arith)))
 
-pub encoded-is : (h : List ℕ) (P : ℕ) (y s q : List ℕ) → s ≡ pack 512 (backHalves (encodedWord h P y)) → q ≡ codedFrom s → q ≡ encoded h P y
+pub encoded-is : (n : ℕ) (h : List ℕ) (P : ℕ) (y s q : List ℕ) → s ≡ pack 512 (backHalves (encodedWord n h P y)) → q ≡ codedFrom s → q ≡ encoded n h P y
 unfolding encoded
-encoded-is h P y s q e p = p ∙ coded-gathered (encodedWord h P y) (λ w k lw l. encoded-code h P y w .bits k l) s e
+encoded-is n h P y s q e p = p ∙ coded-gathered (encodedWord n h P y) (λ w k lw l. encoded-code n h P y w .bits k l) s e
 
-module _ (h : List ℕ) (P : ℕ) (p s : List ℕ) (e : s ≡ pack 512 (backHalves (mendedWord h P p))) where
-  pub payload-is : (y : List ℕ) → y ≡ payloadFrom s → y ≡ payloadOut h P p
+module _ (n : ℕ) (h : List ℕ) (P : ℕ) (p s : List ℕ) (e : s ≡ pack 512 (backHalves (mendedWord n h P p))) where
+  pub payload-is : (y : List ℕ) → y ≡ payloadFrom s → y ≡ payloadOut n h P p
   unfolding payloadOut
-  payload-is y g = g ∙ payload-gathered (mendedWord h P p) (λ w k lw l. mended-bits h P p w k) s e
+  payload-is y g = g ∙ payload-gathered (mendedWord n h P p) (λ w k lw l. mended-bits n h P p w k) s e
 
-  pub shifted-is : (q t : List ℕ) → q ≡ codedFrom s → t ≡ shift h q → t ≡ shift h (newestPair h P p)
+  pub shifted-is : (q t : List ℕ) → q ≡ codedFrom s → t ≡ shift h q → t ≡ shift h (newestPair n h P p)
   unfolding newestPair
-  shifted-is q t eq et = et ∙ ap (shift h) (eq ∙ coded-gathered (mendedWord h P p) (λ w k lw l. mended-bits h P p w k) s e)
+  shifted-is q t eq et = et ∙ ap (shift h) (eq ∙ coded-gathered (mendedWord n h P p) (λ w k lw l. mended-bits n h P p w k) s e)
 
 pub ruleset gathered = (encoded-is, payload-is, shifted-is)

@@ -15,6 +15,8 @@ use Rattle.bits.specs.Filling.{Filling}
 use Rattle.bits.specs.Tests.{agree}
 use Rattle.bits.specs.Xor.{_⊕_}
 use Rattle.bch.specs.Completion.{firstBits}
+use Rattle.ofec.specs.History.{depth}
+use Rattle.ofec.specs.HistoryLaws.{deep}
 use Rattle.ofec.specs.Encoding.{openWord}
 use Rattle.ofec.specs.Receiving.{heldWord}
 use Rattle.layout.specs.ByteLaws.{byteOf-ext, byte-copied}
@@ -37,14 +39,14 @@ front-bit-is h w k x j b ex ej eb =
 
 -- A history's front half, or zeros before pair 10.
 pub front-stored : (h : List ℕ) (P w b : ℕ) (d : List ℕ) → w < 32 → 10 ≤ P → Filling (byteOf (frontStored h w)) 32 (2 * b) d → 8 ≤ b
-    → Filling (byteOf (frontHeld h P w)) 32 16 d
+    → Filling (byteOf (frontHeld depth h P w)) 32 16 d
 unfolding frontStored
 front-stored h P w b d lw m f l =
     record {
       upto = omega arith;
       long = f .long;
       done = λ j lj. f .done j (omega arith)
-          ∙ byteOf-ext (frontStored h w) (frontHeld h P w) j (λ k lk. front-held h P w (j * 8 + k) _ _ lw (omega arith) m refl refl);
+          ∙ byteOf-ext (frontStored h w) (frontHeld depth h P w) j (λ k lk. front-held h P w (j * 8 + k) _ _ lw (omega arith) m refl refl);
     }
 
 zeros : List ℕ
@@ -54,41 +56,41 @@ zero-bytes : (j : ℕ) → j < 32 → getD zeros j 0 ≡ 0
 unfolding zeros
 zero-bytes = agree 32 (λ j. getD zeros j 0) (λ j. 0) tt
 
-pub front-zeros : (h : List ℕ) (P w : ℕ) → w < 32 → P < 10 → Filling (byteOf (frontHeld h P w)) 32 16 (replicate 32 0)
+pub front-zeros : (h : List ℕ) (P w : ℕ) → w < 32 → P < 10 → Filling (byteOf (frontHeld depth h P w)) 32 16 (replicate 32 0)
 unfolding byteOf fromBits zeros
 front-zeros h P w lw m =
     record {
       upto = omega arith;
       long = refl;
       done = λ j lj. zero-bytes j (omega arith)
-          ∙ fromBits-ext 8 (λ k. 0) (λ k. frontHeld h P w (j * 8 + k)) (λ k lk. ap (λ u. u % 2) (front-none h P w (j * 8 + k) lw (omega arith) m));
+          ∙ fromBits-ext 8 (λ k. 0) (λ k. frontHeld depth h P w (j * 8 + k)) (λ k lk. ap (λ u. u % 2) (front-none depth h P w (j * 8 + k) lw (omega arith) m));
     }
 
 -- ---- a word as held
 
-module _ (h p : List ℕ) (P w : ℕ) (size : length h ≡ 5120) (lw : w < 32) where
-  pub held-start : (d : List ℕ) → Filling (byteOf (frontHeld h P w)) 32 16 d → Filling (byteOf (heldWord h P p w)) 32 16 d
+module _ (h p : List ℕ) (P w : ℕ) (size : length h ≡ 512 * depth) (lw : w < 32) where
+  pub held-start : (d : List ℕ) → Filling (byteOf (frontHeld depth h P w)) 32 16 d → Filling (byteOf (heldWord depth h P p w)) 32 16 d
   held-start d f =
       record {
         upto = f .upto;
         long = f .long;
         done = λ j l. f .done j l
-            ∙ byteOf-ext (frontHeld h P w) (heldWord h P p w) j (λ k lk. held-front h p P w size lw (j * 8 + k) _ (omega arith) refl);
+            ∙ byteOf-ext (frontHeld depth h P w) (heldWord depth h P p w) j (λ k lk. held-front depth h p P w size lw deep (j * 8 + k) _ (omega arith) refl);
       }
 
-  pub held-byte : (j x : ℕ) → 16 ≤ j → j < 32 → x ≡ byteOf (λ i. bit p (codedSource i)) (w * 16 + j - 16) → x ≡ byteOf (heldWord h P p w) j
+  pub held-byte : (j x : ℕ) → 16 ≤ j → j < 32 → x ≡ byteOf (λ i. bit p (codedSource i)) (w * 16 + j - 16) → x ≡ byteOf (heldWord depth h P p w) j
   unfolding byteOf codedSource
   held-byte j x l m e =
-      e ∙ fromBits-ext 8 (λ k. bit p (codedSource ((w * 16 + j - 16) * 8 + k))) (λ k. heldWord h P p w (j * 8 + k))
+      e ∙ fromBits-ext 8 (λ k. bit p (codedSource ((w * 16 + j - 16) * 8 + k))) (λ k. heldWord depth h P p w (j * 8 + k))
       (λ k lk. ap (λ u. u % 2) (bits k lk))
     where
-      bits : (k : ℕ) → k < 8 → bit p (codedSource ((w * 16 + j - 16) * 8 + k)) ≡ heldWord h P p w (j * 8 + k)
+      bits : (k : ℕ) → k < 8 → bit p (codedSource ((w * 16 + j - 16) * 8 + k)) ≡ heldWord depth h P p w (j * 8 + k)
       bits k lk =
           let a : ((w * 16 + j - 16) * 8 + k) / 16 * 16 ≡ w * 128 + (j * 8 + k - 128) / 16 * 16 = omega arith in
           let b : ((w * 16 + j - 16) * 8 + k) % 16 ≡ (j * 8 + k) % 16 = omega arith in
           let d : ((w * 16 + j - 16) * 8 + k) / 128 ≡ w = omega arith in
           let c : ((w * 16 + j - 16) * 8 + k) / 128 % 16 ≡ w % 16 = ap (λ n. n % 16) d in
-          held-back h p P w size lw (j * 8 + k) _ _ (omega arith) (omega arith) refl (rw (a, b, c))
+          held-back depth h p P w size lw (j * 8 + k) _ _ (omega arith) (omega arith) refl (rw (a, b, c))
 
 -- ---- a word before its completion
 
@@ -115,22 +117,22 @@ own-copied y w j e b lw l m =
     (λ k lk. ap (bit y) (omega arith) ∙ sym (own-low y w (j * 8 + k) (omega arith)))
 
 module _ (h y : List ℕ) (P w : ℕ) (lw : w < 32) where
-  pub open-start : (d : List ℕ) → Filling (byteOf (frontHeld h P w)) 32 16 d → Filling (byteOf (firstBits (openWord h P y w))) 32 16 d
+  pub open-start : (d : List ℕ) → Filling (byteOf (frontHeld depth h P w)) 32 16 d → Filling (byteOf (firstBits (openWord depth h P y w))) 32 16 d
   open-start d f =
       record {
         upto = f .upto;
         long = f .long;
         done = λ j l. f .done j l
-            ∙ byteOf-ext (frontHeld h P w) (firstBits (openWord h P y w)) j (λ k lk. open-front-bit h y P w lw (j * 8 + k) _ (omega arith) refl);
+            ∙ byteOf-ext (frontHeld depth h P w) (firstBits (openWord depth h P y w)) j (λ k lk. open-front-bit depth h y P w lw (j * 8 + k) _ (omega arith) refl);
       }
 
-  own-is : (k : ℕ) → 128 ≤ k → k < 256 → ownBit y w k ≡ firstBits (openWord h P y w) k
+  own-is : (k : ℕ) → 128 ≤ k → k < 256 → ownBit y w k ≡ firstBits (openWord depth h P y w) k
   own-is k l m = go (decLt k 224) (decLt k 239)
     where
-      go : Dec (k < 224) → Dec (k < 239) → ownBit y w k ≡ firstBits (openWord h P y w) k
-      go (yes a) d = own-low y w k a ∙ open-low h y P w lw k _ l a refl
-      go (no a) (yes b) = sym (own-high y w k _ (omega arith) b refl) ∙ open-high h y P w lw k _ (omega arith) b refl
-      go (no a) (no b) = sym (own-none y w k (omega arith)) ∙ open-none h y P w lw k (omega arith)
+      go : Dec (k < 224) → Dec (k < 239) → ownBit y w k ≡ firstBits (openWord depth h P y w) k
+      go (yes a) d = own-low y w k a ∙ open-low depth h y P w lw k _ l a refl
+      go (no a) (yes b) = sym (own-high y w k _ (omega arith) b refl) ∙ open-high depth h y P w lw k _ (omega arith) b refl
+      go (no a) (no b) = sym (own-none y w k (omega arith)) ∙ open-none depth h y P w lw k (omega arith)
 
-  pub open-byte : (j x : ℕ) → 16 ≤ j → j < 32 → x ≡ byteOf (ownBit y w) j → x ≡ byteOf (firstBits (openWord h P y w)) j
-  open-byte j x l m e = e ∙ byteOf-ext (ownBit y w) (firstBits (openWord h P y w)) j (λ k lk. own-is (j * 8 + k) (omega arith) (omega arith))
+  pub open-byte : (j x : ℕ) → 16 ≤ j → j < 32 → x ≡ byteOf (ownBit y w) j → x ≡ byteOf (firstBits (openWord depth h P y w)) j
+  open-byte j x l m e = e ∙ byteOf-ext (ownBit y w) (firstBits (openWord depth h P y w)) j (λ k lk. own-is (j * 8 + k) (omega arith) (omega arith))

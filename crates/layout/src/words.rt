@@ -2,12 +2,13 @@
 // half byte by byte.
 use crate::columns::coded_byte;
 ghost use mathlib.Core.Path.{_≡_};
-ghost use Prim.Native.Nat.{_<_, _≤_};
+ghost use Prim.Native.Nat.{_*_, _<_, _≤_};
 ghost use lib.ListN.{length};
 ghost use Rattle.bits.specs.Bits.{byteOf, pack};
 ghost use Rattle.bits.specs.Filling.{Filling};
 ghost use Rattle.bits.specs.Xor.{_⊕_};
 ghost use Rattle.bch.specs.Completion.{firstBits};
+ghost use Rattle.ofec.specs.History.{depth};
 ghost use Rattle.ofec.specs.Encoding.{openWord};
 ghost use Rattle.ofec.specs.Receiving.{heldWord};
 ghost use Rattle.layout.specs.WordBits.{frontHeld};
@@ -24,7 +25,7 @@ fn xor16(a: usize, b: usize) -> usize
 
 // Bit k of the front half of word w, where it stands in the history: in column w mod 16 of a block whose bit rows are 16 bytes apart.
 fn front_bit(history: &[u8], w: usize, k: usize) -> u8
-    requires { ⌜ (length (now history) ≡ 5120) × (w < 32) × (k < 128) ⌝ }
+    requires { ⌜ (length (now history) ≡ 512 * depth) × (w < 32) × (k < 128) ⌝ }
     ensures { λ r. ⌜ (r ≡ frontStored (now (history .entry)) w k) × (r < 2) ⌝ }
 {
     let a = xor16(k % 16, w % 16);
@@ -33,7 +34,7 @@ fn front_bit(history: &[u8], w: usize, k: usize) -> u8
 }
 
 fn front_byte(history: &[u8], w: usize, j: usize) -> u8
-    requires { ⌜ (length (now history) ≡ 5120) × (w < 32) × (j < 16) ⌝ }
+    requires { ⌜ (length (now history) ≡ 512 * depth) × (w < 32) × (j < 16) ⌝ }
     ensures { λ r. ⌜ r ≡ byteOf (frontStored (now (history .entry)) w) j ⌝ }
 {
     let mut byte = 0u8;
@@ -45,8 +46,8 @@ fn front_byte(history: &[u8], w: usize, j: usize) -> u8
 
 // Word w with its front half, block by block; zeros before pair 10.
 fn front_half(history: &[u8], pair: u32, w: usize) -> [u8; 32]
-    requires { ⌜ (length (now history) ≡ 5120) × (w < 32) ⌝ }
-    ensures { λ r. ⌜ Filling (byteOf (frontHeld (now (history .entry)) pair w)) 32 16 r ⌝ }
+    requires { ⌜ (length (now history) ≡ 512 * depth) × (w < 32) ⌝ }
+    ensures { λ r. ⌜ Filling (byteOf (frontHeld depth (now (history .entry)) pair w)) 32 16 r ⌝ }
 {
     let mut word = [0u8; 32];
     if pair < 10 {
@@ -63,8 +64,8 @@ fn front_half(history: &[u8], pair: u32, w: usize) -> [u8; 32]
 
 // Word w as the receiver holds it: the front as held, the back as received.
 pub fn held_word(history: &[u8], coded: &[u8], pair: u32, w: usize) -> [u8; 32]
-    requires { ⌜ (length (now history) ≡ 5120) × (length (now coded) ≡ 512) × (w < 32) ⌝ }
-    ensures { λ r. ⌜ r ≡ pack 32 (heldWord (now (history .entry)) pair (now (coded .entry)) w) ⌝ }
+    requires { ⌜ (length (now history) ≡ 512 * depth) × (length (now coded) ≡ 512) × (w < 32) ⌝ }
+    ensures { λ r. ⌜ r ≡ pack 32 (heldWord depth (now (history .entry)) pair (now (coded .entry)) w) ⌝ }
 {
     let mut word = front_half(history, pair, w);
     for j in 16..32 {
@@ -101,8 +102,8 @@ fn own_byte(payload: &[u8], w: usize, j: usize) -> u8
 
 // Word w before its completion: the front as held, the payload, and zeros.
 pub fn open_word(history: &[u8], payload: &[u8], pair: u32, w: usize) -> [u8; 32]
-    requires { ⌜ (length (now history) ≡ 5120) × (length (now payload) ≡ 444) × (w < 32) ⌝ }
-    ensures { λ r. ⌜ r ≡ pack 32 (firstBits (openWord (now (history .entry)) pair (now (payload .entry)) w)) ⌝ }
+    requires { ⌜ (length (now history) ≡ 512 * depth) × (length (now payload) ≡ 444) × (w < 32) ⌝ }
+    ensures { λ r. ⌜ r ≡ pack 32 (firstBits (openWord depth (now (history .entry)) pair (now (payload .entry)) w)) ⌝ }
 {
     let mut word = front_half(history, pair, w);
     for j in 16..32 {

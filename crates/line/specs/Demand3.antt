@@ -4,6 +4,7 @@ use mathlib.Core.Path.{_≡_}
 use Prim.Native.Nat.{ℕ, _*_, _/_, _<_}
 use Rattle.calls.specs.Answers.{Accepted, TurnedBack}
 use Rattle.calls.specs.Sequences.{At, Run, accepted}
+use Rattle.ofec.specs.History.{depth}
 use Rattle.ofec.specs.Calls.{Encoding, encode, Encodings, Receiving, receive, Receivings, start}
 use Rattle.ofec.specs.Promise.{Promise}
 use Rattle.cells.specs.Profile.{Profile, buffersIn, rowsIn}
@@ -33,7 +34,7 @@ pub record Comes (p : Profile) (o : Outward p) (i : Inward p o) : Type 0 where
   pub parted : (b : ℕ) → b < buffersIn p (o .superframes) → Accepted (parting p (o .superframes) (i .heard) b .answer)
   -- Of each word (R, r) of each accepted receiving call, that on pair P, the code layer's promise, with the received bits off the line.
   pub words : (e : Side) (P : ℕ) (c : Receiving) → At (accepted Receivings (i .calls e)) P c → (R r : ℕ) → R / 2 ≡ P → r < 16
-      → Promise (o .sent e) (lineBit p (i .heard .frames) e) c R r
+      → Promise depth (o .sent e) (lineBit p (i .heard .frames) e) c (receive c) R r
   pub states : (e : Side) → Run Receivings start (accepted Receivings (i .calls e)) (i .last e)
   pub refused : (e : Side) (j : ℕ) (c : Receiving) → At (i .calls e) j c → TurnedBack (receive c .answer)
       → (receive c .history ≡ c .history) × (receive c .payload ≡ c .payload) × (receive c .marks ≡ c .marks)

@@ -11,6 +11,7 @@ use Rattle.bits.specs.TestLaws.{either}
 use Rattle.calls.specs.Answers.{TurnedBack}
 use Rattle.calls.specs.Sequences.{At, accepted}
 use Rattle.ofec.specs.RowLaws.{word-at, backPlace, backPlace-lt}
+use Rattle.ofec.specs.RowLaws.{all-checked}
 use Rattle.ofec.specs.Calls.{Receiving, receive, Receivings}
 use Rattle.ofec.specs.Promise.{Limit, markOf, NotLost}
 use Rattle.cells.specs.Profile.{Profile, buffersIn, pairsIn, rowsIn}
@@ -46,7 +47,7 @@ module _ (p : Profile) (o : Outward p) (w : Side → WordErrors (rowsIn p (o .su
     pub errors-spared : (e : Side) (R r : ℕ) (c : Receiving) → r < 16 → At (accepted Receivings (i .calls e)) (R / 2) c
         → (R ≡ w e .R → r ≡ w e .r → count 128 (w e .at) ≡ 3 → ⊥) → NotLost (receive c) R r
     errors-spared e R r c lr a off =
-        comes p o i .words e (R / 2) c a R r refl lr .spared
+        comes p o i .words e (R / 2) c a R r refl lr .spared (all-checked R)
         (errors-most (w e) (errors e) 2 R r (omega arith) (taken-row p o i e R c a) lr (λ q u. omega (arith, w e .three, off q u)))
 
   -- There is such a line, ..
@@ -81,7 +82,7 @@ module _ (p : Profile) (o : Outward p) (w : Side → WordErrors (rowsIn p (o .su
       limit : (h : Heard p (o .superframes)) → ((e : Side) → Wrong h e) → (e : Side)
           → Limit (o .sent e) (lineBit p (h .frames) e) (pairsIn p (o .superframes))
       limit h errors e =
-          record { three = λ R r lR lr. errors-most (w e) (errors e) 3 R r (omega arith) (omega arith) lr (λ q u. omega (arith, w e .three)) }
+          record { three = λ R r lR lr _. errors-most (w e) (errors e) 3 R r (omega arith) (omega arith) lr (λ q u. omega (arith, w e .three)) }
 
 -- ---- words by their numbers
 

@@ -6,7 +6,7 @@ use lib.ListN.{length, replicate}
 use Rattle.calls.specs.Answers.{TurnedBack}
 use Rattle.calls.specs.Sequences.{At, accepted}
 use Rattle.ofec.specs.Calls.{encode, Encodings, Receiving, receive, Receivings, payloads}
-use Rattle.ofec.specs.Promise.{wrongBits, markOf, NotLost}
+use Rattle.ofec.specs.Promise.{wrongBits, NotLost, Lost}
 use Rattle.cells.specs.Profiles.{qam16}
 use Rattle.line.specs.Sides.{Side, side0, buffers}
 use Rattle.line.specs.Line.{lineBit}
@@ -28,7 +28,7 @@ pub record OneSuperFrame (o : Outward qam16) (i : Inward qam16 o) : Type 0 where
   pub between-back : (e : Side) → i .calls e ≡ hedged Receivings emptyReceiving (accepted Receivings (i .calls e))
   -- Word (20, 0) of encoder 0 has three wrong bits and is lost, as no other word is.
   pub three : wrongBits (o .sent side0) (lineBit qam16 (i .heard .frames) side0) 20 0 ≡ 3
-  pub lost : (c : Receiving) → At (accepted Receivings (i .calls side0)) 10 c → markOf (receive c) 20 0 ≡ 3
+  pub lost : (c : Receiving) → At (accepted Receivings (i .calls side0)) 10 c → Lost (receive c) 20 0
   pub others : (e : Side) (R r : ℕ) (c : Receiving) → r < 16 → At (accepted Receivings (i .calls e)) (R / 2) c
       → (e ≡ side0 → R ≡ 20 → r ≡ 0 → ⊥) → NotLost (receive c) R r
   pub demanded : Demand3 qam16 o i

@@ -7,6 +7,7 @@ use native.Mathlib.Omega.{arith}
 use lib.Dec.{leb}
 use lib.ListN.{length, replicate, length-replicate, getD-replicate}
 use Rattle.calls.specs.Answers.{TurnedBack}
+use Rattle.bch.specs.Marks.{fate}
 use Rattle.ofec.specs.Calls.{Encoding, encode, Encodings}
 use Rattle.cells.specs.Profile.{cellsPerBuffer, pairsIn, rowsIn}
 use Rattle.cells.specs.Profiles.{qam16, qam16-sizes}
@@ -106,7 +107,7 @@ wrong-three side0 m = refl
 wrong-three side1 m = absurd (omega arith)
 
 pub one-super-frame : (o : Outward qam16) × (i : Inward qam16 o) × OneSuperFrame o i
-unfolding given first-errors wrongOf
+unfolding given first-errors wrongOf fate
 one-super-frame =
     let out = goes-out qam16 given (λ e. hedged Encodings emptyEncoding (encodings qam16 given e))
     (λ e. among-hedged Encodings emptyEncoding refused (encodings qam16 given e)) in
@@ -129,7 +130,7 @@ one-super-frame =
             (ap (λ (c : Side → List Encoding). c e) (out .2));
         between-back = back .2;
         three = errors-own (w side0) (back .1 .errors side0) ∙ first-count 3 (omega arith);
-        lost = λ c a. back .1 .marked side0 c a ∙ first-count 3 (omega arith);
+        lost = λ c a. ap fate (back .1 .marked side0 c a ∙ first-count 3 (omega arith));
         others = λ e R r c lr a off.
             back .1 .spared e R r c lr a (λ q u m. off (wrong-three e (sym (first-count (wrongOf e) (wrong-most e)) ∙ m)) q u) .0;
         demanded = demand3 qam16 o (back .0);

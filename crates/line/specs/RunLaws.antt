@@ -3,7 +3,7 @@
 use mathlib.Core.Path.{_≡_, refl, sym, ap, _∙_}
 use mathlib.Core.List.{[], map}
 use mathlib.Core.Logic.{_≢_}
-use Prim.Native.Nat.{ℕ, suc, _<_, _≤_}
+use Prim.Native.Nat.{ℕ, suc, _*_, _<_, _≤_}
 use native.Mathlib.Omega.{arith}
 use native.Mathlib.Decide.{decLt}
 use lib.ListN.{length, getD, length-map}
@@ -11,6 +11,7 @@ use lib.Seq.{ext-getD}
 use Rattle.calls.specs.Answers.{refusalOf, valueOr, Accepted, TurnedBack}
 use Rattle.calls.specs.Sequences.{At, Run, accepted}
 use Rattle.calls.specs.SequenceLaws.{At-find, At-map, is-accepted}
+use Rattle.ofec.specs.History.{depth}
 use Rattle.ofec.specs.HistoryLaws.{length-fresh, length-shift}
 use Rattle.ofec.specs.Encoding.{encoded}
 use Rattle.ofec.specs.EncodingLaws.{length-encoded}
@@ -32,11 +33,11 @@ use Rattle.line.specs.Runs.{Given, encodingOf, encodings, LentBack, rece
 
 -- Before call P: a history of the stated length, and pair number P.
 pub record Ready (P : ℕ) (s : State) : Type 0 where
-  pub history : length (s .history) ≡ 5120
+  pub history : length (s .history) ≡ 512 * depth
   pub pair : s .pair ≡ P
 
 ready-fresh : Ready 0 start
-ready-fresh = record { history = length-fresh 10; pair = refl }
+ready-fresh = record { history = length-fresh depth; pair = refl }
 
 -- There are refused calls of both kinds.
 pub refused-encoding : (c : Encoding) → length (c .payload) ≢ 444 → TurnedBack (encode c .answer)
@@ -69,9 +70,9 @@ module _ (p : Profile) (g : Given p) (e : Side) where
   leaves P s l r =
       let c = encodingOf p g e P s in
       let is = encode-accepted c (accepts P s l r) .1 in
-      let q = encoded (c .history) (c .pair) (c .payload) in
+      let q = encoded depth (c .history) (c .pair) (c .payload) in
       record {
-        history = ap (λ (a : Encoded). length (a .history)) is ∙ length-shift 10 (c .history) q (r .history) (length-encoded (c .history) (c .pair) (c .payload));
+        history = ap (λ (a : Encoded). length (a .history)) is ∙ length-shift depth (c .history) q (r .history) (length-encoded depth (c .history) (c .pair) (c .payload));
         pair = ap (λ (a : Encoded). valueOr (a .answer) (c .pair)) is ∙ omega (arith, r .pair);
       }
 
@@ -133,9 +134,9 @@ module _ (p : Profile) (n : ℕ) (h : Heard p n) (room : LentBack) (small : pair
   leaves-back P s l r =
       let c = receivingOf p n h room e P s in
       let is = receive-accepted c (accepts-back P s l r) .1 in
-      let q = newestPair (c .history) (c .pair) (c .coded) in
+      let q = newestPair depth (c .history) (c .pair) (c .coded) in
       record {
-        history = ap (λ (a : Received). length (a .history)) is ∙ length-shift 10 (c .history) q (r .history) (length-newest (c .history) (c .pair) (c .coded));
+        history = ap (λ (a : Received). length (a .history)) is ∙ length-shift depth (c .history) q (r .history) (length-newest depth (c .history) (c .pair) (c .coded));
         pair = ap (λ (a : Received). valueOr (a .answer) (c .pair)) is ∙ omega (arith, r .pair);
       }
 

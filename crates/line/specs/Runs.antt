@@ -11,6 +11,7 @@ use Rattle.bits.specs.Bits.{bit}
 use Rattle.bits.specs.Count.{count, differs}
 use Rattle.calls.specs.Sequences.{At, accepted}
 use Rattle.ofec.specs.Rows.{RowBits, wordOf}
+use Rattle.ofec.specs.History.{depth}
 use Rattle.ofec.specs.Calls.{State, start, Encoding, Encodings, Receiving, Receivings, receive, payloads}
 use Rattle.ofec.specs.Promise.{wrongBits, markOf, NotLost, AsSent}
 use Rattle.cells.specs.Profile.{Profile, pairsIn, rowsIn}
@@ -103,7 +104,7 @@ pub record Erring (p : Profile) (o : Outward p) (w : Side → WordErrors (rowsIn
   -- Unless it has three, it is not lost and repaired, as every other word.
   pub spared : (e : Side) (R r : ℕ) (c : Receiving) → r < 16 → At (accepted Receivings (i .calls e)) (R / 2) c
       → (R ≡ w e .R → r ≡ w e .r → count 128 (w e .at) ≡ 3 → ⊥)
-      → NotLost (receive c) R r × ((k : ℕ) → 128 ≤ k → k < 256 → AsSent (o .sent e) (receive c) R r k)
+      → NotLost (receive c) R r × ((k : ℕ) → 128 ≤ k → k < 256 → AsSent depth (o .sent e) (receive c) R r k)
 
 -- j errors at the first places of the back half.
 unfoldable pub firstPlaces : ℕ → ℕ → ℕ

@@ -12,8 +12,10 @@ use Rattle.calls.specs.Answers.{TurnedBack}
 use Rattle.calls.specs.Sequences.{At, accepted}
 use Rattle.calls.specs.SequenceLaws.{At-lt, At-find, At-map, is-accepted}
 use Rattle.ofec.specs.Rows.{wordOf, payloadIndex}
+use Rattle.ofec.specs.RowLaws.{all-checked}
 use Rattle.ofec.specs.Pairs.{laidOut, ownIndex, payloadOf}
 use Rattle.ofec.specs.PairLaws.{ownWord, ownPlace, own-from, length-payloadOf}
+use Rattle.ofec.specs.History.{depth}
 use Rattle.ofec.specs.EncodingLaws.{payloadBit-own}
 use Rattle.ofec.specs.SentLaws.{madeBits, sent-exists}
 use Rattle.ofec.specs.Receiving.{mendedWord, payloadOut}
@@ -138,7 +140,7 @@ module _ (p : Profile) (o : Outward p) (h : Heard p (o .superframes)) (same : h 
 
   -- It is within the limit.
   pub unaltered-limit : (e : Side) (m : ℕ) → m ≤ pairsIn p (o .superframes) → Limit (o .sent e) (lineBit p (h .frames) e) m
-  unaltered-limit e m l = record { three = λ R r lR lr. omega (arith, none e R r (omega arith) lr) }
+  unaltered-limit e m l = record { three = λ R r lR lr _. omega (arith, none e R r (omega arith) lr) }
 
 -- So for every m up to the pairs of the line there are receivers that take just the first m.
 pub first-pairs : (p : Profile) (o : Outward p) (m : Side → ℕ) → ((e : Side) → m e ≤ pairsIn p (o .superframes)) → LentIn → LentBack
@@ -169,7 +171,7 @@ module _ (p : Profile) (o : Outward p) (i : Inward p o) where
       sound e R r c lr a = none p o (i .heard) same e R r (taken-row e R c a) lr
 
       kept : (e : Side) (R r : ℕ) (c : Receiving) → r < 16 → At (accepted Receivings (i .calls e)) (R / 2) c → NotLost (receive c) R r
-      kept e R r c lr a = comes p o i .words e (R / 2) c a R r refl lr .spared (omega (arith, sound e R r c lr a))
+      kept e R r c lr a = comes p o i .words e (R / 2) c a R r refl lr .spared (all-checked R) (omega (arith, sound e R r c lr a))
 
       marks-back : (e : Side) (P : ℕ) (c : Receiving) → At (accepted Receivings (i .calls e)) P c → (w : ℕ) → w < 32 → getD (receive c .marks) w 0 ≡ 0
       marks-back e P c a w lw =
@@ -217,14 +219,14 @@ unfolding payloads payloadOut payloadOf
 payload-whole p o i back e P c a bytes =
     bits-equal (receive c .payload) (getD (payloads (o .calls e)) P []) (long ∙ sym given-long) small bytes (λ j l. back .payload e P c a j (omega (arith, long)))
   where
-    is : receive c .payload ≡ payloadOut (c .history) (c .pair) (c .coded)
+    is : receive c .payload ≡ payloadOut depth (c .history) (c .pair) (c .coded)
     is = ap (λ (d : Received). d .payload) (receive-accepted c (is-accepted Receivings (i .calls e) a) .1)
 
     long : length (receive c .payload) ≡ 444
-    long = ap length is ∙ length-payloadOf (mendedWord (c .history) (c .pair) (c .coded))
+    long = ap length is ∙ length-payloadOf (mendedWord depth (c .history) (c .pair) (c .coded))
 
     small : (j : ℕ) → getD (receive c .payload) j 0 < 256
-    small j = rw is (pack-below 444 (laidOut 111 ownIndex (mendedWord (c .history) (c .pair) (c .coded))) j)
+    small j = rw is (pack-below 444 (laidOut 111 ownIndex (mendedWord depth (c .history) (c .pair) (c .coded))) j)
 
     f : (d : Encoding) × At (accepted Encodings (o .calls e)) P d
     f = At-find (accepted Encodings (o .calls e)) P (omega (arith, At-lt a, i .some e, o .filled e))

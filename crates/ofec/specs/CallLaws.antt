@@ -3,7 +3,7 @@
 use mathlib.Core.Path.{_≡_, refl, sym, ap, ap₂}
 use mathlib.Core.List.{List, [], _∷_}
 use mathlib.Core.Logic.{_≢_}
-use Prim.Native.Nat.{ℕ, _+_}
+use Prim.Native.Nat.{ℕ, _+_, _*_}
 use native.Mathlib.Decide.{ℕ-discrete}
 use borrow.Author.Tests.{eq-eqb, ne-eqb}
 use lib.ListN.{length}
@@ -13,7 +13,7 @@ use Rattle.calls.specs.Answers.{refusalOf, valueOr, Accepted, TurnedBack}
 use Rattle.calls.specs.Cases.{Case, done, refused, case-accepted, case-turned}
 use Rattle.calls.specs.Sequences.{Part, not-lent, Keeping, Separate}
 use Rattle.calls.specs.SequenceLaws.{part-kept}
-use Rattle.ofec.specs.History.{shift}
+use Rattle.ofec.specs.History.{depth, shift}
 use Rattle.ofec.specs.Encoding.{encoded}
 use Rattle.ofec.specs.Receiving.{newestPair, payloadOut, marks}
 use Rattle.ofec.specs.Calls.{Encoded, afterEncode, encodeCall, Received, afterReceive, receiveCall, state, Encoding, Receiving, encode, receive, Encodings, Receivings}
@@ -30,15 +30,15 @@ module _ (payload coded history : List ℕ) (P : ℕ) where
   encode-coded a b = simp (eq-eqb _ _ a, ne-eqb _ _ b)
 
   module _ (a : length payload ≡ 444) (b : length coded ≡ 512) where
-    pub encode-history : length history ≢ 5120 → afterEncode (Refused Misfit) coded history ≡ encodeCall payload coded history P
+    pub encode-history : length history ≢ 512 * depth → afterEncode (Refused Misfit) coded history ≡ encodeCall payload coded history P
     unfolding encodeCall
     encode-history c = simp (eq-eqb _ _ a, eq-eqb _ _ b, ne-eqb _ _ c)
 
-    pub encode-spent : length history ≡ 5120 → P ≡ 4294967295 → afterEncode (Refused CountSpent) coded history ≡ encodeCall payload coded history P
+    pub encode-spent : length history ≡ 512 * depth → P ≡ 4294967295 → afterEncode (Refused CountSpent) coded history ≡ encodeCall payload coded history P
     unfolding encodeCall
     encode-spent c d = simp (eq-eqb _ _ a, eq-eqb _ _ b, eq-eqb _ _ c, eq-eqb _ _ d)
 
-    pub encode-done : (q h : List ℕ) → length history ≡ 5120 → P ≢ 4294967295 → q ≡ encoded history P payload → h ≡ shift history q
+    pub encode-done : (q h : List ℕ) → length history ≡ 512 * depth → P ≢ 4294967295 → q ≡ encoded depth history P payload → h ≡ shift history q
         → afterEncode (Done (P + 1)) q h ≡ encodeCall payload coded history P
     unfolding encodeCall
     encode-done q h c d eq eh = rw (eh, eq) (simp (eq-eqb _ _ a, eq-eqb _ _ b, eq-eqb _ _ c, ne-eqb _ _ d))
@@ -49,13 +49,14 @@ pub ruleset encode-cases = (encode-payload, encode-coded, encode-history, encode
 pub record EncodeFits (c : Encoding) : Type 0 where
   pub payload : length (c .payload) ≡ 444
   pub coded : length (c .coded) ≡ 512
-  pub history : length (c .history) ≡ 5120
+  pub history : length (c .history) ≡ 512 * depth
   pub pair : c .pair ≢ 4294967295
 
 -- What a call leaves where it is done.
 abbrev pub encodeDone : Encoding → Encoded
 encodeDone c =
-    afterEncode (Done (c .pair + 1)) (encoded (c .history) (c .pair) (c .payload)) (shift (c .history) (encoded (c .history) (c .pair) (c .payload)))
+    afterEncode (Done (c .pair + 1)) (encoded depth (c .history) (c .pair) (c .payload))
+    (shift (c .history) (encoded depth (c .history) (c .pair) (c .payload)))
 
 -- A call is either done, or refused with its buffers as they were lent.
 abbrev EncodeCase : Encoding → Type 0
@@ -64,10 +65,10 @@ EncodeCase c = Case (EncodeFits c) (encodeDone c) (λ r. afterEncode (Refused r)
 encode-case : (c : Encoding) → EncodeCase c
 unfolding encode
 encode-case c =
-    go (ℕ-discrete (length (c .payload)) 444) (ℕ-discrete (length (c .coded)) 512) (ℕ-discrete (length (c .history)) 5120)
+    go (ℕ-discrete (length (c .payload)) 444) (ℕ-discrete (length (c .coded)) 512) (ℕ-discrete (length (c .history)) (512 * depth))
     (ℕ-discrete (c .pair) 4294967295)
   where
-    go : Dec (length (c .payload) ≡ 444) → Dec (length (c .coded) ≡ 512) → Dec (length (c .history) ≡ 5120) → Dec (c .pair ≡ 4294967295) → EncodeCase c
+    go : Dec (length (c .payload) ≡ 444) → Dec (length (c .coded) ≡ 512) → Dec (length (c .history) ≡ 512 * depth) → Dec (c .pair ≡ 4294967295) → EncodeCase c
     go (no a) b h p = refused Misfit (sym (encode-payload (c .payload) (c .coded) (c .history) (c .pair) a))
     go (yes a) (no b) h p = refused Misfit (sym (encode-coded (c .payload) (c .coded) (c .history) (c .pair) a b))
     go (yes a) (yes b) (no h) p = refused Misfit (sym (encode-history (c .payload) (c .coded) (c .history) (c .pair) a b h))
@@ -125,16 +126,16 @@ module _ (coded payload marks′ history : List ℕ) (P : ℕ) where
     receive-marks c = simp (eq-eqb _ _ a, eq-eqb _ _ b, ne-eqb _ _ c)
 
     module _ (c : length marks′ ≡ 32) where
-      pub receive-history : length history ≢ 5120 → afterReceive (Refused Misfit) payload marks′ history ≡ receiveCall coded payload marks′ history P
+      pub receive-history : length history ≢ 512 * depth → afterReceive (Refused Misfit) payload marks′ history ≡ receiveCall coded payload marks′ history P
       unfolding receiveCall
       receive-history d = simp (eq-eqb _ _ a, eq-eqb _ _ b, eq-eqb _ _ c, ne-eqb _ _ d)
 
-      pub receive-spent : length history ≡ 5120 → P ≡ 4294967295 → afterReceive (Refused CountSpent) payload marks′ history ≡ receiveCall coded payload marks′ history P
+      pub receive-spent : length history ≡ 512 * depth → P ≡ 4294967295 → afterReceive (Refused CountSpent) payload marks′ history ≡ receiveCall coded payload marks′ history P
       unfolding receiveCall
       receive-spent d e = simp (eq-eqb _ _ a, eq-eqb _ _ b, eq-eqb _ _ c, eq-eqb _ _ d, eq-eqb _ _ e)
 
-      pub receive-done : (y m h : List ℕ) → length history ≡ 5120 → P ≢ 4294967295 → y ≡ payloadOut history P coded → m ≡ marks history P coded
-          → h ≡ shift history (newestPair history P coded) → afterReceive (Done (P + 1)) y m h ≡ receiveCall coded payload marks′ history P
+      pub receive-done : (y m h : List ℕ) → length history ≡ 512 * depth → P ≢ 4294967295 → y ≡ payloadOut depth history P coded → m ≡ marks depth history P coded
+          → h ≡ shift history (newestPair depth history P coded) → afterReceive (Done (P + 1)) y m h ≡ receiveCall coded payload marks′ history P
       unfolding receiveCall
       receive-done y m h d e ey em eh = rw (ey, em, eh) (simp (eq-eqb _ _ a, eq-eqb _ _ b, eq-eqb _ _ c, eq-eqb _ _ d, ne-eqb _ _ e))
 
@@ -144,24 +145,25 @@ pub record ReceiveFits (c : Receiving) : Type 0 where
   pub coded : length (c .coded) ≡ 512
   pub payload : length (c .payload) ≡ 444
   pub marks : length (c .marks) ≡ 32
-  pub history : length (c .history) ≡ 5120
+  pub history : length (c .history) ≡ 512 * depth
   pub pair : c .pair ≢ 4294967295
 
-abbrev pub receiveDone : Receiving → Received
-receiveDone c =
-    afterReceive (Done (c .pair + 1)) (payloadOut (c .history) (c .pair) (c .coded)) (marks (c .history) (c .pair) (c .coded))
-    (shift (c .history) (newestPair (c .history) (c .pair) (c .coded)))
+-- What a call leaves where it is done, with a history of n pairs.
+abbrev pub receiveDone : ℕ → Receiving → Received
+receiveDone n c =
+    afterReceive (Done (c .pair + 1)) (payloadOut n (c .history) (c .pair) (c .coded)) (marks n (c .history) (c .pair) (c .coded))
+    (shift (c .history) (newestPair n (c .history) (c .pair) (c .coded)))
 
 abbrev ReceiveCase : Receiving → Type 0
-ReceiveCase c = Case (ReceiveFits c) (receiveDone c) (λ r. afterReceive (Refused r) (c .payload) (c .marks) (c .history)) (receive c)
+ReceiveCase c = Case (ReceiveFits c) (receiveDone depth c) (λ r. afterReceive (Refused r) (c .payload) (c .marks) (c .history)) (receive c)
 
 receive-case : (c : Receiving) → ReceiveCase c
 unfolding receive
 receive-case c =
     go (ℕ-discrete (length (c .coded)) 512) (ℕ-discrete (length (c .payload)) 444) (ℕ-discrete (length (c .marks)) 32)
-    (ℕ-discrete (length (c .history)) 5120) (ℕ-discrete (c .pair) 4294967295)
+    (ℕ-discrete (length (c .history)) (512 * depth)) (ℕ-discrete (c .pair) 4294967295)
   where
-    go : Dec (length (c .coded) ≡ 512) → Dec (length (c .payload) ≡ 444) → Dec (length (c .marks) ≡ 32) → Dec (length (c .history) ≡ 5120)
+    go : Dec (length (c .coded) ≡ 512) → Dec (length (c .payload) ≡ 444) → Dec (length (c .marks) ≡ 32) → Dec (length (c .history) ≡ 512 * depth)
         → Dec (c .pair ≡ 4294967295) → ReceiveCase c
     go (no a) b m h p = refused Misfit (sym (receive-coded (c .coded) (c .payload) (c .marks) (c .history) (c .pair) a))
     go (yes a) (no b) m h p = refused Misfit (sym (receive-payload (c .coded) (c .payload) (c .marks) (c .history) (c .pair) a b))
@@ -172,7 +174,7 @@ receive-case c =
         done (record { coded = a; payload = b; marks = m; history = h; pair = p })
         (sym (receive-done (c .coded) (c .payload) (c .marks) (c .history) (c .pair) a b m _ _ _ h p refl refl refl))
 
-pub receive-accepted : (c : Receiving) → Accepted (receive c .answer) → ReceiveFits c × (receive c ≡ receiveDone c)
+pub receive-accepted : (c : Receiving) → Accepted (receive c .answer) → ReceiveFits c × (receive c ≡ receiveDone depth c)
 receive-accepted c = case-accepted (λ (a : Received). a .answer) (λ r. refl) (receive-case c)
 
 pub receive-accepts : (c : Receiving) → ReceiveFits c → Accepted (receive c .answer)

@@ -4,7 +4,7 @@
 -- Assumes nothing.
 use mathlib.Core.Bool.{cond, not}
 use mathlib.Core.List.{List, [], _∷_, map}
-use Prim.Native.Nat.{ℕ, _+_}
+use Prim.Native.Nat.{ℕ, _+_, _*_}
 use lib.Dec.{eqb}
 use lib.ListN.{length}
 use Rattle.calls.specs.declared.Answer.{Answer}
@@ -12,7 +12,7 @@ use Rattle.calls.specs.declared.Answer.the-variants.{Done, Refused}
 use Rattle.calls.specs.declared.Refusal.the-variants.{Misfit, CountSpent}
 use Rattle.calls.specs.Answers.{refusalOf, valueOr}
 use Rattle.calls.specs.Sequences.{Part, Kind, accepted}
-use Rattle.ofec.specs.History.{fresh, shift}
+use Rattle.ofec.specs.History.{depth, fresh, shift}
 use Rattle.ofec.specs.Encoding.{encoded}
 use Rattle.ofec.specs.Receiving.{newestPair, payloadOut, marks}
 
@@ -31,9 +31,9 @@ unfoldable pub encodeCall : List ℕ → List ℕ → List ℕ → ℕ → Encod
 encodeCall payload coded history P =
     cond (not (eqb (length payload) 444)) (afterEncode (Refused Misfit) coded history)
     (cond (not (eqb (length coded) 512)) (afterEncode (Refused Misfit) coded history)
-    (cond (not (eqb (length history) 5120)) (afterEncode (Refused Misfit) coded history)
+    (cond (not (eqb (length history) (512 * depth))) (afterEncode (Refused Misfit) coded history)
     (cond (eqb P 4294967295) (afterEncode (Refused CountSpent) coded history)
-    (afterEncode (Done (P + 1)) (encoded history P payload) (shift history (encoded history P payload))))))
+    (afterEncode (Done (P + 1)) (encoded depth history P payload) (shift history (encoded depth history P payload))))))
 
 -- ---- receiving a pair
 
@@ -51,9 +51,9 @@ receiveCall coded payload marks′ history P =
     cond (not (eqb (length coded) 512)) (afterReceive (Refused Misfit) payload marks′ history)
     (cond (not (eqb (length payload) 444)) (afterReceive (Refused Misfit) payload marks′ history)
     (cond (not (eqb (length marks′) 32)) (afterReceive (Refused Misfit) payload marks′ history)
-    (cond (not (eqb (length history) 5120)) (afterReceive (Refused Misfit) payload marks′ history)
+    (cond (not (eqb (length history) (512 * depth))) (afterReceive (Refused Misfit) payload marks′ history)
     (cond (eqb P 4294967295) (afterReceive (Refused CountSpent) payload marks′ history)
-    (afterReceive (Done (P + 1)) (payloadOut history P coded) (marks history P coded) (shift history (newestPair history P coded)))))))
+    (afterReceive (Done (P + 1)) (payloadOut depth history P coded) (marks depth history P coded) (shift history (newestPair depth history P coded)))))))
 
 -- ---- lists of calls
 
@@ -68,7 +68,7 @@ state h P = record { history = h; pair = P }
 
 -- "Every list starts from a fresh history and pair number 0."
 abbrev pub start : State
-start = state (fresh 10) 0
+start = state (fresh depth) 0
 
 -- What is lent to a call of each kind.
 pub record Encoding : Type 0 where

@@ -1,5 +1,5 @@
 -- Encoding a pair. 01, "Rows and pairs": "Encoding a pair gives its coded bytes, the shifted history and P+1", and "the answer is the
--- formula over whatever history is lent".
+-- formula over whatever history is lent"; it is stated over the number n of pairs that the history holds.
 -- Assumes nothing.
 use mathlib.Core.Bool.{cond}
 use mathlib.Core.List.{List}
@@ -12,10 +12,10 @@ use Rattle.ofec.specs.Rows.{wordOf}
 use Rattle.ofec.specs.Pairs.{rowOf, bitRowOf, ownIndex, codedPair}
 use Rattle.ofec.specs.History.{heldBits}
 
-module _ (history : List ℕ) (P : ℕ) (payload : List ℕ) where
+module _ (n : ℕ) (history : List ℕ) (P : ℕ) (payload : List ℕ) where
   -- Word w before its completion, of which bits 0 to 238 count: the front half as held, and the payload.
   unfoldable pub openWord : ℕ → Word
-  openWord w k = cond (ltb k 128) (wordOf (heldBits 10 history P) (rowOf P w) (bitRowOf w) k) (bit payload (ownIndex w (k - 128)))
+  openWord w k = cond (ltb k 128) (wordOf (heldBits n history P) (rowOf P w) (bitRowOf w) k) (bit payload (ownIndex w (k - 128)))
 
   -- "Bits 239 to 255 make it a code word."
   unfoldable pub encodedWord : ℕ → Word

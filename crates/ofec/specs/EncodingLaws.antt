@@ -3,7 +3,7 @@
 use mathlib.Core.Path.{_≡_, refl, sym, ap, ap₂, _∙_}
 use mathlib.Core.Bool.{Bool, true, false, cond}
 use mathlib.Core.List.{List, []}
-use Prim.Native.Nat.{ℕ, _+_, _-_, _*_, _/_, _%_, _<_}
+use Prim.Native.Nat.{ℕ, _+_, _-_, _*_, _/_, _%_, _<_, _≤_}
 use native.Mathlib.Omega.{arith}
 use native.Mathlib.Decide.{decLt}
 use borrow.Author.Tests.{lt-ltb, le-ltb}
@@ -14,7 +14,7 @@ use Rattle.bits.specs.BitLaws.{bit-lt}
 use Rattle.bch.specs.CodeWord.{CodeWord}
 use Rattle.bch.specs.CompletionLaws.{completed-code, completed-first, completed-only}
 use Rattle.ofec.specs.Rows.{RowBits, wordOf, payloadIndex}
-use Rattle.ofec.specs.RowLaws.{word-lt, word-at, backPlace, backPlace-lt, payloadIndex-own, payloadIndex-lt}
+use Rattle.ofec.specs.RowLaws.{reach, word-lt, word-at, backPlace, backPlace-lt, payloadIndex-own, payloadIndex-lt}
 use Rattle.ofec.specs.Pairs.{pairBit, rowOf, bitRowOf, ownIndex}
 use Rattle.ofec.specs.PairLaws.{codedPair-bit, length-codedPair}
 use Rattle.ofec.specs.History.{heldBits}
@@ -38,43 +38,43 @@ numbered P R r e l =
 pub of-pair : (P w : ℕ) → w < 32 → rowOf P w / 2 ≡ P
 of-pair P w l = omega arith
 
-module _ (h : List ℕ) (P : ℕ) (y : List ℕ) where
-  pub open-front : (w k : ℕ) → k < 128 → openWord h P y w k ≡ wordOf (heldBits 10 h P) (rowOf P w) (bitRowOf w) k
+module _ (n : ℕ) (h : List ℕ) (P : ℕ) (y : List ℕ) where
+  pub open-front : (w k : ℕ) → k < 128 → openWord n h P y w k ≡ wordOf (heldBits n h P) (rowOf P w) (bitRowOf w) k
   unfolding openWord
   open-front w k l = simp (lt-ltb _ _ l)
 
-  pub open-back : (w k : ℕ) → openWord h P y w (128 + k) ≡ bit y (ownIndex w k)
+  pub open-back : (w k : ℕ) → openWord n h P y w (128 + k) ≡ bit y (ownIndex w k)
   unfolding openWord
   open-back w k =
       let t : ltb (128 + k) 128 ≡ false = le-ltb (128 + k) 128 (omega arith) in
       let e : 128 + k - 128 ≡ k = omega arith in
       rw (t, e)
 
-  pub open-bits : (w k : ℕ) → openWord h P y w k < 2
+  pub open-bits : (w k : ℕ) → openWord n h P y w k < 2
   unfolding openWord
   open-bits w k = go (ltb k 128)
     where
-      go : (t : Bool) → cond t (wordOf (heldBits 10 h P) (rowOf P w) (bitRowOf w) k) (bit y (ownIndex w (k - 128))) < 2
-      go true = word-lt (heldBits 10 h P) (heldBits-lt 10 h P) (rowOf P w) (bitRowOf w) k
+      go : (t : Bool) → cond t (wordOf (heldBits n h P) (rowOf P w) (bitRowOf w) k) (bit y (ownIndex w (k - 128))) < 2
+      go true = word-lt (heldBits n h P) (heldBits-lt n h P) (rowOf P w) (bitRowOf w) k
       go false = bit-lt y (ownIndex w (k - 128))
 
-  pub encoded-code : (w : ℕ) → CodeWord (encodedWord h P y w)
+  pub encoded-code : (w : ℕ) → CodeWord (encodedWord n h P y w)
   unfolding encodedWord
-  encoded-code w = completed-code (openWord h P y w) (λ k l. open-bits w k)
+  encoded-code w = completed-code (openWord n h P y w) (λ k l. open-bits w k)
 
-  pub encoded-open : (w k : ℕ) → k < 239 → encodedWord h P y w k ≡ openWord h P y w k
+  pub encoded-open : (w k : ℕ) → k < 239 → encodedWord n h P y w k ≡ openWord n h P y w k
   unfolding encodedWord
-  encoded-open w k l = completed-first (openWord h P y w) k l
+  encoded-open w k l = completed-first (openWord n h P y w) k l
 
-  pub length-encoded : length (encoded h P y) ≡ 512
+  pub length-encoded : length (encoded n h P y) ≡ 512
   unfolding encoded
-  length-encoded = length-codedPair (encodedWord h P y)
+  length-encoded = length-codedPair (encodedWord n h P y)
 
   -- The coded pair has the words' back halves.
-  pub encoded-bit : (R C r c : ℕ) → C < 8 → r < 16 → c < 16 → pairBit (encoded h P y) (R % 2) C r c ≡ encodedWord h P y (16 * (R % 2) + r) (backPlace C r c)
+  pub encoded-bit : (R C r c : ℕ) → C < 8 → r < 16 → c < 16 → pairBit (encoded n h P y) (R % 2) C r c ≡ encodedWord n h P y (16 * (R % 2) + r) (backPlace C r c)
   unfolding encoded
   encoded-bit R C r c lC lr lc =
-      codedPair-bit (encodedWord h P y) (R % 2) C r c (omega arith) lC lr lc
+      codedPair-bit (encodedWord n h P y) (R % 2) C r c (omega arith) lC lr lc
       ∙ omega (arith, encoded-code (16 * (R % 2) + r) .bits (backPlace C r c) (backPlace-lt C r c lC lr lc))
 
 -- Payload bits of a pair among the payloads of all.
@@ -88,14 +88,14 @@ payloadBit-own ys R r k lr lk =
     let m : payloadIndex R r k % 3552 ≡ payloadIndex (R % 2) r k = omega arith in
     rw (d, m)
 
-module _ {S : RowBits} {ys : List (List ℕ)} (sent : Sent ys S) {P : ℕ} {h : List ℕ} (inv : Right 10 S S P h) (within : P < length ys) where
+module _ {S : RowBits} {ys : List (List ℕ)} (sent : Sent ys S) {n : ℕ} (far : reach ≤ n) {P : ℕ} {h : List ℕ} (inv : Right n S S P h) (within : P < length ys) where
   -- The open word has the sent word's bits.
-  open-sent : (w k : ℕ) → w < 32 → k < 239 → wordOf S (rowOf P w) (bitRowOf w) k ≡ openWord h P (getD ys P []) w k
+  open-sent : (w k : ℕ) → w < 32 → k < 239 → wordOf S (rowOf P w) (bitRowOf w) k ≡ openWord n h P (getD ys P []) w k
   unfolding ownIndex
   open-sent w k lw lk = go (decLt k 128)
     where
-      go : Dec (k < 128) → wordOf S (rowOf P w) (bitRowOf w) k ≡ openWord h P (getD ys P []) w k
-      go (yes l) = sym (open-front h P (getD ys P []) w k l ∙ near-front inv (rowOf P w) (bitRowOf w) k (of-pair P w lw) (omega arith) l refl)
+      go : Dec (k < 128) → wordOf S (rowOf P w) (bitRowOf w) k ≡ openWord n h P (getD ys P []) w k
+      go (yes l) = sym (open-front n h P (getD ys P []) w k l ∙ near-front far inv (rowOf P w) (bitRowOf w) k (of-pair P w lw) (omega arith) l refl)
       go (no l) =
           let e : 128 + (k - 128) ≡ k = omega arith in
           let d : rowOf P w / 2 ≡ P = of-pair P w lw in
@@ -103,27 +103,27 @@ module _ {S : RowBits} {ys : List (List ℕ)} (sent : Sent ys S) {P : ℕ} {h : 
           ap (wordOf S (rowOf P w) (bitRowOf w)) (sym e)
           ∙ sent .payload .placed (rowOf P w) (bitRowOf w) (k - 128) (omega arith) (omega arith) (omega arith)
           ∙ payloadBit-own ys (rowOf P w) (bitRowOf w) (k - 128) (omega arith) (omega arith)
-          ∙ rw (d, m) (sym (open-back h P (getD ys P []) w (k - 128)))
-          ∙ ap (openWord h P (getD ys P []) w) e
+          ∙ rw (d, m) (sym (open-back n h P (getD ys P []) w (k - 128)))
+          ∙ ap (openWord n h P (getD ys P []) w) e
 
   -- So the coded word is the sent word,
-  encoded-sent : (w k : ℕ) → w < 32 → k < 256 → wordOf S (rowOf P w) (bitRowOf w) k ≡ encodedWord h P (getD ys P []) w k
+  encoded-sent : (w k : ℕ) → w < 32 → k < 256 → wordOf S (rowOf P w) (bitRowOf w) k ≡ encodedWord n h P (getD ys P []) w k
   unfolding encodedWord
   encoded-sent w k lw lk =
-      completed-only (openWord h P (getD ys P []) w) (wordOf S (rowOf P w) (bitRowOf w)) (sent .words .code (rowOf P w) (bitRowOf w) (omega arith) (omega arith))
+      completed-only (openWord n h P (getD ys P []) w) (wordOf S (rowOf P w) (bitRowOf w)) (sent .words .code (rowOf P w) (bitRowOf w) (omega arith) (omega arith))
       (λ j l. open-sent w j lw l) k lk
 
   -- and the coded pair holds the sent bits.
-  pub encoded-holds : Holds S P (encoded h P (getD ys P []))
+  pub encoded-holds : Holds S P (encoded n h P (getD ys P []))
   encoded-holds =
       record {
         holds = λ R C r c e lC lr lc.
-            let n = numbered P R r e lr in
-            encoded-bit h P (getD ys P []) R C r c lC lr lc
-            ∙ sym (encoded-sent (16 * (R % 2) + r) (backPlace C r c) (n .below) (backPlace-lt C r c lC lr lc))
-            ∙ ap₂ (λ (Q a : ℕ). wordOf S Q a (backPlace C r c)) (n .row) (n .bitRow)
+            let w = numbered P R r e lr in
+            encoded-bit n h P (getD ys P []) R C r c lC lr lc
+            ∙ sym (encoded-sent (16 * (R % 2) + r) (backPlace C r c) (w .below) (backPlace-lt C r c lC lr lc))
+            ∙ ap₂ (λ (Q a : ℕ). wordOf S Q a (backPlace C r c)) (w .row) (w .bitRow)
             ∙ word-at S R C r c lr lc;
       }
 
-  pub encoded-right : RightPair S S P (encoded h P (getD ys P []))
-  encoded-right = record { size = length-encoded h P (getD ys P []); right = λ R C r c e lC lr lc w. encoded-holds .holds R C r c e lC lr lc }
+  pub encoded-right : RightPair S S P (encoded n h P (getD ys P []))
+  encoded-right = record { size = length-encoded n h P (getD ys P []); right = λ R C r c e lC lr lc same. encoded-holds .holds R C r c e lC lr lc }

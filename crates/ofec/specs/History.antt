@@ -1,5 +1,5 @@
--- The history, stated over the number n of pairs that it holds. 01, "Rows and pairs": "The history holds the ten pairs before, oldest
--- first, 5,120 bytes, all zero and with pair number 0 when fresh".
+-- The history, stated over the number n of pairs that it holds, 512 bytes each. 01, "Rows and pairs": "The history holds the ten pairs
+-- before, oldest first, 5,120 bytes, all zero and with pair number 0 when fresh".
 -- Assumes nothing.
 use mathlib.Core.List.{List, _++_}
 use Prim.Native.Nat.{ℕ, _+_, _-_, _*_, _/_, _%_}
@@ -7,6 +7,10 @@ use lib.ListN.{drop, replicate}
 use Rattle.bits.specs.Bits.{bit}
 use Rattle.ofec.specs.Rows.{RowBits}
 use Rattle.ofec.specs.Pairs.{pairIndex}
+
+-- "The history holds the ten pairs before".
+abbrev pub depth : ℕ
+depth = 10
 
 -- A history of n pairs when fresh.
 unfoldable pub fresh : ℕ → List ℕ

@@ -8,11 +8,15 @@ use native.Mathlib.Decide.{ℕ-discrete}
 use lib.ListN.{length, length-append, length-drop, length-replicate}
 use Rattle.bits.specs.BitLaws.{bit-lt}
 use Rattle.ofec.specs.Rows.{RowBits, wordOf}
-use Rattle.ofec.specs.RowLaws.{Place, zeros, before, own, place}
+use Rattle.ofec.specs.RowLaws.{reach, Place, zeros, before, own, place}
 use Rattle.ofec.specs.Pairs.{pairIndex, pairBit}
-use Rattle.ofec.specs.History.{fresh, heldBits, shift}
+use Rattle.ofec.specs.History.{depth, fresh, heldBits, shift}
 use Rattle.ofec.specs.Promise.{Holds}
 use Rattle.ofec.specs.BufferLaws.{bit-left, bit-right, bit-drop}
+
+-- The depth of the calls' history reaches as far back as a front half.
+pub deep : reach ≤ depth
+deep = omega arith
 
 pub heldBits-lt : (n : ℕ) (pairs : List ℕ) (P R C r c : ℕ) → heldBits n pairs P R C r c < 2
 unfolding heldBits
@@ -77,44 +81,45 @@ right-shift {n} {S} {W} {P} {h} {q} some inv new = record { size = length-shift 
         go (yes d) = held-newest n h q P (inv .size) R C r c lC lr lc d ∙ new .right R C r c d lC lr lc e
         go (no d) = held-before n h q P (inv .size) R C r c lC lr lc (omega arith) (omega arith) ∙ inv .right R C r c (omega arith) (omega arith) lC lr lc e
 
--- ---- words over a history of ten pairs
+-- ---- words over a history that reaches back far enough
 
-module _ {S W : RowBits} {P : ℕ} {h : List ℕ} (inv : Right 10 S W P h) (R r k : ℕ) (own-pair : R / 2 ≡ P) (lr : r < 16) where
+module _ {n : ℕ} (far : reach ≤ n) {S W : RowBits} {P : ℕ} {h : List ℕ} (inv : Right n S W P h) (R r k : ℕ) (own-pair : R / 2 ≡ P) (lr : r < 16) where
   -- The front half as held is right wherever the delivered one is.
-  pub near-front : k < 128 → wordOf W R r k ≡ wordOf S R r k → wordOf (heldBits 10 h P) R r k ≡ wordOf S R r k
+  pub near-front : k < 128 → wordOf W R r k ≡ wordOf S R r k → wordOf (heldBits n h P) R r k ≡ wordOf S R r k
   near-front l e = go (place R r k lr (omega arith))
     where
-      go : Place R r k → wordOf (heldBits 10 h P) R r k ≡ wordOf S R r k
-      go (zeros m is) = is (heldBits 10 h P) ∙ sym (is S)
+      go : Place R r k → wordOf (heldBits n h P) R r k ≡ wordOf S R r k
+      go (zeros m is) = is (heldBits n h P) ∙ sym (is S)
       go (before Q C a c m lo hi lC la lc is) =
-          is (heldBits 10 h P) ∙ inv .right Q C a c (omega arith) (omega arith) lC la lc (sym (is W) ∙ e ∙ is S) ∙ sym (is S)
+          is (heldBits n h P) ∙ inv .right Q C a c (omega arith) (omega arith) lC la lc (sym (is W) ∙ e ∙ is S) ∙ sym (is S)
       go (own C c m lC lc is) = absurd (omega arith)
 
   -- And so is the whole word, front as held and back as received.
-  pub near : (q : List ℕ) → Holds W P q → k < 256 → wordOf W R r k ≡ wordOf S R r k → wordOf (heldBits 10 (h ++ q) P) R r k ≡ wordOf S R r k
+  pub near : (q : List ℕ) → Holds W P q → k < 256 → wordOf W R r k ≡ wordOf S R r k → wordOf (heldBits n (h ++ q) P) R r k ≡ wordOf S R r k
   near q holds lk e = go (place R r k lr lk)
     where
-      go : Place R r k → wordOf (heldBits 10 (h ++ q) P) R r k ≡ wordOf S R r k
-      go (zeros m is) = is (heldBits 10 (h ++ q) P) ∙ sym (is S)
+      go : Place R r k → wordOf (heldBits n (h ++ q) P) R r k ≡ wordOf S R r k
+      go (zeros m is) = is (heldBits n (h ++ q) P) ∙ sym (is S)
       go (before Q C a c m lo hi lC la lc is) =
-          is (heldBits 10 (h ++ q) P) ∙ held-before 10 h q P (inv .size) Q C a c lC la lc (omega arith) (omega arith)
+          is (heldBits n (h ++ q) P) ∙ held-before n h q P (inv .size) Q C a c lC la lc (omega arith) (omega arith)
           ∙ inv .right Q C a c (omega arith) (omega arith) lC la lc (sym (is W) ∙ e ∙ is S) ∙ sym (is S)
       go (own C c m lC lc is) =
-          is (heldBits 10 (h ++ q) P) ∙ held-newest 10 h q P (inv .size) R C r c lC lr lc own-pair
+          is (heldBits n (h ++ q) P) ∙ held-newest n h q P (inv .size) R C r c lC lr lc own-pair
           ∙ holds .holds R C r c own-pair lC lr lc ∙ sym (is W) ∙ e
 
 -- ---- the histories of a list of steps
 
--- The history after n steps from fresh: each shifts in the pair that it makes of the history, the pair number and what it is given.
-unfoldable pub historyAfter : (List ℕ → ℕ → List ℕ → List ℕ) → (ℕ → List ℕ) → ℕ → List ℕ
-historyAfter new given zero = fresh 10
-historyAfter new given (suc n) = shift (historyAfter new given n) (new (historyAfter new given n) n (given n))
+-- The history of n pairs after m steps from fresh: each shifts in the pair that it makes of the history, the pair number and what it
+-- is given.
+unfoldable pub historyAfter : ℕ → (List ℕ → ℕ → List ℕ → List ℕ) → (ℕ → List ℕ) → ℕ → List ℕ
+historyAfter n new given zero = fresh n
+historyAfter n new given (suc m) = shift (historyAfter n new given m) (new (historyAfter n new given m) m (given m))
 
 -- Where each step makes a right pair of a right history, all histories are right.
-pub right-after : (S W : RowBits) (new : List ℕ → ℕ → List ℕ → List ℕ) (given : ℕ → List ℕ) (n : ℕ)
-    → ((P : ℕ) (h : List ℕ) → P < n → Right 10 S W P h → RightPair S W P (new h P (given P))) → Right 10 S W n (historyAfter new given n)
+pub right-after : {n : ℕ} → 0 < n → (S W : RowBits) (new : List ℕ → ℕ → List ℕ → List ℕ) (given : ℕ → List ℕ) (m : ℕ)
+    → ((P : ℕ) (h : List ℕ) → P < m → Right n S W P h → RightPair S W P (new h P (given P))) → Right n S W m (historyAfter n new given m)
 unfolding historyAfter
-right-after S W new given zero step = right-fresh 10 S W
-right-after S W new given (suc n) step =
-    let inv = right-after S W new given n (λ P h l. step P h (omega arith)) in
-    right-shift (omega arith) inv (step n (historyAfter new given n) (omega arith) inv)
+right-after {n} some S W new given zero step = right-fresh n S W
+right-after {n} some S W new given (suc m) step =
+    let inv = right-after some S W new given m (λ P h l. step P h (omega arith)) in
+    right-shift some inv (step m (historyAfter n new given m) (omega arith) inv)

@@ -1,19 +1,19 @@
 -- The code layer's promise about one word of a pair received. 01, "Whole runs": "What is compared: a word's 128 back-half bits in the
 -- newest pair of the history that its call returned, and those of them that are payload in payload out, each with the sent bit."
--- S are the sent bits, W those that the line delivered. Crates above cite `Promise` and read no bit of a history.
+-- S are the sent bits, W those that the line delivered; histories hold n pairs. Crates above cite `Promise` and read no bit of a history.
 -- Assumes nothing.
 use mathlib.Core.Path.{_≡_}
 use mathlib.Core.List.{List, _++_}
-use mathlib.Core.Logic.{_≢_}
 use Prim.Native.Nat.{ℕ, _+_, _-_, _*_, _/_, _%_, _<_, _≤_}
 use lib.ListN.{getD}
 use Rattle.bits.specs.Bits.{bit}
 use Rattle.bits.specs.Count.{distance}
+use Rattle.bch.specs.Marks.{notLost, lost, fate}
 use Rattle.calls.specs.Sequences.{At, accepted}
-use Rattle.ofec.specs.Rows.{RowBits, wordOf, payloadIndex}
+use Rattle.ofec.specs.Rows.{RowBits, Checked, wordOf, payloadIndex}
 use Rattle.ofec.specs.Pairs.{pairBit}
 use Rattle.ofec.specs.History.{heldBits}
-use Rattle.ofec.specs.Calls.{Received, Receiving, receive, Receivings}
+use Rattle.ofec.specs.Calls.{Received, Receiving, Receivings}
 
 -- A coded pair holds the bits of pair P's two rows.
 pub record Holds (v : RowBits) (P : ℕ) (pair : List ℕ) : Type 0 where
@@ -28,32 +28,35 @@ pub record Takes (W : RowBits) (cs : List Receiving) : Type 0 where
 unfoldable pub wrongBits : RowBits → RowBits → ℕ → ℕ → ℕ
 wrongBits S W R r = distance 256 (wordOf W R r) (wordOf S R r)
 
--- "The three wrong bits are a limit on the words of the pairs that it took": the first n pairs.
-pub record Limit (S W : RowBits) (n : ℕ) : Type 0 where
-  pub three : (R r : ℕ) → R < 2 * n → r < 16 → wrongBits S W R r ≤ 3
+-- "The three wrong bits are a limit on the words of the pairs that it took", those that are checked: of the first m pairs.
+pub record Limit (S W : RowBits) (m : ℕ) : Type 0 where
+  pub three : (R r : ℕ) → R < 2 * m → r < 16 → Checked R → wrongBits S W R r ≤ 3
 
--- The mark of word (R, r), and that the word is not marked lost.
+-- The mark of word (R, r), that the word is not marked lost, and that it is.
 abbrev pub markOf : Received → ℕ → ℕ → ℕ
 markOf after R r = getD (after .marks) (16 * (R % 2) + r) 0
 
 abbrev pub NotLost : Received → ℕ → ℕ → Type 0
-NotLost after R r = markOf after R r ≢ 3
+NotLost after R r = fate (markOf after R r) ≡ notLost
+
+abbrev pub Lost : Received → ℕ → ℕ → Type 0
+Lost after R r = fate (markOf after R r) ≡ lost
 
 -- Back-half bit k of word (R, r) equals the sent bit, in the newest pair of the history returned and, where it is payload, in payload
 -- out. That history is lent to the call on pair R div 2 + 1.
-pub record AsSent (S : RowBits) (after : Received) (R r k : ℕ) : Type 0 where
-  pub newest : wordOf (heldBits 10 (after .history) (R / 2 + 1)) R r k ≡ wordOf S R r k
+pub record AsSent (n : ℕ) (S : RowBits) (after : Received) (R r k : ℕ) : Type 0 where
+  pub newest : wordOf (heldBits n (after .history) (R / 2 + 1)) R r k ≡ wordOf S R r k
   pub paid : k < 239 → bit (after .payload) (payloadIndex (R % 2) r (k - 128)) ≡ wordOf S R r k
 
--- What is promised of word (R, r) of the accepted call c on pair R div 2.
-pub record Promise (S W : RowBits) (c : Receiving) (R r : ℕ) : Type 0 where
+-- What is promised of word (R, r) of an accepted call on pair R div 2: c is lent to it, and `after` stands afterwards.
+pub record Promise (n : ℕ) (S W : RowBits) (c : Receiving) (after : Received) (R r : ℕ) : Type 0 where
   -- "Each whose received bit is right equals the sent bit."
-  pub right : (k : ℕ) → 128 ≤ k → k < 256 → wordOf W R r k ≡ wordOf S R r k → AsSent S (receive c) R r k
+  pub right : (k : ℕ) → 128 ≤ k → k < 256 → wordOf W R r k ≡ wordOf S R r k → AsSent n S after R r k
   -- "If the word is not marked lost, all do,"
-  pub whole : NotLost (receive c) R r → (k : ℕ) → 128 ≤ k → k < 256 → AsSent S (receive c) R r k
+  pub whole : NotLost after R r → (k : ℕ) → 128 ≤ k → k < 256 → AsSent n S after R r k
   -- "and its mark is the number of its bits, front as held and back as received, that differ from the sent bits (for R < 20 in the
   -- back half only)."
-  pub flips : NotLost (receive c) R r
-      → markOf (receive c) R r ≡ distance 256 (wordOf (heldBits 10 (c .history ++ c .coded) (R / 2)) R r) (wordOf S R r)
-  -- "A word with at most two wrong received bits is not marked lost."
-  pub spared : wrongBits S W R r ≤ 2 → NotLost (receive c) R r
+  pub flips : NotLost after R r
+      → markOf after R r ≡ distance 256 (wordOf (heldBits n (c .history ++ c .coded) (R / 2)) R r) (wordOf S R r)
+  -- "A word with at most two wrong received bits is not marked lost": one that is checked.
+  pub spared : Checked R → wrongBits S W R r ≤ 2 → NotLost after R r

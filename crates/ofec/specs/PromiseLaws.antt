@@ -2,34 +2,38 @@
 -- that a receiver takes, whatever the received pairs hold, within the limit of three wrong bits in a word.
 -- Assumes nothing.
 use mathlib.Core.Path.{_≡_, refl, sym, ap, ap₂, _∙_, subst}
+use mathlib.Core.Bool.{true}
 use mathlib.Core.List.{List, [], _++_, map}
+use mathlib.Core.Logic.{_⊎_, ⊎-elim}
 use Prim.Native.Nat.{ℕ, suc, _+_, _-_, _*_, _/_, _%_, _<_, _≤_}
 use native.Mathlib.Omega.{arith}
-use native.Mathlib.Decide.{ℕ-discrete, decLt}
+use native.Mathlib.Decide.{decLt}
 use lib.ListN.{length, getD, length-map}
 use Rattle.bits.specs.Bits.{bit}
 use Rattle.bits.specs.CountLaws.{distance-ext}
-use Rattle.calls.specs.Answers.{valueOr}
+use Rattle.calls.specs.Answers.{valueOr, Accepted}
 use Rattle.calls.specs.Sequences.{At, Run, accepted}
 use Rattle.calls.specs.SequenceLaws.{At-lt, At-find, At-map, is-accepted, lent-at}
 use Rattle.bits.specs.Xor.{_⊕_}
 use Rattle.bch.specs.CodeWord.{Word, CodeWord}
 use Rattle.bch.specs.Repair.{repair, repaired, mark}
+use Rattle.bch.specs.Marks.{notLost, lost, fate}
+use Rattle.bch.specs.RepairLaws.{mark-says, not-both, lost-is}
 use Rattle.bch.specs.declared.Repair.{Repair}
-use Rattle.ofec.specs.Rows.{RowBits, frontCounts, backBit, wordOf, payloadIndex}
-use Rattle.ofec.specs.RowLaws.{word-back, backPlace-of, xor-16, Place, zeros, before, own, place}
-use Rattle.ofec.specs.History.{heldBits, shift}
-use Rattle.ofec.specs.HistoryLaws.{held-shifted, held-newest, near, Right, right-after, historyAfter}
+use Rattle.ofec.specs.Rows.{RowBits, frontCounts, Checked, backBit, wordOf, payloadIndex}
+use Rattle.ofec.specs.RowLaws.{reach, all-checked, word-back, backPlace-of, xor-16, Place, zeros, before, own, place}
+use Rattle.ofec.specs.History.{depth, heldBits, shift}
+use Rattle.ofec.specs.HistoryLaws.{deep, held-shifted, held-newest, near, Right, historyAfter}
 use Rattle.ofec.specs.Sent.{Sent}
 use Rattle.ofec.specs.Encoding.{encoded}
 use Rattle.ofec.specs.EncodingLaws.{encoded-holds}
 use Rattle.ofec.specs.SentLaws.{encoderHistory, encoder-right}
-use Rattle.ofec.specs.Receiving.{mendedWord, newestPair, payloadOut, marks}
-use Rattle.ofec.specs.ReceivingLaws.{newest-bit, payload-bit, mark-is, repair-of, mended-word, word-outcome, newest-right}
+use Rattle.ofec.specs.Receiving.{repairOf, mendedWord, newestPair, payloadOut, marks}
+use Rattle.ofec.specs.ReceivingLaws.{newest-bit, payload-bit, mark-is, repair-of, mended-word, word-outcome, receiverHistory, receiver-right}
 use Rattle.ofec.specs.WordLaws.{Outcome}
 use Rattle.ofec.specs.Calls.{Encoded, Received, State, state, start, Encoding, Receiving, encode, receive, Encodings, Receivings, payloads}
 use Rattle.ofec.specs.CallLaws.{encode-accepted, encode-keeps, receiveDone, receive-accepted, receive-keeps}
-use Rattle.ofec.specs.Promise.{Holds, Takes, wrongBits, Limit, markOf, AsSent, Promise}
+use Rattle.ofec.specs.Promise.{Holds, Takes, wrongBits, Limit, markOf, NotLost, Lost, AsSent, Promise}
 
 -- ---- what each accepted call is lent
 
@@ -44,109 +48,109 @@ module _ (cs : List Encoding) where
 
   -- Call number i is lent the encoder's history before pair i.
   pub encoder-lent : {t : State} → Run Encodings start cs t → (i : ℕ) (c : Encoding) → At (accepted Encodings cs) i c
-      → state (c .history) (c .pair) ≡ state (encoderHistory (payloads cs) i) i
+      → state (c .history) (c .pair) ≡ state (encoderHistory depth (payloads cs) i) i
   unfolding encoderHistory historyAfter
-  encoder-lent run = lent-at Encodings encode-keeps (λ i. state (encoderHistory (payloads cs) i) i) run refl next
+  encoder-lent run = lent-at Encodings encode-keeps (λ i. state (encoderHistory depth (payloads cs) i) i) run refl next
     where
-      next : (i : ℕ) (c : Encoding) → At (accepted Encodings cs) i c → state (c .history) (c .pair) ≡ state (encoderHistory (payloads cs) i) i
-          → state (encode c .history) (valueOr (encode c .answer) (c .pair)) ≡ state (encoderHistory (payloads cs) (suc i)) (suc i)
+      next : (i : ℕ) (c : Encoding) → At (accepted Encodings cs) i c → state (c .history) (c .pair) ≡ state (encoderHistory depth (payloads cs) i) i
+          → state (encode c .history) (valueOr (encode c .answer) (c .pair)) ≡ state (encoderHistory depth (payloads cs) (suc i)) (suc i)
       next i c a e =
           let ok = encode-accepted c (is-accepted Encodings cs a) in
-          let eh : c .history ≡ encoderHistory (payloads cs) i = ap (λ (s : State). s .history) e in
+          let eh : c .history ≡ encoderHistory depth (payloads cs) i = ap (λ (s : State). s .history) e in
           let ep : c .pair ≡ i = ap (λ (s : State). s .pair) e in
           let ey : c .payload ≡ getD (payloads cs) i [] = sym (given-at a) in
           ap (λ (x : Encoded). state (x .history) (valueOr (x .answer) (c .pair))) (ok .1)
-          ∙ ap₂ state (ap₂ shift eh (ap₂ (λ h P. encoded h P (c .payload)) eh ep ∙ ap (encoded (encoderHistory (payloads cs) i) i) ey)) (omega arith)
+          ∙ ap₂ state (ap₂ shift eh (ap₂ (λ h P. encoded depth h P (c .payload)) eh ep ∙ ap (encoded depth (encoderHistory depth (payloads cs) i) i) ey)) (omega arith)
 
   -- From fresh, whatever refused calls stand between, the coded pair of each accepted call is the one of that history,
   pub coded-made : {t : State} → Run Encodings start cs t → (P : ℕ) (c : Encoding) → At (accepted Encodings cs) P c
-      → encode c .coded ≡ encoded (encoderHistory (payloads cs) P) P (getD (payloads cs) P [])
+      → encode c .coded ≡ encoded depth (encoderHistory depth (payloads cs) P) P (getD (payloads cs) P [])
   coded-made run P c a =
       let lent = encoder-lent run P c a in
       let ok = encode-accepted c (is-accepted Encodings cs a) in
-      let eh : c .history ≡ encoderHistory (payloads cs) P = ap (λ (s : State). s .history) lent in
+      let eh : c .history ≡ encoderHistory depth (payloads cs) P = ap (λ (s : State). s .history) lent in
       let ep : c .pair ≡ P = ap (λ (s : State). s .pair) lent in
-      ap (λ (x : Encoded). x .coded) (ok .1) ∙ ap₂ (λ h Q. encoded h Q (c .payload)) eh ep
-      ∙ ap (encoded (encoderHistory (payloads cs) P) P) (sym (given-at a))
+      ap (λ (x : Encoded). x .coded) (ok .1) ∙ ap₂ (λ h Q. encoded depth h Q (c .payload)) eh ep
+      ∙ ap (encoded depth (encoderHistory depth (payloads cs) P) P) (sym (given-at a))
 
   -- and holds the bits that the formulas fix.
   pub coded-sent : {t : State} → Run Encodings start cs t → (v : RowBits) → Sent (payloads cs) v → (P : ℕ) (c : Encoding) → At (accepted Encodings cs) P c
       → Holds v P (encode c .coded)
   coded-sent run v sent P c a =
       let within : P < length (payloads cs) = payloads-lt a in
-      subst (λ q. Holds v P q) (sym (coded-made run P c a)) (encoded-holds sent (encoder-right sent P (omega arith)) within)
+      subst (λ q. Holds v P q) (sym (coded-made run P c a)) (encoded-holds sent deep (encoder-right deep sent P (omega arith)) within)
 
--- ---- one word of an accepted call on pair R div 2, whose history is right and whose pair was delivered
+-- ---- one word, checked, of a call on pair R div 2 with a history of n pairs that is right and a pair that was delivered
 
-module _ {S W : RowBits} (c : Receiving) (R r : ℕ) (lr : r < 16) (is : receive c ≡ receiveDone c) (number : c .pair ≡ R / 2)
-    (inv : Right 10 S W (R / 2) (c .history)) (holds : Holds W (R / 2) (c .coded)) (code : CodeWord (wordOf S R r)) (three : wrongBits S W R r ≤ 3) where
+module _ {n : ℕ} (far : reach ≤ n) {S W : RowBits} (c : Receiving) (R r : ℕ) (lr : r < 16) (number : c .pair ≡ R / 2) (t : Checked R)
+    (inv : Right n S W (R / 2) (c .history)) (holds : Holds W (R / 2) (c .coded)) (code : CodeWord (wordOf S R r)) (three : wrongBits S W R r ≤ 3) where
   -- The word as held, and its repair.
   abbrev held : Word
-  held = wordOf (heldBits 10 (c .history ++ c .coded) (R / 2)) R r
+  held = wordOf (heldBits n (c .history ++ c .coded) (R / 2)) R r
 
   abbrev fix : Repair
-  fix = repair (frontCounts R) (wordOf (heldBits 10 (c .history ++ c .coded) (R / 2)) R r)
+  fix = repair (frontCounts R) (wordOf (heldBits n (c .history ++ c .coded) (R / 2)) R r)
 
   abbrev newest : List ℕ
-  newest = newestPair (c .history) (R / 2) (c .coded)
+  newest = newestPair n (c .history) (R / 2) (c .coded)
 
-  history-is : receive c .history ≡ shift (c .history) newest
-  history-is = ap (λ (a : Received). a .history) is ∙ ap (λ P. shift (c .history) (newestPair (c .history) P (c .coded))) number
-
-  payload-is : receive c .payload ≡ payloadOut (c .history) (R / 2) (c .coded)
-  payload-is = ap (λ (a : Received). a .payload) is ∙ ap (λ P. payloadOut (c .history) P (c .coded)) number
-
-  marks-is : receive c .marks ≡ marks (c .history) (R / 2) (c .coded)
-  marks-is = ap (λ (a : Received). a .marks) is ∙ ap (λ P. marks (c .history) P (c .coded)) number
-
-  mark-at : markOf (receive c) R r ≡ mark fix
+  mark-at : markOf (receiveDone n c) R r ≡ mark fix
   mark-at =
-      ap (λ (l : List ℕ). getD l (16 * (R % 2) + r) 0) marks-is
-      ∙ mark-is (c .history) (R / 2) (c .coded) (16 * (R % 2) + r) (omega arith)
-      ∙ ap mark (repair-of (c .history) (R / 2) (c .coded) R r refl lr)
+      ap (λ P. getD (marks n (c .history) P (c .coded)) (16 * (R % 2) + r) 0) number
+      ∙ mark-is n (c .history) (R / 2) (c .coded) (16 * (R % 2) + r) (omega arith)
+      ∙ ap mark (repair-of n (c .history) (R / 2) (c .coded) R r refl lr true t)
 
-  mended-at : (k : ℕ) → mendedWord (c .history) (R / 2) (c .coded) (16 * (R % 2) + r) k ≡ repaired fix held k
-  mended-at k = ap (λ (w : Word). w k) (mended-word (c .history) (R / 2) (c .coded) R r refl lr)
+  mended-at : (k : ℕ) → mendedWord n (c .history) (R / 2) (c .coded) (16 * (R % 2) + r) k ≡ repaired fix held k
+  mended-at k =
+      ap (λ (w : Word). w k) (mended-word n (c .history) (R / 2) (c .coded) R r refl lr _ (repair-of n (c .history) (R / 2) (c .coded) R r refl lr true t))
 
-  newest-at : (k : ℕ) → 128 ≤ k → k < 256 → wordOf (heldBits 10 (receive c .history) (R / 2 + 1)) R r k ≡ repaired fix held k
+  newest-at : (k : ℕ) → 128 ≤ k → k < 256 → wordOf (heldBits n (receiveDone n c .history) (R / 2 + 1)) R r k ≡ repaired fix held k
   unfolding backBit
   newest-at k low lk =
       let one : R / 2 + 1 ≡ suc (R / 2) = omega arith in
       let lC : (k - 128) / 16 < 8 = omega arith in
       let small : (k % 16) ⊕ r < 16 = xor-16 (k % 16) r (omega arith) lr in
-      ap₂ (λ (h : List ℕ) (P : ℕ). wordOf (heldBits 10 h P) R r k) history-is one
-      ∙ word-back (heldBits 10 (shift (c .history) newest) (suc (R / 2))) R r k low
-      ∙ held-shifted 10 (c .history) newest (R / 2) (inv .size) R ((k - 128) / 16) r ((k % 16) ⊕ r) lC lr small (omega arith)
-      ∙ held-newest 10 (c .history) newest (R / 2) (inv .size) R ((k - 128) / 16) r ((k % 16) ⊕ r) lC lr small refl
-      ∙ newest-bit (c .history) (R / 2) (c .coded) R ((k - 128) / 16) r ((k % 16) ⊕ r) lC lr small
-      ∙ ap (mendedWord (c .history) (R / 2) (c .coded) (16 * (R % 2) + r)) (backPlace-of r k low)
+      ap₂ (λ (Q P : ℕ). wordOf (heldBits n (shift (c .history) (newestPair n (c .history) Q (c .coded))) P) R r k) number one
+      ∙ word-back (heldBits n (shift (c .history) newest) (suc (R / 2))) R r k low
+      ∙ held-shifted n (c .history) newest (R / 2) (inv .size) R ((k - 128) / 16) r ((k % 16) ⊕ r) lC lr small (omega arith)
+      ∙ held-newest n (c .history) newest (R / 2) (inv .size) R ((k - 128) / 16) r ((k % 16) ⊕ r) lC lr small refl
+      ∙ newest-bit n (c .history) (R / 2) (c .coded) R ((k - 128) / 16) r ((k % 16) ⊕ r) lC lr small
+      ∙ ap (mendedWord n (c .history) (R / 2) (c .coded) (16 * (R % 2) + r)) (backPlace-of r k low)
       ∙ mended-at k
 
-  payload-at : (k : ℕ) → 128 ≤ k → k < 239 → bit (receive c .payload) (payloadIndex (R % 2) r (k - 128)) ≡ repaired fix held k
+  payload-at : (k : ℕ) → 128 ≤ k → k < 239 → bit (receiveDone n c .payload) (payloadIndex (R % 2) r (k - 128)) ≡ repaired fix held k
   payload-at k low lk =
       let e : 128 + (k - 128) ≡ k = omega arith in
-      ap (λ (y : List ℕ). bit y (payloadIndex (R % 2) r (k - 128))) payload-is
-      ∙ payload-bit (c .history) (R / 2) (c .coded) R r (k - 128) lr (omega arith)
-      ∙ ap (mendedWord (c .history) (R / 2) (c .coded) (16 * (R % 2) + r)) e
+      ap (λ P. bit (payloadOut n (c .history) P (c .coded)) (payloadIndex (R % 2) r (k - 128))) number
+      ∙ payload-bit n (c .history) (R / 2) (c .coded) R r (k - 128) lr (omega arith)
+      ∙ ap (mendedWord n (c .history) (R / 2) (c .coded) (16 * (R % 2) + r)) e
       ∙ mended-at k
 
-  one-word : Promise S W c R r
+  one-word : Promise n S W c (receiveDone n c) R r
   unfolding wrongBits
   one-word =
       record {
         right = λ k low lk e. as-sent k low lk (o .right k lk e);
-        whole = λ n k low lk. as-sent k low lk (o .whole (λ e. n (mark-at ∙ e)) k lk);
-        flips = λ n. mark-at ∙ o .flips (λ e. n (mark-at ∙ e));
-        spared = λ two e. o .spared two (sym mark-at ∙ e);
+        whole = λ kept k low lk. as-sent k low lk (o .whole (ap fate (sym mark-at) ∙ kept) k lk);
+        flips = λ kept. mark-at ∙ o .flips (ap fate (sym mark-at) ∙ kept);
+        spared = λ _ two. ap fate mark-at ∙ o .spared two;
       }
     where
       o : Outcome (wordOf S R r) (wordOf W R r) held fix
-      o = word-outcome inv (c .coded) holds R r refl lr code three
+      o = word-outcome far inv (c .coded) holds R r refl lr code three
 
-      as-sent : (k : ℕ) → 128 ≤ k → k < 256 → repaired fix held k ≡ wordOf S R r k → AsSent S (receive c) R r k
+      as-sent : (k : ℕ) → 128 ≤ k → k < 256 → repaired fix held k ≡ wordOf S R r k → AsSent n S (receiveDone n c) R r k
       as-sent k low lk e = record { newest = newest-at k low lk ∙ e; paid = λ l. payload-at k low l ∙ e }
 
 -- ---- receiving
+
+-- Every word of an accepted call is marked not lost or lost; `not-both` says that none is marked both.
+pub marked-one : (c : Receiving) → Accepted (receive c .answer) → (R r : ℕ) → r < 16 → NotLost (receive c) R r ⊎ Lost (receive c) R r
+marked-one c a R r lr =
+    subst (λ m. (fate m ≡ notLost) ⊎ (fate m ≡ lost))
+    (sym (ap (λ (d : Received). markOf d R r) (receive-accepted c a .1)
+    ∙ mark-is depth (c .history) (c .pair) (c .coded) (16 * (R % 2) + r) (omega arith)))
+    (mark-says (repairOf depth (c .history) (c .pair) (c .coded) (16 * (R % 2) + r)))
 
 module _ (S W : RowBits) (ys : List (List ℕ)) (sent : Sent ys S) (cs : List Receiving) {t : State} (run : Run Receivings start cs t)
     (enough : length (accepted Receivings cs) ≤ length ys) (takes : Takes W cs) (limit : Limit S W (length (accepted Receivings cs))) where
@@ -155,7 +159,7 @@ module _ (S W : RowBits) (ys : List (List ℕ)) (sent : Sent ys S) (cs : List Re
   pair i = getD (map (λ (c : Receiving). c .coded) (accepted Receivings cs)) i []
 
   history : ℕ → List ℕ
-  history = historyAfter newestPair pair
+  history = receiverHistory depth pair
 
   pair-at : {i : ℕ} {c : Receiving} → At (accepted Receivings cs) i c → pair i ≡ c .coded
   unfolding pair
@@ -166,21 +170,8 @@ module _ (S W : RowBits) (ys : List (List ℕ)) (sent : Sent ys S) (cs : List Re
       let f = At-find (accepted Receivings cs) P l in
       subst (λ q. Holds W P q) (sym (pair-at (f .1))) (takes .takes P (f .0) (f .1))
 
-  code : (P : ℕ) → P < length (accepted Receivings cs) → (R r : ℕ) → R / 2 ≡ P → r < 16 → CodeWord (wordOf S R r)
-  code P l R r e lr = sent .words .code R r (omega arith) lr
-
-  three : (P : ℕ) → P < length (accepted Receivings cs) → (R r : ℕ) → R / 2 ≡ P → r < 16 → wrongBits S W R r ≤ 3
-  three P l R r e lr = limit .three R r (omega arith) lr
-
-  -- The invariant: a held bit whose delivered bit is right is the sent bit.
-  history-right : (n : ℕ) → n ≤ length (accepted Receivings cs) → Right 10 S W n (history n)
-  unfolding history
-  history-right n l =
-      right-after S W newestPair pair n
-      (λ P h lP inv. let m : P < length (accepted Receivings cs) = omega arith in newest-right inv (pair P) (pair-holds P m) (code P m) (three P m))
-
   lent : (i : ℕ) (c : Receiving) → At (accepted Receivings cs) i c → state (c .history) (c .pair) ≡ state (history i) i
-  unfolding history historyAfter
+  unfolding history receiverHistory historyAfter
   lent = lent-at Receivings receive-keeps (λ i. state (history i) i) run refl next
     where
       next : (i : ℕ) (c : Receiving) → At (accepted Receivings cs) i c → state (c .history) (c .pair) ≡ state (history i) i
@@ -191,45 +182,51 @@ module _ (S W : RowBits) (ys : List (List ℕ)) (sent : Sent ys S) (cs : List Re
           let ep : c .pair ≡ i = ap (λ (s : State). s .pair) e in
           let ey : c .coded ≡ pair i = sym (pair-at a) in
           ap (λ (x : Received). state (x .history) (valueOr (x .answer) (c .pair))) (ok .1)
-          ∙ ap₂ state (ap₂ shift eh (ap₂ (λ h P. newestPair h P (c .coded)) eh ep ∙ ap (newestPair (history i) i) ey)) (omega arith)
+          ∙ ap₂ state (ap₂ shift eh (ap₂ (λ h P. newestPair depth h P (c .coded)) eh ep ∙ ap (newestPair depth (history i) i) ey)) (omega arith)
 
-  right-lent : (P : ℕ) (c : Receiving) → At (accepted Receivings cs) P c → Right 10 S W P (c .history)
+  right-lent : (P : ℕ) (c : Receiving) → At (accepted Receivings cs) P c → Right depth S W P (c .history)
+  unfolding history
   right-lent P c a =
       let within : P < length (accepted Receivings cs) = At-lt a in
       let eh : c .history ≡ history P = ap (λ (s : State). s .history) (lent P c a) in
-      subst (λ h. Right 10 S W P h) (sym eh) (history-right P (omega arith))
+      subst (λ h. Right depth S W P h) (sym eh)
+      (receiver-right deep pair (length (accepted Receivings cs)) pair-holds (λ R r l lr _. sent .words .code R r (omega arith) lr) limit P (omega arith))
 
   -- THE PROMISE of the code layer: it holds of each word (R, r) that an accepted call took.
-  pub promise : (R r : ℕ) (c : Receiving) → r < 16 → At (accepted Receivings cs) (R / 2) c → Promise S W c R r
+  pub promise : (R r : ℕ) (c : Receiving) → r < 16 → At (accepted Receivings cs) (R / 2) c → Promise depth S W c (receive c) R r
   promise R r c lr a =
       let within : R / 2 < length (accepted Receivings cs) = At-lt a in
-      one-word c R r lr (receive-accepted c (is-accepted Receivings cs a) .1) (ap (λ (s : State). s .pair) (lent (R / 2) c a))
-      (right-lent (R / 2) c a) (takes .takes (R / 2) c a) (code (R / 2) within R r refl lr) (three (R / 2) within R r refl lr)
+      subst (λ after. Promise depth S W c after R r) (sym (receive-accepted c (is-accepted Receivings cs a) .1))
+      (one-word deep c R r lr (ap (λ (s : State). s .pair) (lent (R / 2) c a)) (all-checked R) (right-lent (R / 2) c a) (takes .takes (R / 2) c a)
+      (sent .words .code R r (omega arith) lr) (limit .three R r (omega arith) lr (all-checked R)))
 
   -- Where the front half of a word was delivered right, its mark is the number of its wrong bits: 3, lost, where they are three.
   pub mark-exact : (R r : ℕ) (c : Receiving) → r < 16 → At (accepted Receivings cs) (R / 2) c → ((k : ℕ) → k < 128 → wordOf W R r k ≡ wordOf S R r k)
       → markOf (receive c) R r ≡ wrongBits S W R r
   unfolding wrongBits
-  mark-exact R r c lr a front = go (ℕ-discrete (markOf (receive c) R r) 3)
+  mark-exact R r c lr a front = ⊎-elim kept gone (marked-one c (is-accepted Receivings cs a) R r lr)
     where
       -- The word as held is as delivered.
-      at : (k : ℕ) → k < 256 → Place R r k → wordOf (heldBits 10 (c .history ++ c .coded) (R / 2)) R r k ≡ wordOf W R r k
-      at k lk (zeros m is) = is (heldBits 10 (c .history ++ c .coded) (R / 2)) ∙ sym (is W)
+      at : (k : ℕ) → k < 256 → Place R r k → wordOf (heldBits depth (c .history ++ c .coded) (R / 2)) R r k ≡ wordOf W R r k
+      at k lk (zeros m is) = is (heldBits depth (c .history ++ c .coded) (R / 2)) ∙ sym (is W)
       at k lk (before Q C b d m lo hi lC lb ld is) =
-          near (right-lent (R / 2) c a) R r k refl lr (c .coded) (takes .takes (R / 2) c a) lk (front k m) ∙ sym (front k m)
+          near deep (right-lent (R / 2) c a) R r k refl lr (c .coded) (takes .takes (R / 2) c a) lk (front k m) ∙ sym (front k m)
       at k lk (own C d m lC ld is) =
-          is (heldBits 10 (c .history ++ c .coded) (R / 2))
-          ∙ held-newest 10 (c .history) (c .coded) (R / 2) (right-lent (R / 2) c a .size) R C r d lC lr ld refl
+          is (heldBits depth (c .history ++ c .coded) (R / 2))
+          ∙ held-newest depth (c .history) (c .coded) (R / 2) (right-lent (R / 2) c a .size) R C r d lC lr ld refl
           ∙ takes .takes (R / 2) c a .holds R C r d refl lC lr ld
           ∙ sym (is W)
 
-      go : Dec (markOf (receive c) R r ≡ 3) → markOf (receive c) R r ≡ wrongBits S W R r
-      go (no n) =
+      kept : NotLost (receive c) R r → markOf (receive c) R r ≡ wrongBits S W R r
+      kept n =
           promise R r c lr a .flips n
-          ∙ distance-ext 256 (wordOf (heldBits 10 (c .history ++ c .coded) (R / 2)) R r) (wordOf S R r) (wordOf W R r) (wordOf S R r)
+          ∙ distance-ext 256 (wordOf (heldBits depth (c .history ++ c .coded) (R / 2)) R r) (wordOf S R r) (wordOf W R r) (wordOf S R r)
           (λ k l. at k l (place R r k lr l)) (λ k l. refl)
-      go (yes lost) = full (decLt (wrongBits S W R r) 3) (limit .three R r (omega (arith, At-lt a)) lr)
+
+      gone : Lost (receive c) R r → markOf (receive c) R r ≡ wrongBits S W R r
+      gone g =
+          full (decLt (wrongBits S W R r) 3) (limit .three R r (omega (arith, At-lt a)) lr (all-checked R)) (lost-is (markOf (receive c) R r) g)
         where
-          full : Dec (wrongBits S W R r < 3) → wrongBits S W R r ≤ 3 → markOf (receive c) R r ≡ wrongBits S W R r
-          full (yes few) l = absurd (promise R r c lr a .spared (omega arith) lost)
-          full (no n) l = omega arith
+          full : Dec (wrongBits S W R r < 3) → wrongBits S W R r ≤ 3 → markOf (receive c) R r ≡ 3 → markOf (receive c) R r ≡ wrongBits S W R r
+          full (yes few) l m = absurd (not-both (markOf (receive c) R r) (promise R r c lr a .spared (all-checked R) (omega arith)) g)
+          full (no n) l m = omega arith

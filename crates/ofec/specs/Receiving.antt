@@ -1,24 +1,26 @@
 -- Receiving a pair. 01, "Rows and pairs": "Receiving takes a coded pair of 512 bytes, its own history and the pair number, and gives
--- payload, marks, the shifted history and P+1."
+-- payload, marks, the shifted history and P+1." It is stated over the number n of pairs that the history holds.
 -- Assumes nothing.
+use mathlib.Core.Bool.{cond}
 use mathlib.Core.List.{List, _++_}
 use Prim.Native.Nat.{ℕ}
 use Rattle.bits.specs.Lists.{tabulate}
 use Rattle.bch.specs.CodeWord.{Word}
 use Rattle.bch.specs.declared.Repair.{Repair}
+use Rattle.bch.specs.declared.Repair.the-variants.{Sound}
 use Rattle.bch.specs.Repair.{repair, repaired, mark}
-use Rattle.ofec.specs.Rows.{wordOf, frontCounts}
+use Rattle.ofec.specs.Rows.{wordOf, frontCounts, checked}
 use Rattle.ofec.specs.Pairs.{rowOf, bitRowOf, codedPair, payloadOf}
 use Rattle.ofec.specs.History.{heldBits}
 
-module _ (history : List ℕ) (P : ℕ) (coded : List ℕ) where
+module _ (n : ℕ) (history : List ℕ) (P : ℕ) (coded : List ℕ) where
   -- "Each word is front bits as held and back bits as received": the pairs of the history, and the pair received after them.
   unfoldable pub heldWord : ℕ → Word
-  heldWord w = wordOf (heldBits 10 (history ++ coded) P) (rowOf P w) (bitRowOf w)
+  heldWord w = wordOf (heldBits n (history ++ coded) P) (rowOf P w) (bitRowOf w)
 
-  -- Its repair; "For R < 20 .. flips may fall only in the back half".
+  -- Its repair, where it is checked; "For R < 20 .. flips may fall only in the back half". Nothing is flipped in other words.
   unfoldable pub repairOf : ℕ → Repair
-  repairOf w = repair (frontCounts (rowOf P w)) (heldWord w)
+  repairOf w = cond (checked (rowOf P w)) (repair (frontCounts (rowOf P w)) (heldWord w)) Sound
 
   -- The word that the repair yields. "A lost word's back half passes as received."
   unfoldable pub mendedWord : ℕ → Word

@@ -10,7 +10,7 @@ use lib.Bits.{differ}
 use lib.Dec.{ltb}
 use Rattle.bits.specs.Xor.{_⊕_}
 use Rattle.bits.specs.XorLaws.{sums, ⊕-lt, ⊕-half, ⊕-last, ⊕-zero}
-use Rattle.ofec.specs.Rows.{RowBits, frontBit, backBit, frontCounts, wordOf, payloadIndex}
+use Rattle.ofec.specs.Rows.{RowBits, frontBit, backBit, frontCounts, checked, Checked, wordOf, payloadIndex}
 
 -- ---- exclusive or of columns and rows
 
@@ -32,6 +32,12 @@ differ-one (suc (suc s)) l = absurd (omega arith)
 pub other-row : (R : ℕ) → (R ⊕ 1) % 2 ≡ 1 - R % 2
 other-row R = ⊕-last R 1 ∙ differ-one (R % 2) (omega arith)
 
+-- ---- the rows that are checked
+
+pub all-checked : (R : ℕ) → Checked R
+unfolding checked
+all-checked R = refl
+
 -- ---- the bits of a word
 
 module _ (v : RowBits) (R r k : ℕ) where
@@ -47,10 +53,14 @@ module _ (v : RowBits) (R r k : ℕ) where
   unfolding wordOf
   word-back l = simp (le-ltb _ _ l)
 
+-- A front half reaches back ten pairs: (R^1) − 20 is the other row of the tenth pair before.
+abbrev pub reach : ℕ
+reach = 10
+
 -- Where bit k of word (R, r) stands: nowhere (the front of rows 0 to 19), in one of the ten pairs before, or in row R.
 pub data Place (R r k : ℕ) : Type 0 where
   zeros : k < 128 → ((v : RowBits) → wordOf v R r k ≡ 0) → Place R r k
-  before : (Q C a c : ℕ) → k < 128 → Q / 2 < R / 2 → R / 2 ≤ Q / 2 + 10 → C < 8 → a < 16 → c < 16 → ((v : RowBits) → wordOf v R r k ≡ v Q C a c) → Place R r k
+  before : (Q C a c : ℕ) → k < 128 → Q / 2 < R / 2 → R / 2 ≤ Q / 2 + reach → C < 8 → a < 16 → c < 16 → ((v : RowBits) → wordOf v R r k ≡ v Q C a c) → Place R r k
   own : (C c : ℕ) → 128 ≤ k → C < 8 → c < 16 → ((v : RowBits) → wordOf v R r k ≡ v R C r c) → Place R r k
 
 pub place : (R r k : ℕ) → r < 16 → k < 256 → Place R r k

@@ -1,6 +1,7 @@
 -- Rows and their words. 01, "Rows and pairs".
 -- Assumes nothing.
-use mathlib.Core.Bool.{Bool, cond}
+use mathlib.Core.Path.{_≡_}
+use mathlib.Core.Bool.{Bool, true, cond}
 use Prim.Native.Nat.{ℕ, _+_, _-_, _*_, _/_, _%_}
 use lib.Dec.{ltb, leb}
 use Rattle.bits.specs.Xor.{_⊕_}
@@ -18,10 +19,17 @@ frontBit v R r k = v ((R ⊕ 1) - 20 + 2 * (k / 16)) (k / 16) ((k % 16) ⊕ r) r
 unfoldable pub backBit : RowBits → ℕ → ℕ → Word
 backBit v R r k = v R ((k - 128) / 16) r ((k % 16) ⊕ r)
 
--- The rows whose words are checked with their front half: "For R < 20 the front half counts as 128 zeros and flips may fall only
--- in the back half. (.. row 20 is a full word.)"
+-- The rows whose front half counts, in encoder, sent bits and receiver alike: "For R < 20 the front half counts as 128 zeros and flips
+-- may fall only in the back half. (.. row 20 is a full word.)"
 unfoldable pub frontCounts : ℕ → Bool
 frontCounts R = leb 20 R
+
+-- The rows whose words a receiver checks: all. "Marks: 32 bytes, word (2P, 0) first, each 0, 1 or 2 flips, or 3 for lost."
+unfoldable pub checked : ℕ → Bool
+checked R = true
+
+abbrev pub Checked : ℕ → Type 0
+Checked R = checked R ≡ true
 
 -- "The word of (R, r)", of sent, delivered and held bits alike.
 unfoldable pub wordOf : RowBits → ℕ → ℕ → Word

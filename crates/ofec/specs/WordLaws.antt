@@ -3,28 +3,28 @@
 -- Assumes nothing.
 use mathlib.Core.Path.{_≡_, refl, sym, _∙_}
 use mathlib.Core.Bool.{Bool}
-use mathlib.Core.Logic.{_≢_}
+use mathlib.Core.Logic.{_⊎_, inl, inr}
 use Prim.Native.Nat.{ℕ, _<_, _≤_}
 use native.Mathlib.Omega.{arith}
-use native.Mathlib.Decide.{ℕ-discrete}
 use Rattle.bits.specs.Count.{distance}
 use Rattle.bits.specs.CountLaws.{distance-mono, distance-triangle, distance-sym, distance-ext}
 use Rattle.bch.specs.CodeWord.{Word, CodeWord}
 use Rattle.bch.specs.Distance.{code-distance}
+use Rattle.bch.specs.Marks.{notLost, lost, fate}
 use Rattle.bch.specs.Repair.{repair, repaired, mark}
-use Rattle.bch.specs.RepairLaws.{Bits, FrontKept, mark-le, lost-unaltered}
+use Rattle.bch.specs.RepairLaws.{Bits, FrontKept, mark-says, not-both, not-lost-le, lost-unaltered}
 use Rattle.bch.specs.RepairTheorems.{repair-found, repair-lost}
 use Rattle.bch.specs.declared.Repair.{Repair}
 
 pub record Outcome (c y x : Word) (r : Repair) : Type 0 where
   pub right : (k : ℕ) → k < 256 → y k ≡ c k → repaired r x k ≡ c k
-  pub whole : mark r ≢ 3 → (k : ℕ) → k < 256 → repaired r x k ≡ c k
-  pub flips : mark r ≢ 3 → mark r ≡ distance 256 x c
-  pub spared : distance 256 y c ≤ 2 → mark r ≢ 3
+  pub whole : fate (mark r) ≡ notLost → (k : ℕ) → k < 256 → repaired r x k ≡ c k
+  pub flips : fate (mark r) ≡ notLost → mark r ≡ distance 256 x c
+  pub spared : distance 256 y c ≤ 2 → fate (mark r) ≡ notLost
 
 pub outcome : (front : Bool) (c y x : Word) → CodeWord c → Bits x → FrontKept front x c → ((k : ℕ) → k < 256 → y k ≡ c k → x k ≡ c k)
     → distance 256 y c ≤ 3 → Outcome c y x (repair front x)
-outcome front c y x code bits kept near three = go (ℕ-discrete (mark r) 3)
+outcome front c y x code bits kept near three = go (mark-says r)
   where
     r : Repair
     r = repair front x
@@ -33,22 +33,22 @@ outcome front c y x code bits kept near three = go (ℕ-discrete (mark r) 3)
     close = distance-mono 256 x c y c near
 
     -- A repair that is not lost is within five places of the sent word, so it is the sent word.
-    same : mark (repair front x) ≢ 3 → (k : ℕ) → k < 256 → repaired (repair front x) x k ≡ c k
+    same : fate (mark (repair front x)) ≡ notLost → (k : ℕ) → k < 256 → repaired (repair front x) x k ≡ c k
     same n =
         let f = repair-found front x bits n in
         let d = repaired (repair front x) x in
         code-distance d c (f .0) code
-        (omega (arith, f .1, mark-le (repair front x), close, distance-triangle 256 d x c, distance-sym 256 d x))
+        (omega (arith, f .1, not-lost-le (mark (repair front x)) n, close, distance-triangle 256 d x c, distance-sym 256 d x))
 
-    go : Dec (mark (repair front x) ≡ 3) → Outcome c y x (repair front x)
-    go (yes lost) =
+    go : (fate (mark (repair front x)) ≡ notLost) ⊎ (fate (mark (repair front x)) ≡ lost) → Outcome c y x (repair front x)
+    go (inr l) =
         record {
-          right = λ k l e. lost-unaltered (repair front x) lost x k ∙ near k l e;
-          whole = λ n k l. absurd (n lost);
-          flips = λ n. absurd (n lost);
-          spared = λ two. absurd (omega (arith, close, repair-lost front x bits lost c code kept));
+          right = λ k m e. lost-unaltered (repair front x) l x k ∙ near k m e;
+          whole = λ n k m. absurd (not-both (mark (repair front x)) n l);
+          flips = λ n. absurd (not-both (mark (repair front x)) n l);
+          spared = λ two. absurd (omega (arith, close, repair-lost front x bits l c code kept));
         }
-    go (no n) =
+    go (inl n) =
         record {
           right = λ k l e. same n k l;
           whole = λ m k l. same n k l;

@@ -4,17 +4,17 @@ use layout::pairs::put_coded;
 use layout::words::open_word;
 use layout::words::put_back_half;
 ghost use mathlib.Core.Path.{_≡_};
-ghost use Prim.Native.Nat.{_<_};
+ghost use Prim.Native.Nat.{_*_, _<_};
 ghost use lib.ListN.{length};
 ghost use Rattle.bits.specs.Bits.{pack};
 ghost use Rattle.layout.specs.BackHalves.{backHalf, backHalves};
-ghost use Rattle.ofec.specs.History.{shift};
+ghost use Rattle.ofec.specs.History.{depth, shift};
 ghost use Rattle.ofec.specs.Encoding.{encodedWord, encoded};
 
 // The back half of word w.
 fn encode_word(history: &[u8], payload: &[u8], pair: u32, w: usize, back: &mut [u8])
-    requires { ⌜ (length (now history) ≡ 5120) × (length (now payload) ≡ 444) × (w < 32) × (length (now back) ≡ 16) ⌝ }
-    ensures { λ _. ⌜ now (back .exit) ≡ backHalf (encodedWord (now (history .entry)) pair (now (payload .entry))) w ⌝ }
+    requires { ⌜ (length (now history) ≡ 512 * depth) × (length (now payload) ≡ 444) × (w < 32) × (length (now back) ≡ 16) ⌝ }
+    ensures { λ _. ⌜ now (back .exit) ≡ backHalf (encodedWord depth (now (history .entry)) pair (now (payload .entry))) w ⌝ }
 {
     let mut word = open_word(history, payload, pair, w);
     checkword::completion::complete(&mut word);
@@ -23,8 +23,8 @@ fn encode_word(history: &[u8], payload: &[u8], pair: u32, w: usize, back: &mut [
 
 // The back halves of all 32 words.
 fn encode_words(history: &[u8], payload: &[u8], pair: u32, backs: &mut [u8])
-    requires { ⌜ (length (now history) ≡ 5120) × (length (now payload) ≡ 444) × (length (now backs) ≡ 512) ⌝ }
-    ensures { λ _. ⌜ now (backs .exit) ≡ pack 512 (backHalves (encodedWord (now (history .entry)) pair (now (payload .entry)))) ⌝ }
+    requires { ⌜ (length (now history) ≡ 512 * depth) × (length (now payload) ≡ 444) × (length (now backs) ≡ 512) ⌝ }
+    ensures { λ _. ⌜ now (backs .exit) ≡ pack 512 (backHalves (encodedWord depth (now (history .entry)) pair (now (payload .entry)))) ⌝ }
 {
     for w in 0..32 {
         let a = w * 16;
@@ -35,8 +35,8 @@ fn encode_words(history: &[u8], payload: &[u8], pair: u32, backs: &mut [u8])
 
 // The coded pair, which then enters the history.
 pub fn encode_into(payload: &[u8], coded: &mut [u8], history: &mut [u8], pair: u32)
-    requires { ⌜ (length (now payload) ≡ 444) × (length (now coded) ≡ 512) × (length (now history) ≡ 5120) ⌝ }
-    ensures { λ _. ⌜ (now (coded .exit) ≡ encoded (now (history .entry)) pair (now (payload .entry))) × (now (history .exit) ≡ shift (now (history .entry)) (now (coded .exit))) ⌝ }
+    requires { ⌜ (length (now payload) ≡ 444) × (length (now coded) ≡ 512) × (length (now history) ≡ 512 * depth) ⌝ }
+    ensures { λ _. ⌜ (now (coded .exit) ≡ encoded depth (now (history .entry)) pair (now (payload .entry))) × (now (history .exit) ≡ shift (now (history .entry)) (now (coded .exit))) ⌝ }
 {
     let mut backs = [0u8; 512];
     encode_words(history, payload, pair, &mut backs);

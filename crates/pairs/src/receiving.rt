@@ -5,18 +5,18 @@ use layout::pairs::put_payload;
 use layout::words::held_word;
 use layout::words::put_back_half;
 ghost use mathlib.Core.Path.{_≡_};
-ghost use Prim.Native.Nat.{_<_};
+ghost use Prim.Native.Nat.{_*_, _<_};
 ghost use lib.ListN.{length};
 ghost use Rattle.bits.specs.Bits.{pack};
 ghost use Rattle.bch.specs.Repair.{mark};
 ghost use Rattle.layout.specs.BackHalves.{backHalf, backHalves};
-ghost use Rattle.ofec.specs.History.{shift};
+ghost use Rattle.ofec.specs.History.{depth, shift};
 ghost use Rattle.ofec.specs.Receiving.{repairOf, mendedWord, newestPair, payloadOut, marks as marksOf};
 
 // The repaired back half of word w, and its mark.
 fn receive_word(history: &[u8], coded: &[u8], pair: u32, w: usize, back: &mut [u8]) -> u8
-    requires { ⌜ (length (now history) ≡ 5120) × (length (now coded) ≡ 512) × (w < 32) × (length (now back) ≡ 16) ⌝ }
-    ensures { λ r. ⌜ (r ≡ mark (repairOf (now (history .entry)) pair (now (coded .entry)) w)) × (now (back .exit) ≡ backHalf (mendedWord (now (history .entry)) pair (now (coded .entry))) w) ⌝ }
+    requires { ⌜ (length (now history) ≡ 512 * depth) × (length (now coded) ≡ 512) × (w < 32) × (length (now back) ≡ 16) ⌝ }
+    ensures { λ r. ⌜ (r ≡ mark (repairOf depth (now (history .entry)) pair (now (coded .entry)) w)) × (now (back .exit) ≡ backHalf (mendedWord depth (now (history .entry)) pair (now (coded .entry))) w) ⌝ }
 {
     let mut word = held_word(history, coded, pair, w);
     let r = checkword::mend(&mut word, 10 <= pair);
@@ -26,8 +26,8 @@ fn receive_word(history: &[u8], coded: &[u8], pair: u32, w: usize, back: &mut [u
 
 // The repaired back halves and the marks of all 32 words.
 fn receive_words(history: &[u8], coded: &[u8], pair: u32, backs: &mut [u8], marks: &mut [u8])
-    requires { ⌜ (length (now history) ≡ 5120) × (length (now coded) ≡ 512) × (length (now backs) ≡ 512) × (length (now marks) ≡ 32) ⌝ }
-    ensures { λ _. ⌜ (now (backs .exit) ≡ pack 512 (backHalves (mendedWord (now (history .entry)) pair (now (coded .entry))))) × (now (marks .exit) ≡ marksOf (now (history .entry)) pair (now (coded .entry))) ⌝ }
+    requires { ⌜ (length (now history) ≡ 512 * depth) × (length (now coded) ≡ 512) × (length (now backs) ≡ 512) × (length (now marks) ≡ 32) ⌝ }
+    ensures { λ _. ⌜ (now (backs .exit) ≡ pack 512 (backHalves (mendedWord depth (now (history .entry)) pair (now (coded .entry))))) × (now (marks .exit) ≡ marksOf depth (now (history .entry)) pair (now (coded .entry))) ⌝ }
 {
     for w in 0..32 {
         let a = w * 16;
@@ -44,8 +44,8 @@ pub fn receive_into(
     history: &mut [u8],
     pair: u32,
 )
-    requires { ⌜ (length (now coded) ≡ 512) × (length (now payload) ≡ 444) × (length (now marks) ≡ 32) × (length (now history) ≡ 5120) ⌝ }
-    ensures { λ _. ⌜ (now (payload .exit) ≡ payloadOut (now (history .entry)) pair (now (coded .entry))) × (now (marks .exit) ≡ marksOf (now (history .entry)) pair (now (coded .entry))) × (now (history .exit) ≡ shift (now (history .entry)) (newestPair (now (history .entry)) pair (now (coded .entry)))) ⌝ }
+    requires { ⌜ (length (now coded) ≡ 512) × (length (now payload) ≡ 444) × (length (now marks) ≡ 32) × (length (now history) ≡ 512 * depth) ⌝ }
+    ensures { λ _. ⌜ (now (payload .exit) ≡ payloadOut depth (now (history .entry)) pair (now (coded .entry))) × (now (marks .exit) ≡ marksOf depth (now (history .entry)) pair (now (coded .entry))) × (now (history .exit) ≡ shift (now (history .entry)) (newestPair depth (now (history .entry)) pair (now (coded .entry)))) ⌝ }
 {
     let mut backs = [0u8; 512];
     receive_words(history, coded, pair, &mut backs, marks);

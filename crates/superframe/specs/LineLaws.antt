@@ -12,7 +12,7 @@ use Rattle.bits.specs.DigitLaws.{digit-lt, digits, group-of, place-of, place-lt
 use Rattle.bits.specs.ListLaws.{is-tabulate, tabulate-ext}
 use Rattle.calls.specs.Sequences.{accepted}
 use Rattle.calls.specs.SequenceLaws.{At-find}
-use Rattle.ofec.specs.History.{fresh}
+use Rattle.ofec.specs.History.{depth, fresh}
 use Rattle.ofec.specs.HistoryLaws.{historyAfter}
 use Rattle.ofec.specs.Encoding.{encoded}
 use Rattle.ofec.specs.SentLaws.{encoderHistory}
@@ -135,13 +135,13 @@ module _ (p : Profile) (o : Outward p) (q : ℕ) where
 module _ (p : Profile) (o : Outward p) (S : Side → ℕ → List ℕ)
     (given : (e : Side) (q k : ℕ) → q < o .superframes → k < pairs p → getD (payloads (o .calls e)) (pairs p * q + k) [] ≡ pairPayload (S e q) k) where
   -- The history before each pair is the encoder's,
-  history-in : (e : Side) (q k : ℕ) → q < o .superframes → k ≤ pairs p → historyBefore (pairs p) (S e) q ≡ encoderHistory (payloads (o .calls e)) (pairs p * q)
-      → historyAt (historyBefore (pairs p) (S e) q) (pairs p * q) (pairPayload (S e q)) k ≡ encoderHistory (payloads (o .calls e)) (pairs p * q + k)
+  history-in : (e : Side) (q k : ℕ) → q < o .superframes → k ≤ pairs p → historyBefore (pairs p) (S e) q ≡ encoderHistory depth (payloads (o .calls e)) (pairs p * q)
+      → historyAt (historyBefore (pairs p) (S e) q) (pairs p * q) (pairPayload (S e q)) k ≡ encoderHistory depth (payloads (o .calls e)) (pairs p * q + k)
   history-in e q k lq lk is =
       historyAt-ext (historyBefore (pairs p) (S e) q) (pairs p * q) (pairPayload (S e q)) (λ i. ys (pairs p * q + i)) k (λ i l. sym (given e q i lq (omega arith)))
       ∙ ap (λ x. historyAt x (pairs p * q) (λ i. ys (pairs p * q + i)) k) (is ∙ sym (from-fresh (payloads (o .calls e)) (pairs p * q)))
-      ∙ ap (λ x. historyAt (historyAt (fresh 10) 0 ys (pairs p * q)) x (λ i. ys (pairs p * q + i)) k) number
-      ∙ sym (historyAt-more (fresh 10) 0 ys (pairs p * q) k)
+      ∙ ap (λ x. historyAt (historyAt (fresh depth) 0 ys (pairs p * q)) x (λ i. ys (pairs p * q + i)) k) number
+      ∙ sym (historyAt-more (fresh depth) 0 ys (pairs p * q) k)
       ∙ from-fresh (payloads (o .calls e)) (pairs p * q + k)
     where
       ys : ℕ → List ℕ
@@ -150,12 +150,12 @@ module _ (p : Profile) (o : Outward p) (S : Side → ℕ → List ℕ)
       number : pairs p * q ≡ 0 + pairs p * q
       number = omega arith
 
-  history-before : (e : Side) (q : ℕ) → q ≤ o .superframes → historyBefore (pairs p) (S e) q ≡ encoderHistory (payloads (o .calls e)) (pairs p * q)
+  history-before : (e : Side) (q : ℕ) → q ≤ o .superframes → historyBefore (pairs p) (S e) q ≡ encoderHistory depth (payloads (o .calls e)) (pairs p * q)
   unfolding historyBefore historyOver encoderHistory historyAfter
-  history-before e zero l = let n : 0 ≡ pairs p * 0 = omega arith in ap (encoderHistory (payloads (o .calls e))) n
+  history-before e zero l = let n : 0 ≡ pairs p * 0 = omega arith in ap (encoderHistory depth (payloads (o .calls e))) n
   history-before e (suc q) l =
       let n : pairs p * q + pairs p ≡ pairs p * suc q = omega arith in
-      history-in e q (pairs p) (omega arith) (omega arith) (history-before e q (omega arith)) ∙ ap (encoderHistory (payloads (o .calls e))) n
+      history-in e q (pairs p) (omega arith) (omega arith) (history-before e q (omega arith)) ∙ ap (encoderHistory depth (payloads (o .calls e))) n
 
   -- so each coded pair is that of the accepted call,
   pair-is : (e : Side) (q k : ℕ) → q < o .superframes → k < pairs p
@@ -163,7 +163,7 @@ module _ (p : Profile) (o : Outward p) (S : Side → ℕ → List ℕ)
   unfolding pairAt
   pair-is e q k lq lk =
       let f = At-find (accepted Encodings (o .calls e)) (pairs p * q + k) (omega (arith, o .filled e, pair-lt p q k (o .superframes) lq lk)) in
-      ap₂ (λ x y. encoded x (pairs p * q + k) y) (history-in e q k lq (omega arith) (history-before e q (omega arith))) (sym (given e q k lq lk))
+      ap₂ (λ x y. encoded depth x (pairs p * q + k) y) (history-in e q k lq (omega arith) (history-before e q (omega arith))) (sym (given e q k lq lk))
       ∙ sym (coded-made (o .calls e) (o .runs e) (pairs p * q + k) (f .0) (f .1))
       ∙ sym (coded-at (o .calls e) (f .1))
 

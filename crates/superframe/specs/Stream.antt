@@ -3,17 +3,17 @@
 -- Assumes nothing.
 use mathlib.Core.List.{List}
 use Prim.Native.Nat.{ℕ, zero, suc, _+_, _*_}
-use Rattle.ofec.specs.History.{shift, fresh}
+use Rattle.ofec.specs.History.{depth, shift, fresh}
 use Rattle.ofec.specs.Encoding.{encoded}
 use Rattle.superframe.specs.Superframe.{part, endToEnd}
 
 module _ (h : List ℕ) (p : ℕ) (payloadOf : ℕ → List ℕ) where
   unfoldable pub historyAt : ℕ → List ℕ
   historyAt zero = h
-  historyAt (suc k) = shift (historyAt k) (encoded (historyAt k) (p + k) (payloadOf k))
+  historyAt (suc k) = shift (historyAt k) (encoded depth (historyAt k) (p + k) (payloadOf k))
 
   unfoldable pub pairAt : ℕ → List ℕ
-  pairAt k = encoded (historyAt k) (p + k) (payloadOf k)
+  pairAt k = encoded depth (historyAt k) (p + k) (payloadOf k)
 
 -- The payload of pair k in that of a super-frame, 444 bytes a pair.
 abbrev pub pairPayload : List ℕ → ℕ → List ℕ
@@ -28,5 +28,5 @@ historyOver m h p payload = historyAt h p (pairPayload payload) m
 
 -- The history before super-frame q, from fresh, where S gives the payload of each super-frame.
 unfoldable pub historyBefore : ℕ → (ℕ → List ℕ) → ℕ → List ℕ
-historyBefore m S zero = fresh 10
+historyBefore m S zero = fresh depth
 historyBefore m S (suc q) = historyOver m (historyBefore m S q) (m * q) (S q)

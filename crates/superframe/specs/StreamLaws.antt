@@ -11,7 +11,7 @@ use lib.ListN.{length, getD}
 use Rattle.bits.specs.Lists.{tabulate}
 use Rattle.calls.specs.declared.Answer.{Answer}
 use Rattle.calls.specs.declared.Answer.the-variants.{Done}
-use Rattle.ofec.specs.History.{shift, fresh}
+use Rattle.ofec.specs.History.{depth, shift, fresh}
 use Rattle.ofec.specs.HistoryLaws.{length-shift, historyAfter}
 use Rattle.ofec.specs.Encoding.{encoded}
 use Rattle.ofec.specs.EncodingLaws.{length-encoded}
@@ -26,16 +26,16 @@ use Rattle.superframe.specs.Stream.{historyAt, pairAt, pairPayload, code
 
 module _ (m k a e : ℕ) (lk : k < m) (ea : a ≡ k * 444) (ee : e ≡ a + 444) (number : ℕ) (ln : number < 4294967295) (payload : List ℕ) (lp : length payload ≡ m * 444)
     (r : Answer) (c h coded history : List ℕ) (is : afterEncode r c h ≡ encodeCall (part a (e - a) payload) coded history number) (lc : length coded ≡ 512)
-    (lh : length history ≡ 5120) where
-  left : afterEncode r c h ≡ afterEncode (Done (number + 1)) (encoded history number (part a (e - a) payload)) (shift history (encoded history number (part a (e - a) payload)))
+    (lh : length history ≡ 512 * depth) where
+  left : afterEncode r c h ≡ afterEncode (Done (number + 1)) (encoded depth history number (part a (e - a) payload)) (shift history (encoded depth history number (part a (e - a) payload)))
   left = is ∙ sym (encode-done (part a (e - a) payload) coded history number (part-long a e 444 payload ee (omega arith)) lc _ _ lh (omega arith) refl refl)
 
-  given : c ≡ encoded history number (part a (e - a) payload)
+  given : c ≡ encoded depth history number (part a (e - a) payload)
   given = ap (λ (x : Encoded). x .coded) left
 
   -- What the call leaves.
-  pub pair-coded : c ≡ encoded history number (pairPayload payload k)
-  pair-coded = let size : e - a ≡ 444 = omega arith in given ∙ ap₂ (λ x y. encoded history number (part x y payload)) ea size
+  pub pair-coded : c ≡ encoded depth history number (pairPayload payload k)
+  pair-coded = let size : e - a ≡ 444 = omega arith in given ∙ ap₂ (λ x y. encoded depth history number (part x y payload)) ea size
 
   pub pair-history : h ≡ shift history c
   pair-history = ap (λ (x : Encoded). x .history) left ∙ ap (shift history) (sym given)
@@ -46,29 +46,29 @@ pub ruleset pairing = (pair-coded, pair-history)
 
 -- The invariant of the loop: the history before pair k.
 pub record Streaming (h : List ℕ) (p : ℕ) (payload : List ℕ) (k : ℕ) (history : List ℕ) : Type 0 where
-  pub long : length history ≡ 5120
+  pub long : length history ≡ 512 * depth
   pub is : history ≡ historyAt h p (pairPayload payload) k
 
-pub stream-none : (h : List ℕ) (p : ℕ) (payload : List ℕ) → length h ≡ 5120 → Streaming h p payload 0 h
+pub stream-none : (h : List ℕ) (p : ℕ) (payload : List ℕ) → length h ≡ 512 * depth → Streaming h p payload 0 h
 unfolding historyAt
 stream-none h p payload l = record { long = l; is = refl }
 
 module _ {h : List ℕ} {p : ℕ} {payload : List ℕ} {k : ℕ} {g : List ℕ} (number : ℕ) (c : List ℕ) (s : Streaming h p payload k g) (en : number ≡ p + k)
-    (ec : c ≡ encoded g number (pairPayload payload k)) where
+    (ec : c ≡ encoded depth g number (pairPayload payload k)) where
   coded-is : c ≡ pairAt h p (pairPayload payload) k
   unfolding pairAt
-  coded-is = ec ∙ ap₂ (λ x y. encoded x y (pairPayload payload k)) (s .is) en
+  coded-is = ec ∙ ap₂ (λ x y. encoded depth x y (pairPayload payload k)) (s .is) en
 
   pub stream-more : (g′ : List ℕ) → g′ ≡ shift g c → Streaming h p payload (k + 1) g′
   unfolding historyAt pairAt
   stream-more g′ e =
       record {
-        long = ap length e ∙ length-shift 10 g c (s .long) (ap length ec ∙ length-encoded g number (pairPayload payload k));
+        long = ap length e ∙ length-shift depth g c (s .long) (ap length ec ∙ length-encoded depth g number (pairPayload payload k));
         is = e ∙ ap₂ shift (s .is) coded-is ∙ ap (historyAt h p (pairPayload payload)) (sym (add-one k));
       }
 
   pub stream-block : c ≡ tabulate 512 (λ i. byteOfEach 512 (pairAt h p (pairPayload payload)) (k * 512 + i))
-  stream-block = each-block (pairAt h p (pairPayload payload)) 512 k c (lit< tt) (ap length ec ∙ length-encoded g number (pairPayload payload k)) coded-is
+  stream-block = each-block (pairAt h p (pairPayload payload)) 512 k c (lit< tt) (ap length ec ∙ length-encoded depth g number (pairPayload payload k)) coded-is
 
 pub stream-pairs : (m : ℕ) (h : List ℕ) (p : ℕ) (payload d : List ℕ) → d ≡ tabulate (m * 512) (byteOfEach 512 (pairAt h p (pairPayload payload))) → d ≡ codedOf m h p payload
 unfolding codedOf endToEnd
@@ -87,7 +87,7 @@ unfolding historyAt
 historyAt-ext h p f g zero e = refl
 historyAt-ext h p f g (suc n) e =
     let i = historyAt-ext h p f g n (λ k l. e k (omega arith)) in
-    ap₂ (λ x y. shift x (encoded x (p + n) y)) i (e n (omega arith))
+    ap₂ (λ x y. shift x (encoded depth x (p + n) y)) i (e n (omega arith))
 
 pub historyAt-more : (h : List ℕ) (p : ℕ) (f : ℕ → List ℕ) (m n : ℕ) → historyAt h p f (m + n) ≡ historyAt (historyAt h p f m) (p + m) (λ k. f (m + k)) n
 unfolding historyAt
@@ -96,9 +96,9 @@ historyAt-more h p f m (suc n) =
     let i = historyAt-more h p f m n in
     let s : m + suc n ≡ suc (m + n) = omega arith in
     let q : p + (m + n) ≡ p + m + n = omega arith in
-    ap (historyAt h p f) s ∙ ap₂ (λ x y. shift x (encoded x y (f (m + n)))) i q
+    ap (historyAt h p f) s ∙ ap₂ (λ x y. shift x (encoded depth x y (f (m + n)))) i q
 
-pub from-fresh : (ys : List (List ℕ)) (n : ℕ) → historyAt (fresh 10) 0 (λ k. getD ys k []) n ≡ encoderHistory ys n
+pub from-fresh : (ys : List (List ℕ)) (n : ℕ) → historyAt (fresh depth) 0 (λ k. getD ys k []) n ≡ encoderHistory depth ys n
 unfolding historyAt encoderHistory historyAfter
 from-fresh ys zero = refl
-from-fresh ys (suc n) = ap₂ (λ x y. shift x (encoded x y (getD ys n []))) (from-fresh ys n) (zero-add n)
+from-fresh ys (suc n) = ap₂ (λ x y. shift x (encoded depth x y (getD ys n []))) (from-fresh ys n) (zero-add n)

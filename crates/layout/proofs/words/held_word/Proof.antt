@@ -3,6 +3,7 @@
 use Prim.Native.Nat.{_-_, _≤_}
 use Rattle.bits.specs.Bits.{byteOf, pack}
 use Rattle.bits.specs.Filling.{Filling, fill}
+use Rattle.ofec.specs.History.{depth}
 use Rattle.ofec.specs.Receiving.{heldWord}
 use Rattle.layout.specs.WordBytes.{held-start, held-byte}
 use borrow.Author.Needs.{needs}
@@ -12,7 +13,7 @@ use Rattle.layout.proofs.words.held_word.Tie as tie
 ruleset kit = (needs, fill, held-start, held-byte)
 
 abbrev Inv-loop : tie.InvT-loop
-Inv-loop history coded pair w word₀ j₀ word j = (16 ≤ j) × Filling (byteOf (heldWord history pair coded w)) 32 j word
+Inv-loop history coded pair w word₀ j₀ word j = (16 ≤ j) × Filling (byteOf (heldWord depth history pair coded w)) 32 j word
 
 abbrev μ-loop : tie.MeasureT-loop
 μ-loop history coded pair w word₀ j₀ word j = 32 - j

@@ -4,6 +4,7 @@ use Prim.Native.Nat.{_-_, _≤_}
 use Rattle.bits.specs.Bits.{byteOf, pack}
 use Rattle.bits.specs.Filling.{Filling, fill}
 use Rattle.bch.specs.Completion.{firstBits}
+use Rattle.ofec.specs.History.{depth}
 use Rattle.ofec.specs.Encoding.{openWord}
 use Rattle.layout.specs.WordBytes.{open-start, open-byte}
 use borrow.Author.Needs.{needs}
@@ -13,7 +14,7 @@ use Rattle.layout.proofs.words.open_word.Tie as tie
 ruleset kit = (needs, fill, open-start, open-byte)
 
 abbrev Inv-loop : tie.InvT-loop
-Inv-loop history payload pair w word₀ j₀ word j = (16 ≤ j) × Filling (byteOf (firstBits (openWord history pair payload w))) 32 j word
+Inv-loop history payload pair w word₀ j₀ word j = (16 ≤ j) × Filling (byteOf (firstBits (openWord depth history pair payload w))) 32 j word
 
 abbrev μ-loop : tie.MeasureT-loop
 μ-loop history payload pair w word₀ j₀ word j = 32 - j

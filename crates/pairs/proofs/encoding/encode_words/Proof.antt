@@ -3,6 +3,7 @@
 use Prim.Native.Nat.{_-_}
 use Rattle.bits.specs.Bits.{byteOf, pack}
 use Rattle.bits.specs.Filling.{Blocks, by-blocks}
+use Rattle.ofec.specs.History.{depth}
 use Rattle.ofec.specs.Encoding.{encodedWord}
 use Rattle.layout.specs.BackHalves.{backHalves, back-block}
 use borrow.Author.Needs.{needs}
@@ -12,7 +13,7 @@ use Rattle.pairs.proofs.encoding.encode_words.Tie as tie
 ruleset kit = (needs, by-blocks, back-block)
 
 abbrev Inv-loop : tie.InvT-loop
-Inv-loop history payload pair backs₀ w₀ backs w = Blocks (byteOf (backHalves (encodedWord history pair payload))) 16 32 w backs
+Inv-loop history payload pair backs₀ w₀ backs w = Blocks (byteOf (backHalves (encodedWord depth history pair payload))) 16 32 w backs
 
 abbrev μ-loop : tie.MeasureT-loop
 μ-loop history payload pair backs₀ w₀ backs w = 32 - w

@@ -4,6 +4,7 @@ use Prim.Native.Nat.{_-_}
 use Rattle.bits.specs.Bits.{byteOf, pack}
 use Rattle.bits.specs.Filling.{Filling, fill, Blocks, by-blocks}
 use Rattle.bch.specs.Repair.{mark}
+use Rattle.ofec.specs.History.{depth}
 use Rattle.ofec.specs.Receiving.{repairOf, mendedWord, marks as marksOf}
 use Rattle.layout.specs.BackHalves.{backHalves, back-block}
 use borrow.Author.Needs.{needs}
@@ -13,7 +14,7 @@ use Rattle.pairs.proofs.receiving.receive_words.Tie as tie
 ruleset kit = (needs, by-blocks, fill, back-block)
 
 abbrev Inv-loop : tie.InvT-loop
-Inv-loop history coded pair backs₀ marks₀ w₀ backs marks w = Blocks (byteOf (backHalves (mendedWord history pair coded))) 16 32 w backs × Filling (λ i. mark (repairOf history pair coded i)) 32 w marks
+Inv-loop history coded pair backs₀ marks₀ w₀ backs marks w = Blocks (byteOf (backHalves (mendedWord depth history pair coded))) 16 32 w backs × Filling (λ i. mark (repairOf depth history pair coded i)) 32 w marks
 
 abbrev μ-loop : tie.MeasureT-loop
 μ-loop history coded pair backs₀ marks₀ w₀ backs marks w = 32 - w
