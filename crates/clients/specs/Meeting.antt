@@ -1,9 +1,8 @@
 -- The exported functions and demand 3 meet: what it says of the library's calls holds of the outcomes and buffers of the exported ones.
 -- Assumes nothing.
-use mathlib.Core.Path.{_≡_, refl, sym, ap, subst, _∙_}
+use mathlib.Core.Path.{_≡_, sym, ap, subst, _∙_}
 use mathlib.Core.List.{List, [], _∷_, map}
 use Prim.Native.Nat.{ℕ, _*_, _/_, _<_}
-use lib.ListN.{getD}
 use Rattle.calls.specs.Answers.{Accepted}
 use Rattle.calls.specs.Sequences.{At, accepted}
 use Rattle.calls.specs.SequenceLaws.{mirror-accepted}

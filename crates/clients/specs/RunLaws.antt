@@ -3,15 +3,14 @@
 -- Assumes nothing.
 use mathlib.Core.Path.{_≡_, refl, sym, ap, ap₂, subst, _∙_}
 use mathlib.Core.List.{List, [], _∷_, map}
-use Prim.Native.Nat.{ℕ, suc, _/_, _<_, _≤_}
+use Prim.Native.Nat.{ℕ, suc, _≤_}
 use lib.ListN.{length, getD}
-use Rattle.calls.specs.Answers.{refusalOf, valueOr}
 use Rattle.calls.specs.Sequences.{At, here, later, Part, accepted}
 use Rattle.calls.specs.SequenceLaws.{Mirrors, mirror-run, mirror-accepted}
 use Rattle.ofec.specs.SentLaws.{madeBits, sent-exists}
-use Rattle.ofec.specs.Calls.{State, state, Encoding, encode, encodeCall, Encodings, Encoded, Receiving, receive, receiveCall, Receivings, Received, payloads}
+use Rattle.ofec.specs.Calls.{state, Encoding, encode, Encodings, Receiving, receive, Receivings, payloads}
 use Rattle.ofec.specs.Rows.{RowBits}
-use Rattle.ofec.specs.Promise.{Limit, Promise}
+use Rattle.ofec.specs.Promise.{Limit}
 use Rattle.cells.specs.Profile.{pairsIn}
 use Rattle.cells.specs.Profiles.{qam16}
 use Rattle.line.specs.Sides.{Side}
@@ -20,7 +19,7 @@ use Rattle.line.specs.Outward.{Outward, codedPairs}
 use Rattle.line.specs.Inward.{Inward}
 use Rattle.capi.specs.declared.Outcome.{Outcome}
 use Rattle.capi.specs.Outcomes.{outcomeOf}
-use Rattle.capi.specs.Exports.{Exported, exported, ofEncoded, ofReceived}
+use Rattle.capi.specs.Exports.{Exported, ofEncoded, ofReceived}
 use Rattle.clients.specs.Runs.{EncodeCall, EncodeCalls, ReceiveCall, ReceiveCalls, Sends, Receives}
 
 -- ---- lists

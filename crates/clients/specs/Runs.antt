@@ -7,7 +7,6 @@ use Prim.Native.Nat.{ℕ, _≤_}
 use lib.ListN.{length}
 use Rattle.calls.specs.Sequences.{At, Part, Kind, Run, accepted}
 use Rattle.ofec.specs.Rows.{RowBits}
-use Rattle.ofec.specs.Sent.{Sent}
 use Rattle.ofec.specs.Calls.{State, state, start, Encoding, encodeCall, Receiving, receiveCall}
 use Rattle.ofec.specs.Promise.{Limit}
 use Rattle.cells.specs.Profile.{pairsIn}

@@ -9,6 +9,7 @@ use lib.ListN.{length, replicate, length-replicate, getD-replicate}
 use Rattle.calls.specs.Answers.{TurnedBack}
 use Rattle.bch.specs.Marks.{fate}
 use Rattle.ofec.specs.Calls.{Encoding, encode, Encodings}
+use Rattle.ofec.specs.StateLaws.{refused-encoding}
 use Rattle.cells.specs.Profile.{cellsPerBuffer, pairsIn, rowsIn}
 use Rattle.cells.specs.Profiles.{qam16, qam16-sizes}
 use Rattle.cells.specs.Cells.{overheadRule, Legal}
@@ -21,7 +22,7 @@ use Rattle.line.specs.Theorem.{demand3}
 use Rattle.line.specs.CallLists.{hedged}
 use Rattle.line.specs.CallListLaws.{among-hedged, hedged-accepted}
 use Rattle.line.specs.Runs.{Given, encodings, LentBack, WordErrors, emptyEncoding, emptyReceiving}
-use Rattle.line.specs.RunLaws.{refused-encoding, refused-empty, encodings-accepted}
+use Rattle.line.specs.RunLaws.{refused-empty, encodings-accepted}
 use Rattle.line.specs.Witness.{goes-out}
 use Rattle.line.specs.WrongLaws.{errors-own}
 use Rattle.line.specs.ErrorWitness.{first-count, first-errors, row-20, erring}

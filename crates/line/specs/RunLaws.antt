@@ -2,23 +2,17 @@
 -- Assumes nothing.
 use mathlib.Core.Path.{_≡_, refl, sym, ap, _∙_}
 use mathlib.Core.List.{[], map}
-use mathlib.Core.Logic.{_≢_}
-use Prim.Native.Nat.{ℕ, suc, _*_, _<_, _≤_}
+use Prim.Native.Nat.{ℕ, suc, _<_, _≤_}
 use native.Mathlib.Omega.{arith}
 use native.Mathlib.Decide.{decLt}
 use lib.ListN.{length, getD, length-map}
 use lib.Seq.{ext-getD}
-use Rattle.calls.specs.Answers.{refusalOf, valueOr, Accepted, TurnedBack}
+use Rattle.calls.specs.Answers.{Accepted, TurnedBack}
 use Rattle.calls.specs.Sequences.{At, Run, accepted}
 use Rattle.calls.specs.SequenceLaws.{At-find, At-map, is-accepted}
-use Rattle.ofec.specs.History.{depth}
-use Rattle.ofec.specs.HistoryLaws.{length-fresh, length-shift}
-use Rattle.ofec.specs.Encoding.{encoded}
-use Rattle.ofec.specs.EncodingLaws.{length-encoded}
-use Rattle.ofec.specs.Receiving.{newestPair}
-use Rattle.ofec.specs.ReceivingLaws.{length-newest}
-use Rattle.ofec.specs.Calls.{State, start, Encoded, Encoding, encode, Encodings, Received, Receiving, receive, Receivings, payloads}
-use Rattle.ofec.specs.CallLaws.{EncodeFits, encode-payload, encode-accepted, encode-accepts, ReceiveFits, receive-coded, receive-accepted, receive-accepts}
+use Rattle.ofec.specs.Calls.{State, start, Encoding, encode, Encodings, Receiving, receive, Receivings}
+use Rattle.ofec.specs.CallLaws.{EncodeFits, encode-accepted, encode-accepts, ReceiveFits, receive-accepts}
+use Rattle.ofec.specs.StateLaws.{Ready, ready-fresh, encode-ready, refused-receiving, receive-ready}
 use Rattle.ofec.specs.PromiseLaws.{encoder-lent}
 use Rattle.cells.specs.Profile.{Profile, pairsIn}
 use Rattle.line.specs.Sides.{Side}
@@ -31,25 +25,7 @@ use Rattle.line.specs.Runs.{Given, encodingOf, encodings, LentBack, rece
 
 -- ---- encoding
 
--- Before call P: a history of the stated length, and pair number P.
-pub record Ready (P : ℕ) (s : State) : Type 0 where
-  pub history : length (s .history) ≡ 512 * depth
-  pub pair : s .pair ≡ P
-
-ready-fresh : Ready 0 start
-ready-fresh = record { history = length-fresh depth; pair = refl }
-
--- There are refused calls of both kinds.
-pub refused-encoding : (c : Encoding) → length (c .payload) ≢ 444 → TurnedBack (encode c .answer)
-unfolding encode
-refused-encoding c n e =
-    omega (arith, ap (λ (a : Encoded). refusalOf (a .answer)) (encode-payload (c .payload) (c .coded) (c .history) (c .pair) n), e)
-
-pub refused-receiving : (c : Receiving) → length (c .coded) ≢ 512 → TurnedBack (receive c .answer)
-unfolding receive
-refused-receiving c n e =
-    omega (arith, ap (λ (a : Received). refusalOf (a .answer)) (receive-coded (c .coded) (c .payload) (c .marks) (c .history) (c .pair) n), e)
-
+-- A receiving call that is lent nothing is refused.
 pub refused-empty : TurnedBack (receive emptyReceiving .answer)
 refused-empty = refused-receiving emptyReceiving (λ e. omega arith)
 
@@ -67,14 +43,7 @@ module _ (p : Profile) (g : Given p) (e : Side) where
   accepts P s l r = encode-accepts (encodingOf p g e P s) (fits P s l r)
 
   leaves : (P : ℕ) (s : State) → P < pairsIn p (g .superframes) → Ready P s → Ready (suc P) (Encodings .left (encodingOf p g e P s))
-  leaves P s l r =
-      let c = encodingOf p g e P s in
-      let is = encode-accepted c (accepts P s l r) .1 in
-      let q = encoded depth (c .history) (c .pair) (c .payload) in
-      record {
-        history = ap (λ (a : Encoded). length (a .history)) is ∙ length-shift depth (c .history) q (r .history) (length-encoded depth (c .history) (c .pair) (c .payload));
-        pair = ap (λ (a : Encoded). valueOr (a .answer) (c .pair)) is ∙ omega (arith, r .pair);
-      }
+  leaves P s l r = encode-ready (encodingOf p g e P s) (accepts P s l r) P (r .pair)
 
   pub encodings-run : Run Encodings start (encodings p g e) (stateAfter Encodings (encodingOf p g e) (pairsIn p (g .superframes)) 0 start)
   unfolding encodings
@@ -131,14 +100,7 @@ module _ (p : Profile) (n : ℕ) (h : Heard p n) (room : LentBack) (small : pair
   accepts-back P s l r = receive-accepts (receivingOf p n h room e P s) (fits-back P s l r)
 
   leaves-back : (P : ℕ) (s : State) → P < pairsIn p n → Ready P s → Ready (suc P) (Receivings .left (receivingOf p n h room e P s))
-  leaves-back P s l r =
-      let c = receivingOf p n h room e P s in
-      let is = receive-accepted c (accepts-back P s l r) .1 in
-      let q = newestPair depth (c .history) (c .pair) (c .coded) in
-      record {
-        history = ap (λ (a : Received). length (a .history)) is ∙ length-shift depth (c .history) q (r .history) (length-newest depth (c .history) (c .pair) (c .coded));
-        pair = ap (λ (a : Received). valueOr (a .answer) (c .pair)) is ∙ omega (arith, r .pair);
-      }
+  leaves-back P s l r = receive-ready (receivingOf p n h room e P s) (accepts-back P s l r) P (r .pair)
 
   module _ (m : ℕ) (lm : m ≤ pairsIn p n) where
     pub receivings-run : Run Receivings start (receivings p n h room e m) (stateAfter Receivings (receivingOf p n h room e) m 0 start)

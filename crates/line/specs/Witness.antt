@@ -7,20 +7,19 @@ use Prim.Native.Nat.{ℕ, _+_, _-_, _*_, _/_, _%_, _<_, _≤_}
 use native.Mathlib.Omega.{arith}
 use lib.ListN.{length, getD}
 use Rattle.bits.specs.Bits.{bit}
-use Rattle.bits.specs.BitLaws.{pack-below, bits-equal}
-use Rattle.calls.specs.Answers.{TurnedBack}
+use Rattle.bits.specs.BitLaws.{bits-equal}
+use Rattle.calls.specs.Answers.{Accepted, TurnedBack}
 use Rattle.calls.specs.Sequences.{At, accepted}
 use Rattle.calls.specs.SequenceLaws.{At-lt, At-find, At-map, is-accepted}
 use Rattle.ofec.specs.Rows.{wordOf, payloadIndex}
 use Rattle.ofec.specs.RowLaws.{all-checked}
-use Rattle.ofec.specs.Pairs.{laidOut, ownIndex, payloadOf}
-use Rattle.ofec.specs.PairLaws.{ownWord, ownPlace, own-from, length-payloadOf}
-use Rattle.ofec.specs.History.{depth}
+use Rattle.ofec.specs.Pairs.{ownIndex}
+use Rattle.ofec.specs.PairLaws.{ownWord, ownPlace, own-from}
 use Rattle.ofec.specs.EncodingLaws.{payloadBit-own}
 use Rattle.ofec.specs.SentLaws.{madeBits, sent-exists}
-use Rattle.ofec.specs.Receiving.{mendedWord, payloadOut}
-use Rattle.ofec.specs.Calls.{start, Encoding, encode, Encodings, Received, Receiving, receive, Receivings, payloads}
-use Rattle.ofec.specs.CallLaws.{encode-accepted, encode-separate, receive-accepted, receive-separate}
+use Rattle.ofec.specs.Calls.{start, Encoding, encode, Encodings, Receiving, receive, Receivings, payloads}
+use Rattle.ofec.specs.CallLaws.{encode-accepted, encode-separate, receive-separate}
+use Rattle.ofec.specs.StateLaws.{payload-long, payload-bytes}
 use Rattle.ofec.specs.Promise.{wrongBits, Limit, markOf, NotLost}
 use Rattle.ofec.specs.PromiseLaws.{mark-exact}
 use Rattle.cells.specs.Profile.{Profile, pairsIn, rowsIn}
@@ -215,18 +214,16 @@ module _ (p : Profile) (o : Outward p) (i : Inward p o) where
 -- Where the payload is bytes, it comes back whole.
 pub payload-whole : (p : Profile) (o : Outward p) (i : Inward p o) → AllBack p o i → (e : Side) (P : ℕ) (c : Receiving) → At (accepted Receivings (i .calls e)) P c
     → ((j : ℕ) → getD (getD (payloads (o .calls e)) P []) j 0 < 256) → receive c .payload ≡ getD (payloads (o .calls e)) P []
-unfolding payloads payloadOut payloadOf
+unfolding payloads
 payload-whole p o i back e P c a bytes =
-    bits-equal (receive c .payload) (getD (payloads (o .calls e)) P []) (long ∙ sym given-long) small bytes (λ j l. back .payload e P c a j (omega (arith, long)))
+    bits-equal (receive c .payload) (getD (payloads (o .calls e)) P []) (long ∙ sym given-long) (payload-bytes c ok) bytes
+    (λ j l. back .payload e P c a j (omega (arith, long)))
   where
-    is : receive c .payload ≡ payloadOut depth (c .history) (c .pair) (c .coded)
-    is = ap (λ (d : Received). d .payload) (receive-accepted c (is-accepted Receivings (i .calls e) a) .1)
+    ok : Accepted (receive c .answer)
+    ok = is-accepted Receivings (i .calls e) a
 
     long : length (receive c .payload) ≡ 444
-    long = ap length is ∙ length-payloadOf (mendedWord depth (c .history) (c .pair) (c .coded))
-
-    small : (j : ℕ) → getD (receive c .payload) j 0 < 256
-    small j = rw is (pack-below 444 (laidOut 111 ownIndex (mendedWord depth (c .history) (c .pair) (c .coded))) j)
+    long = payload-long c ok
 
     f : (d : Encoding) × At (accepted Encodings (o .calls e)) P d
     f = At-find (accepted Encodings (o .calls e)) P (omega (arith, At-lt a, i .some e, o .filled e))

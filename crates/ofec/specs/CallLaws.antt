@@ -11,7 +11,7 @@ use Rattle.calls.specs.declared.Answer.the-variants.{Done, Refused}
 use Rattle.calls.specs.declared.Refusal.the-variants.{Misfit, CountSpent}
 use Rattle.calls.specs.Answers.{refusalOf, valueOr, Accepted, TurnedBack}
 use Rattle.calls.specs.Cases.{Case, done, refused, case-accepted, case-turned}
-use Rattle.calls.specs.Sequences.{Part, not-lent, Keeping, Separate}
+use Rattle.calls.specs.Sequences.{not-lent, Keeping, Separate}
 use Rattle.calls.specs.SequenceLaws.{part-kept}
 use Rattle.ofec.specs.History.{depth, shift}
 use Rattle.ofec.specs.Encoding.{encoded}

@@ -5,7 +5,7 @@ use mathlib.Core.List.{List, _++_}
 use Prim.Native.Nat.{ℕ, zero, suc, _+_, _-_, _*_, _/_, _%_, _<_, _≤_}
 use native.Mathlib.Omega.{arith}
 use native.Mathlib.Decide.{ℕ-discrete}
-use lib.ListN.{length, length-append, length-drop, length-replicate}
+use lib.ListN.{length, length-append, length-drop, length-replicate, getD, getD-replicate}
 use Rattle.bits.specs.BitLaws.{bit-lt}
 use Rattle.ofec.specs.Rows.{RowBits, wordOf}
 use Rattle.ofec.specs.RowLaws.{reach, Place, zeros, before, own, place}
@@ -28,7 +28,12 @@ pairIndex-lt s C r c ls lC lr lc = omega arith
 
 pub length-fresh : (n : ℕ) → length (fresh n) ≡ 512 * n
 unfolding fresh
-length-fresh n = length-replicate {A = ℕ} (512 * n) 0
+length-fresh n = simp length-replicate
+
+-- "all zero .. when fresh"
+pub fresh-zero : (n j : ℕ) → j < 512 * n → getD (fresh n) j 0 ≡ 0
+unfolding fresh
+fresh-zero n j l = getD-replicate (512 * n) j 0 0 l
 
 pub length-shift : (n : ℕ) (h q : List ℕ) → length h ≡ 512 * n → length q ≡ 512 → length (shift h q) ≡ 512 * n
 unfolding shift
