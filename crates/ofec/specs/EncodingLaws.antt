@@ -68,7 +68,7 @@ module _ (n : ℕ) (h : List ℕ) (P : ℕ) (y : List ℕ) where
 
   pub length-encoded : length (encoded n h P y) ≡ 512
   unfolding encoded
-  length-encoded = length-codedPair (encodedWord n h P y)
+  length-encoded = simp length-codedPair
 
   -- The coded pair has the words' back halves.
   pub encoded-bit : (R C r c : ℕ) → C < 8 → r < 16 → c < 16 → pairBit (encoded n h P y) (R % 2) C r c ≡ encodedWord n h P y (16 * (R % 2) + r) (backPlace C r c)
