@@ -15,5 +15,6 @@ pub mod Quotient
 pub mod QuotientLaws
 pub mod Calls
 pub mod CallLaws
+pub mod ResultLaws
 pub mod BenchValues
 pub mod CheckLaws

@@ -16,5 +16,6 @@ pub mod Receiving
 pub mod ReceivingLaws
 pub mod Calls
 pub mod CallLaws
+pub mod ResultLaws
 pub mod Promise
 pub mod PromiseLaws
