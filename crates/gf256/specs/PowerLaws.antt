@@ -89,10 +89,6 @@ pub ·-lt : (x y : ℕ) → x · y < 256
 
 -- ---- cubes
 
-pub cube-lt : (x : ℕ) → cube x < 256
-unfolding cube
-cube-lt x = ·-lt x (x · x)
-
 -- The rule of the table of cubes, computed over all of it: a step of the powers is three steps of their cubes.
 cubed-step : (k : ℕ) → k < 254 → getD cubed (getD powers (suc k) 0) 0 ≡ shiftA (shiftA (shiftA (getD cubed (getD powers k 0) 0)))
 unfolding cubed powers shiftA a-columns lin _⊕_

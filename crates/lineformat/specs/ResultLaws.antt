@@ -4,13 +4,14 @@ use mathlib.Core.Path.{_≡_, refl}
 use mathlib.Core.Bool.{cond, not, _||_}
 use mathlib.Core.List.{List, []}
 use Prim.Native.Nat.{ℕ}
+use borrow.Author.Tests.{ne-eqb}
 use lib.Dec.{eqb, ltb, leb}
 use lib.ListN.{length, take, drop}
 use Rattle.bits.specs.Tests.{both}
 use Rattle.calls.specs.declared.Answer.{Answer}
 use Rattle.calls.specs.declared.Answer.the-variants.{Done, Refused}
-use Rattle.calls.specs.declared.Refusal.the-variants.{Misfit, BadHeader, CountSpent, NoSuchFrame, OffGrid}
-use Rattle.calls.specs.Answers.{refusalOf}
+use Rattle.calls.specs.Answers.{numberOf, refusalOf}
+use Rattle.calls.specs.AnswerLaws.{refused-turned}
 use Rattle.calls.specs.Results.{result, resultOf}
 use Rattle.calls.specs.ResultLaws.{by-test, results}
 use Rattle.lineformat.specs.declared.Header.{Header}
@@ -55,11 +56,7 @@ write-result n header = simp (by-test (λ (a : Written). resultOf 0 (a .answer))
 
 part-result : (a : Answer) (part : List ℕ) → partWhen a part ≡ cond (eqb (refusalOf a) 0) part []
 part-result (Done v) part = refl
-part-result (Refused Misfit) part = refl
-part-result (Refused BadHeader) part = refl
-part-result (Refused CountSpent) part = refl
-part-result (Refused NoSuchFrame) part = refl
-part-result (Refused (OffGrid i)) part = refl
+part-result (Refused r) part = simp (ne-eqb (numberOf r) 0 (refused-turned r))
 
 pub open-part-result : (file : List ℕ) → openCall file .file ≡ cond (eqb (openRefusal file) 0) file []
 unfolding openCall
