@@ -21,11 +21,6 @@ use Rattle.bch.specs.Checks.{checks, check, tail}
 
 -- ---- the rule of the table, computed over all of it
 
--- The remainder of y^j.
-register : ℕ → ℕ
-register zero = 1
-register (suc j) = shift (register j)
-
 -- Without its last bit an entry is the step before, shifted,
 step : (j : ℕ) → j < 254 → getD checks (suc (suc j)) 0 / 2 ≡ shift (getD checks (suc j) 0 / 2)
 unfolding checks shift shift-columns lin _⊕_
@@ -47,11 +42,6 @@ odd : (i : ℕ) → i < 256 → ones (getD checks i 0) ≡ 1
 unfolding checks ones xorSum _⊕_
 odd = agree 256 (λ i. ones (getD checks i 0)) (λ i. 1) tt
 
-half-register : (j : ℕ) → j < 255 → getD checks (suc j) 0 / 2 ≡ register j
-unfolding register
-half-register zero l = first
-half-register (suc j) l = step j (omega arith) ∙ ap shift (half-register j (omega arith))
-
 -- ---- the remainder and the parity are read off the check bits
 
 half-linear : Linear (λ x. x / 2)
@@ -71,15 +61,15 @@ module _ (w : Word) (b : BitsTo 256 w) where
   low k l = b k (omega arith)
 
   half-check : check w / 2 ≡ remainder 255 w
-  unfolding check register
+  unfolding check
   half-check =
       sum-through half-linear 256 (λ k. w k * getD checks (255 - k) 0)
       ∙ xorSum-ext 256 (λ k. w k * getD checks (255 - k) 0 / 2) (λ k. w k * (getD checks (255 - k) 0 / 2))
       (λ k l. bit-through half-linear (w k) (getD checks (255 - k) 0) (b k l))
-      ∙ last-zero w (λ k. getD checks (255 - k) 0 / 2) (λ k. register (255 - suc k)) last
-      (λ k l. let e : 255 - k ≡ suc (255 - suc k) = omega arith in
-      ap (λ i. getD checks i 0 / 2) e ∙ half-register (255 - suc k) (omega arith))
-      ∙ sym (evaluated same shift-linear (λ s. refl) register refl (λ j. refl) 255 w low)
+      ∙ last-zero w (λ k. getD checks (255 - k) 0 / 2) (λ k. getD checks (suc (255 - suc k)) 0 / 2) last
+      (λ k l. let e : 255 - k ≡ suc (255 - suc k) = omega arith in ap (λ i. getD checks i 0 / 2) e)
+      ∙ sym
+      (evaluated same shift-linear (λ s. refl) (λ j. getD checks (suc j) 0 / 2) (sym first) 254 (λ j l. sym (step j l)) 255 w (omega arith) low)
 
   ones-check : ones (check w) ≡ xorSum 256 w
   unfolding check

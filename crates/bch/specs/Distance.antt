@@ -1,44 +1,43 @@
 -- "Two different code words differ in at least 6 bits."
 -- Assumes nothing.
 use mathlib.Core.Path.{_≡_, refl, sym, ap, ap₂, _∙_}
+use mathlib.Core.Bool.{cond}
 use mathlib.Core.Logic.{_⊎_, inl, inr, ⊎-elim}
 use Prim.Native.Nat.{ℕ, zero, suc, _+_, _-_, _*_, _%_, _<_, _≤_}
 use native.Mathlib.Nat.{zero-mul, one-mul}
 use native.Mathlib.Omega.{arith}
-use native.Mathlib.Decide.{ℕ-discrete, decLt}
-use lib.Dec.{lit<, lit≤}
+use native.Mathlib.Decide.{ℕ-discrete}
+use lib.Dec.{lit≤, ltb, ltb→lt, eqb}
+use lib.ListN.{getD}
+use Rattle.bits.specs.Tests.{each, agree}
 use Rattle.bits.specs.Count.{count, differs, distance}
 use Rattle.bits.specs.CountLaws.{Differs, same, other, tell, differs-le, count-zero, distance-zero}
 use Rattle.bits.specs.Xor.{_⊕_, xorSum}
 use Rattle.bits.specs.XorLaws.{⊕-zero, zero-⊕, ⊕-eq, ⊕-lt, sums, xorSum-⊕, xorSum-ext, xorSum-none, bits-⊕-times}
 use Rattle.gf256.specs.Field.{_·_, cube, cubes}
-use Rattle.gf256.specs.PowerLaws.{power-eq, power-lt, power-nonzero, no-zero-divisors, ·-lt}
+use Rattle.gf256.specs.Tables.{powers, logs}
+use Rattle.gf256.specs.PowerLaws.{no-zero-divisors, ·-lt}
 use Rattle.bch.specs.CodeWord.{Word, parity, CodeWord}
 use Rattle.bch.specs.RemainderLaws.{BitsTo}
 use Rattle.bch.specs.Syndromes.{locator, S1, S3}
-use Rattle.bch.specs.SyndromeLaws.{locator-power, locator-last, code-S1, code-S3}
+use Rattle.bch.specs.SyndromeLaws.{code-S1, code-S3}
 
 -- ---- locators of different places differ
 
 pub locator-lt : (k : ℕ) → k < 256 → locator k < 256
-locator-lt k h = go (decLt k 255)
-  where
-    go : Dec (k < 255) → locator k < 256
-    go (yes l) = rw (locator-power k l) (power-lt (254 - k))
-    go (no n) = let e : k ≡ 255 = omega arith in rw (e, locator-last) (lit< tt)
+unfolding locator powers
+locator-lt k h = ltb→lt (locator k) 256 (each 256 (λ i. ltb (locator i) 256) tt k h)
+
+-- The place that an element stands for.
+place : ℕ → ℕ
+place x = cond (eqb x 0) 255 (254 - getD logs x 0)
+
+place-locator : (k : ℕ) → k < 256 → place (locator k) ≡ k
+unfolding place locator powers logs
+place-locator = agree 256 (λ k. place (locator k)) (λ k. k) tt
 
 pub locator-eq : (i j : ℕ) → i < 256 → j < 256 → locator i ≡ locator j → i ≡ j
-locator-eq i j hi hj e = go (decLt i 255) (decLt j 255)
-  where
-    last : (k : ℕ) → k < 256 → (k < 255 → ⊥) → locator k ≡ 0
-    last k h n = let p : k ≡ 255 = omega arith in ap locator p ∙ locator-last
-
-    go : Dec (i < 255) → Dec (j < 255) → i ≡ j
-    go (yes l) (yes m) =
-        let p = power-eq (254 - i) (254 - j) (omega arith) (omega arith) (sym (locator-power i l) ∙ e ∙ locator-power j m) in omega arith
-    go (yes l) (no n) = absurd (power-nonzero (254 - i) (omega arith) (sym (locator-power i l) ∙ e ∙ last j hj n))
-    go (no n) (yes m) = absurd (power-nonzero (254 - j) (omega arith) (sym (locator-power j m) ∙ sym e ∙ last i hi n))
-    go (no n) (no m) = omega arith
+locator-eq i j hi hj e = sym (place-locator i hi) ∙ ap place e ∙ place-locator j hj
 
 apart : (i j : ℕ) → i < 256 → j < i → locator i ⊕ locator j ≡ 0 → ⊥
 apart i j hi hj e = let z = locator-eq i j hi (omega arith) (⊕-eq (locator i) (locator j) e) in omega arith

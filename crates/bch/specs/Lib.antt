@@ -16,6 +16,7 @@ pub mod Quotient
 pub mod QuotientLaws
 pub mod Calls
 pub mod CallLaws
+pub mod ResultLaws
 pub mod BenchValues
 pub mod Tight
 pub mod CheckLaws

@@ -2,7 +2,7 @@
 -- Assumes nothing.
 use mathlib.Core.Path.{_≡_, refl, sym, ap, ap₂, _∙_, subst}
 use mathlib.Core.List.{List, [], _∷_}
-use Prim.Native.Nat.{ℕ, zero, suc, _+_, _-_, _*_, _<_}
+use Prim.Native.Nat.{ℕ, zero, suc, _+_, _-_, _*_, _<_, _≤_}
 use native.Mathlib.Nat.{mul-one}
 use native.Mathlib.Omega.{arith}
 use lib.Dec.{lit<}
@@ -74,24 +74,24 @@ remainder-added (suc n) x y bx by =
     ∙ ⊕-four (shift (remainder n x)) (shift (remainder n y)) (x n) (y n)
     ∙ ap₂ _⊕_ (sym (remainder-next n x bx)) (sym (remainder-next n y by))
 
--- A linear map e of the remainder that turns the register's step into the map f is the sum, over the places, of q 0 = e 1,
--- q 1 = f (q 0), ..
+-- A linear map e of the remainder that turns the register's step into the map f is the sum, over the places, of the entries of a
+-- table that starts with e 1 and whose step is f: q 0 = e 1, q 1 = f (q 0), .., q m.
 module _ {e f : ℕ → ℕ} (E : Linear e) (F : Linear f) (steps : (s : ℕ) → e (shift s) ≡ f (e s)) (q : ℕ → ℕ) (first : e 1 ≡ q 0)
-    (next : (j : ℕ) → f (q j) ≡ q (suc j)) where
-  one-more : (n : ℕ) (w : Word) → BitsTo n w → f (xorSum n (λ k. w k * q (n - suc k))) ≡ xorSum n (λ k. w k * q (suc n - suc k))
-  one-more n w b =
+    (m : ℕ) (next : (j : ℕ) → j < m → f (q j) ≡ q (suc j)) where
+  one-more : (n : ℕ) (w : Word) → n ≤ m → BitsTo n w → f (xorSum n (λ k. w k * q (n - suc k))) ≡ xorSum n (λ k. w k * q (suc n - suc k))
+  one-more n w h b =
       sum-through F n (λ k. w k * q (n - suc k))
       ∙ xorSum-ext n (λ k. f (w k * q (n - suc k))) (λ k. w k * q (suc n - suc k))
       (λ k l.
       let up : suc (n - suc k) ≡ suc n - suc k = omega arith in
-      bit-through F (w k) (q (n - suc k)) (b k l) ∙ ap (λ u. w k * u) (next (n - suc k) ∙ ap q up))
+      bit-through F (w k) (q (n - suc k)) (b k l) ∙ ap (λ u. w k * u) (next (n - suc k) (omega arith) ∙ ap q up))
 
-  pub evaluated : (n : ℕ) (w : Word) → BitsTo n w → e (remainder n w) ≡ xorSum n (λ k. w k * q (n - suc k))
+  pub evaluated : (n : ℕ) (w : Word) → n ≤ suc m → BitsTo n w → e (remainder n w) ≡ xorSum n (λ k. w k * q (n - suc k))
   unfolding remainder xorSum
-  evaluated zero w b = E .at-zero
-  evaluated (suc n) w b =
+  evaluated zero w h b = E .at-zero
+  evaluated (suc n) w h b =
       let low : BitsTo n w = λ k l. b k (omega arith) in
       let none : 0 ≡ suc n - suc n = omega arith in
       ap e (remainder-next n w b) ∙ E .at-sum (shift (remainder n w)) (w n)
-      ∙ ap₂ _⊕_ (steps (remainder n w) ∙ ap f (evaluated n w low) ∙ one-more n w low)
+      ∙ ap₂ _⊕_ (steps (remainder n w) ∙ ap f (evaluated n w (omega arith) low) ∙ one-more n w (omega arith) low)
       (ap e (sym (mul-one (w n))) ∙ bit-through E (w n) 1 (b n (omega arith)) ∙ ap (λ u. w n * u) (first ∙ ap q none))

@@ -3,16 +3,16 @@
 use mathlib.Core.Path.{_≡_, refl, sym, ap, ap₂, _∙_}
 use mathlib.Core.List.{List, [], _∷_, map}
 use Prim.Native.Nat.{ℕ, suc, _-_, _*_, _<_, _≤_}
-use native.Mathlib.Nat.{suc-mul, mul-zero}
-use native.Mathlib.Numerals.{add-three}
+use native.Mathlib.Nat.{mul-zero}
 use native.Mathlib.Omega.{arith}
 use borrow.Author.Tests.{lt-ltb, le-ltb}
+use lib.ListN.{getD}
 use Rattle.bits.specs.Xor.{_⊕_, xorSum}
 use Rattle.bits.specs.XorLaws.{zero-⊕, ⊕-zero, xorSum-ext}
-use Rattle.gf256.specs.Powers.{power}
 use Rattle.gf256.specs.Linear.{lin, units, lin-linear, lin-lin, lin-map, lin-zero, agree, then, plus, same, Linear}
-use Rattle.gf256.specs.Field.{shiftA, shiftA-linear, a-columns, cube, cube-zero}
-use Rattle.gf256.specs.PowerLaws.{power-zero, power-suc, cube-power}
+use Rattle.gf256.specs.Field.{shiftA, shiftA-linear, a-columns, byte, orbit, _·_, cube, cube-zero, cube-shiftA}
+use Rattle.gf256.specs.Tables.{powers}
+use Rattle.gf256.specs.PowerLaws.{powers-first, powers-next}
 use Rattle.bch.specs.CodeWord.{Word, remainder, parity, CodeWord}
 use Rattle.bch.specs.RemainderLaws.{BitsTo, shift, shift-columns, evaluated, remainder-lt}
 use Rattle.bch.specs.Syndromes.{locator, S1, S3}
@@ -43,8 +43,8 @@ at-a-one : at-a 1 ≡ 1
 unfolding at-a at-a-columns lin _⊕_
 at-a-one = refl
 
-at-a3-one : at-a3 1 ≡ 1
-unfolding at-a3 at-a3-columns lin _⊕_
+at-a3-one : at-a3 1 ≡ cube 1
+unfolding at-a3 at-a3-columns cube _·_ orbit byte units shiftA a-columns lin _⊕_
 at-a3-one = refl
 
 -- g is 0 at a and at a^3: a step of the register is there multiplication by a, and by a^3.
@@ -67,38 +67,15 @@ at-a3-shift s =
     lin-lin at-a3-columns shift-columns (map (lin at-a3-columns) shift-columns) refl s
     ∙ sym (lin-map shiftA3-linear at-a3-columns s)
 
-power3-suc : (j : ℕ) → shiftA3 (power (j * 3)) ≡ power (suc j * 3)
-unfolding shiftA3
-power3-suc j =
-    ap (λ u. shiftA (shiftA u)) (sym (power-suc (j * 3))) ∙ ap shiftA (sym (power-suc (suc (j * 3)))) ∙ sym (power-suc (suc (suc (j * 3))))
-    ∙ ap power (sym (suc-mul j 3 ∙ add-three (j * 3)))
+-- ---- the syndromes as sums over all places, by the step rule of the table of powers
 
-at-a-sum : (w : Word) → BitsTo 255 w → at-a (remainder 255 w) ≡ xorSum 255 (λ k. w k * power (255 - suc k))
-at-a-sum w b = evaluated at-a-linear shiftA-linear at-a-shift power (at-a-one ∙ sym power-zero) (λ j. sym (power-suc j)) 255 w b
-
-at-a3-sum : (w : Word) → BitsTo 255 w → at-a3 (remainder 255 w) ≡ xorSum 255 (λ k. w k * power ((255 - suc k) * 3))
-at-a3-sum w b =
-    evaluated at-a3-linear shiftA3-linear at-a3-shift (λ j. power (j * 3)) (at-a3-one ∙ sym power-zero) power3-suc 255 w b
-
--- ---- the syndromes as sums over all places
-
-pub locator-power : (k : ℕ) → k < 255 → locator k ≡ power (254 - k)
+pub locator-entry : (k : ℕ) → k < 255 → locator k ≡ getD powers (254 - k) 0
 unfolding locator
-locator-power k h = simp (lt-ltb k 255 h)
-
--- As code reads it off the table.
-pub locator-read : (k x : ℕ) → k < 255 → x ≡ power (254 - k) → x ≡ locator k
-locator-read k x h e = e ∙ sym (locator-power k h)
+locator-entry k h = simp (lt-ltb k 255 h)
 
 pub locator-end : (k : ℕ) → 255 ≤ k → 0 ≡ locator k
 unfolding locator
 locator-end k h = simp (le-ltb k 255 h)
-
-pub ruleset locators = (locator-read, locator-end)
-
-pub locator-last : locator 255 ≡ 0
-unfolding locator
-locator-last = refl
 
 -- A sum over the 256 places whose last term is 0 is that over the 255 before.
 pub last-zero : (w : Word) (q r : ℕ → ℕ) → q 255 ≡ 0 → ((k : ℕ) → k < 255 → q k ≡ r k) → xorSum 256 (λ k. w k * q k) ≡ xorSum 255 (λ k. w k * r k)
@@ -107,19 +84,25 @@ last-zero w q r z e =
     ap₂ _⊕_ (xorSum-ext 255 (λ k. w k * q k) (λ k. w k * r k) (λ k l. ap (λ u. w k * u) (e k l))) (ap (λ u. w 255 * u) z ∙ mul-zero (w 255))
     ∙ ⊕-zero (xorSum 255 (λ k. w k * r k))
 
+-- The entry that stands for a place, as a sum over the places of a polynomial counts it.
+entry-at : (k : ℕ) → k < 255 → locator k ≡ getD powers (255 - suc k) 0
+entry-at k h = let e : 254 - k ≡ 255 - suc k = omega arith in locator-entry k h ∙ ap (λ i. getD powers i 0) e
+
 S1-is : (w : Word) → BitsTo 255 w → S1 w ≡ at-a (remainder 255 w)
 unfolding S1
 S1-is w b =
-    last-zero w locator (λ k. power (255 - suc k)) locator-last
-    (λ k l. let e : 254 - k ≡ 255 - suc k = omega arith in locator-power k l ∙ ap power e)
-    ∙ sym (at-a-sum w b)
+    last-zero w locator (λ k. getD powers (255 - suc k) 0) (sym (locator-end 255 (omega arith))) entry-at
+    ∙ sym
+    (evaluated at-a-linear shiftA-linear at-a-shift (λ j. getD powers j 0) (at-a-one ∙ sym powers-first) 254 powers-next 255 w (omega arith) b)
 
 S3-is : (w : Word) → BitsTo 255 w → S3 w ≡ at-a3 (remainder 255 w)
-unfolding S3
+unfolding S3 shiftA3
 S3-is w b =
-    last-zero w (λ k. cube (locator k)) (λ k. power ((255 - suc k) * 3)) (ap cube locator-last ∙ cube-zero)
-    (λ k l. let e : 254 - k ≡ 255 - suc k = omega arith in ap cube (locator-power k l ∙ ap power e) ∙ cube-power (255 - suc k))
-    ∙ sym (at-a3-sum w b)
+    last-zero w (λ k. cube (locator k)) (λ k. cube (getD powers (255 - suc k) 0)) (ap cube (sym (locator-end 255 (omega arith))) ∙ cube-zero)
+    (λ k l. ap cube (entry-at k l))
+    ∙ sym
+    (evaluated at-a3-linear shiftA3-linear at-a3-shift (λ j. cube (getD powers j 0)) (at-a3-one ∙ ap cube (sym powers-first)) 254
+    (λ j l. sym (cube-shiftA (getD powers j 0)) ∙ ap cube (powers-next j l)) 255 w (omega arith) b)
 
 -- ---- the remainder from its values
 

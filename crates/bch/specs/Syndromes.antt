@@ -4,15 +4,17 @@
 use mathlib.Core.Bool.{cond}
 use Prim.Native.Nat.{ℕ, _-_, _*_}
 use lib.Dec.{ltb}
+use lib.ListN.{getD}
 use Rattle.bits.specs.Xor.{xorSum}
-use Rattle.gf256.specs.Powers.{power}
 use Rattle.gf256.specs.Field.{cube}
+use Rattle.gf256.specs.Tables.{powers}
 use Rattle.bch.specs.CodeWord.{Word, parity}
 use Rattle.bch.specs.declared.Syndromes.{Syndromes}
 
--- The element of the field that stands for a place: a^254 for bit 0 down to a^0 for bit 254, and 0 for bit 255.
+-- The element of the field that stands for a place, an entry of the table of powers: a^254 for bit 0 ("bit 0 at power 254") down
+-- to a^0 for bit 254; and 0 for bit 255.
 unfoldable pub locator : ℕ → ℕ
-locator k = cond (ltb k 255) (power (254 - k)) 0
+locator k = cond (ltb k 255) (getD powers (254 - k) 0) 0
 
 -- Sums over the places of the bits that are set.
 unfoldable pub S1 : Word → ℕ

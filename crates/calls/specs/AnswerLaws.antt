@@ -1,13 +1,13 @@
 -- Laws of answers.
 -- Assumes nothing.
 use Prim.Native.Nat.{ℕ}
-use mathlib.Core.Path.{_≡_, refl}
+use mathlib.Core.Path.{_≡_, refl, ap, _∙_}
 use native.Mathlib.Omega.{arith}
 use Rattle.calls.specs.declared.Refusal.{Refusal}
 use Rattle.calls.specs.declared.Refusal.the-variants.{Misfit, BadHeader, CountSpent, NoSuchFrame, OffGrid}
 use Rattle.calls.specs.declared.Answer.{Answer}
 use Rattle.calls.specs.declared.Answer.the-variants.{Done, Refused}
-use Rattle.calls.specs.Answers.{Accepted, TurnedBack}
+use Rattle.calls.specs.Answers.{refusalOf, Accepted, TurnedBack}
 
 -- No refusal has number 0.
 pub refused-turned : (r : Refusal) → TurnedBack (Refused r)
@@ -21,3 +21,7 @@ refused-turned (OffGrid i) e = omega arith
 pub accepted-done : (a : Answer) → Accepted a → (v : ℕ) × (a ≡ Done v)
 accepted-done (Done v) e = (v, refl)
 accepted-done (Refused r) e = absurd (refused-turned r e)
+
+-- The number of an answer that is known to be another.
+pub refusal-eq : (a b : Answer) (n : ℕ) → n ≡ refusalOf a → a ≡ b → n ≡ refusalOf b
+refusal-eq a b n e f = e ∙ ap refusalOf f

@@ -1,6 +1,6 @@
 -- What the exported functions answer: the answers of the library in numbers, by its own definitions.
 -- Assumes nothing.
-use mathlib.Core.Path.{_≡_, refl, sym, ap, _∙_}
+use mathlib.Core.Path.{_≡_, refl, sym, _∙_}
 use mathlib.Core.Bool.{Bool, not, cond}
 use Prim.Native.Nat.{ℕ}
 use borrow.Author.Tests.{eq-eqb, ne-eqb}
@@ -34,19 +34,17 @@ pub line-is : (g h : Header) (n : ℕ) → h ≡ g → n ≡ refusalOf (h .answe
     → _≡_ {A = Line} (record { refusal = n; superframes = h .superframes; overhead = h .overhead; frames = h .frames }) (lineOf g)
 line-is g h n e d = rw (d, e) refl
 
--- Where a sub-frame stands: its 7,424 bytes from f + 356,352×q + 7,424×s on; zeros in a refusal.
-unfoldable pub stretchOf : Answer → ℕ → ℕ → ℕ → Outcome
-stretchOf a f q s = cond (eqb (refusalOf a) 0) (outcome 0 7424 (startOf f q s)) (outcome (refusalOf a) 0 0)
+-- Where a sub-frame stands, n being the companion's number: its 7,424 bytes from f + 356,352×q + 7,424×s on; zeros in a refusal.
+unfoldable pub stretchOf : ℕ → ℕ → ℕ → ℕ → Outcome
+stretchOf n f q s = cond (eqb n 0) (outcome 0 7424 (startOf f q s)) (outcome n 0 0)
 
--- In the form that `search` can use: a is the library's answer, n its number.
-pub stretch-refused : (a b : Answer) (f q s n : ℕ) → b ≡ a → n ≡ refusalOf b → (n ≡ 0 → ⊥) → outcome n 0 0 ≡ stretchOf a f q s
+-- In the form that `search` can use: m is the number that was found.
+pub stretch-refused : (n f q s m : ℕ) → m ≡ n → (m ≡ 0 → ⊥) → outcome m 0 0 ≡ stretchOf n f q s
 unfolding stretchOf
-stretch-refused a b f q s n g e d =
-    let h : n ≡ refusalOf a = e ∙ ap refusalOf g in rw h (simp (ne-eqb (refusalOf a) 0 (λ z. d (h ∙ z))))
+stretch-refused n f q s m e d = rw e (simp (ne-eqb n 0 (λ z. d (e ∙ z))))
 
-pub stretch-done : (a b : Answer) (f q s n i : ℕ) → b ≡ a → n ≡ refusalOf b → n ≡ 0 → i ≡ startOf f q s → outcome 0 7424 i ≡ stretchOf a f q s
+pub stretch-done : (n f q s m i : ℕ) → m ≡ n → m ≡ 0 → i ≡ startOf f q s → outcome 0 7424 i ≡ stretchOf n f q s
 unfolding stretchOf
-stretch-done a b f q s n i g e z d =
-    let h : n ≡ refusalOf a = e ∙ ap refusalOf g in rw d (simp (eq-eqb (refusalOf a) 0 (sym h ∙ z)))
+stretch-done n f q s m i e z d = rw d (simp (eq-eqb n 0 (sym e ∙ z)))
 
 pub ruleset stretches = (stretch-refused, stretch-done)

@@ -9,7 +9,7 @@ ghost use Rattle.cells.specs.Calls.{bitsToCells, cellsToBits};
 ghost use Rattle.cells.specs.Profiles.{qam16};
 ghost use Rattle.frames.specs.Calls.{frameCall, unframeCall};
 ghost use Rattle.lineformat.specs.Opening.{headerOf};
-ghost use Rattle.lineformat.specs.Reading.{readAnswer};
+ghost use Rattle.lineformat.specs.Reading.{readRefusal};
 ghost use Rattle.lineformat.specs.Writing.{writeCall};
 ghost use Rattle.capi.specs.Outcomes.{outcomeOf, flag, lineOf, stretchOf};
 ghost use Rattle.capi.specs.Exports.{exported, ofRepaired, ofEncoded, ofReceived, ofInterleaved, ofApart, ofAfter, ofWritten};
@@ -163,10 +163,9 @@ pub extern "C" fn ofec_read_line(
     superframe: u32,
     subframe: u32,
 ) -> Outcome
-    ensures { λ r. ⌜ r ≡ stretchOf (readAnswer (now (file .entry)) superframes overhead frames superframe subframe) frames superframe subframe ⌝ }
+    ensures { λ r. ⌜ r ≡ stretchOf (readRefusal (now (file .entry)) superframes overhead frames superframe subframe) frames superframe subframe ⌝ }
 {
-    let a = linefile::read_answer_at(file, superframes, overhead, frames, superframe, subframe);
-    let n = calls::refusal_of(a);
+    let n = linefile::read_refusal_at(file, superframes, overhead, frames, superframe, subframe);
     if n != 0 {
         return Outcome {
             refusal: n,

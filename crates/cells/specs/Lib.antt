@@ -6,6 +6,7 @@ pub mod Cells
 pub mod CellLaws
 pub mod Calls
 pub mod CallLaws
+pub mod ResultLaws
 pub mod Qam16
 pub mod Qam16Inverse
 pub mod LevelLaws

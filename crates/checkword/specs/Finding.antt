@@ -9,12 +9,10 @@ use borrow.Author.Count.{below-none, below-more}
 use lib.ListN.{getD}
 use Rattle.bits.specs.Xor.{_⊕_}
 use Rattle.bits.specs.XorLaws.{⊕-zero, ⊕-self, ⊕-eq, ⊕-cancel, ⊕-comm, ⊕-assoc, ⊕-move}
-use Rattle.gf256.specs.Powers.{power}
 use Rattle.gf256.specs.Field.{cube}
 use Rattle.gf256.specs.Tables.{powers}
-use Rattle.gf256.specs.PowerLaws.{powers-at}
 use Rattle.bch.specs.Syndromes.{locator}
-use Rattle.bch.specs.SyndromeLaws.{locator-power, locator-last}
+use Rattle.bch.specs.SyndromeLaws.{locator-entry, locator-end}
 use Rattle.bch.specs.Distance.{locator-eq}
 use Rattle.bch.specs.Search.{Allowed}
 use Rattle.bch.specs.Locating.{Fits, Located, one-lost, two-lost, sound-lost}
@@ -25,17 +23,18 @@ use Rattle.bch.specs.declared.Syndromes.{Syndromes}
 -- ---- the place of an element
 
 pub place-zero : (x : ℕ) → x ≡ 0 → locator 255 ≡ x
-place-zero x e = locator-last ∙ sym e
+place-zero x e = sym (e ∙ locator-end 255 (omega arith))
 
-pub place-log : (x k : ℕ) → k < 255 → power k ≡ x → locator (254 - k) ≡ x
-place-log x k l e = let d : 254 - (254 - k) ≡ k = omega arith in locator-power (254 - k) (omega arith) ∙ ap power d ∙ e
+pub place-log : (x k : ℕ) → k < 255 → getD powers k 0 ≡ x → locator (254 - k) ≡ x
+place-log x k l e =
+    let d : 254 - (254 - k) ≡ k = omega arith in locator-entry (254 - k) (omega arith) ∙ ap (λ i. getD powers i 0) d ∙ e
 
 pub ruleset placing = (place-zero, place-log)
 
 -- ---- a lookup in a lent table
 
 pub locator-in : (k : ℕ) (t : List ℕ) → t ≡ powers → k < 255 → getD t (254 - k) 0 ≡ locator k
-locator-in k t e l = ap (λ s. getD s (254 - k) 0) e ∙ powers-at (254 - k) (omega arith) ∙ sym (locator-power k l)
+locator-in k t e l = ap (λ s. getD s (254 - k) 0) e ∙ sym (locator-entry k l)
 
 -- ---- the first pair
 

@@ -7,4 +7,5 @@ pub mod FrameLaws
 pub mod ByteLaws
 pub mod Calls
 pub mod CallLaws
+pub mod ResultLaws
 pub mod Qam16Flat

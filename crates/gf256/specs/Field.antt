@@ -121,6 +121,14 @@ pub ·-comm : (x y : ℕ) → x · y ≡ y · x
 pub ·-assoc : (x y z : ℕ) → (x · y) · z ≡ x · (y · z)
 ·-assoc x y z = ·-comm (x · y) z ∙ ·-left z x y ∙ ap (λ u. x · u) (·-comm z y)
 
+pub shiftA-· : (x y : ℕ) → shiftA x · y ≡ shiftA (x · y)
+shiftA-· x y = ·-comm (shiftA x) y ∙ ·-shiftA y x ∙ ap shiftA (·-comm y x)
+
+-- The cube of a times x is a^3 times that of x.
+pub cube-shiftA : (x : ℕ) → cube (shiftA x) ≡ shiftA (shiftA (shiftA (cube x)))
+unfolding cube
+cube-shiftA x = simp (·-shiftA, shiftA-·)
+
 -- ---- a product and its sums, sorted
 pub ·-zero : (x : ℕ) → x · 0 ≡ 0
 ·-zero x = ·-linear x .at-zero

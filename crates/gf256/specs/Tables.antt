@@ -1,9 +1,9 @@
--- The table of the powers of a, from 1 on, that of their exponents and that of cubes. Their rules stand in PowerLaws.antt.
+-- The table of the powers of a, that of their exponents and that of cubes. Their rules stand in PowerLaws.antt.
 -- Assumes nothing.
 use mathlib.Core.List.{List, [], _∷_}
 use Prim.Native.Nat.{ℕ}
 
--- a^0, a^1, .., a^254.
+-- "the 255 powers of a as a table from 1 on, each entry being the one before times a": a^0, a^1, .., a^254.
 unfoldable pub powers : List ℕ
 powers =
     1 ∷ 2 ∷ 4 ∷ 8 ∷ 16 ∷ 32 ∷ 64 ∷ 128 ∷ 29 ∷ 58 ∷ 116 ∷ 232 ∷ 205 ∷ 135 ∷ 19 ∷ 38 ∷ 76 ∷ 152 ∷ 45 ∷ 90 ∷ 180 ∷ 117 ∷ 234 ∷ 201 ∷ 143 ∷ 3 ∷ 6 ∷ 12 ∷

@@ -3,7 +3,7 @@ mod tables;
 
 ghost use mathlib.Core.Path.{_≡_};
 ghost use Prim.Native.Nat.{_<_};
-ghost use Rattle.gf256.specs.Powers.{power};
+ghost use lib.ListN.{getD};
 ghost use Rattle.gf256.specs.Field.{cube};
 ghost use Rattle.gf256.specs.Tables.{powers, cubed};
 
@@ -17,7 +17,7 @@ pub fn powers() -> [u8; 255]
 // The exponent of an element that is not 0.
 pub fn log(x: u8) -> usize
     requires { ⌜ 0 < x ⌝ }
-    ensures { λ r. ⌜ (r < 255) × (power r ≡ x) ⌝ }
+    ensures { λ r. ⌜ (r < 255) × (getD powers r 0 ≡ x) ⌝ }
 {
     tables::LOGS[x as usize] as usize
 }

@@ -11,5 +11,6 @@ pub mod Interleaving
 pub mod InterleavingLaws
 pub mod Calls
 pub mod CallLaws
+pub mod ResultLaws
 pub mod BlockBuffer
 pub mod BlockBufferLaws

@@ -2,12 +2,11 @@
 // and leaves the work to one with plain parameters.
 use crate::opening::open_header;
 use crate::opening::open_part;
-use crate::reading::read_answer_at;
 use crate::reading::read_at;
-use calls::Answer;
+use crate::reading::read_refusal_at;
 ghost use mathlib.Core.Path.{_≡_};
 ghost use Rattle.lineformat.specs.Opening.{openFile, openCall};
-ghost use Rattle.lineformat.specs.Reading.{readAnswerIn, readPartIn};
+ghost use Rattle.lineformat.specs.Reading.{readRefusalIn, readPartIn};
 
 pub struct LineFile<'a> {
     pub file: &'a [u8],
@@ -16,7 +15,7 @@ pub struct LineFile<'a> {
     pub frames: u32,
 }
 
-// Opens a lent file. `open_answer` is its companion.
+// Opens a lent file. `open_refusal` is its companion.
 pub fn open<'a>(file: &'a [u8]) -> LineFile<'a>
     ensures { λ r. ⌜ openFile (now (r .file)) (r .superframes) (r .overhead) (r .frames) ≡ openCall (now (file .entry)) ⌝ }
 {
@@ -43,11 +42,11 @@ pub fn read<'a>(line: LineFile<'a>, superframe: u32, subframe: u32) -> &'a [u8]
     )
 }
 
-// The reader's companion.
-pub fn read_answer<'a>(line: LineFile<'a>, superframe: u32, subframe: u32) -> Answer
-    ensures { λ r. ⌜ r ≡ readAnswerIn (openFile (now (line .entry .file)) (line .entry .superframes) (line .entry .overhead) (line .entry .frames)) superframe subframe ⌝ }
+// The reader's companion: the refusal number, or 0.
+pub fn read_refusal<'a>(line: LineFile<'a>, superframe: u32, subframe: u32) -> u32
+    ensures { λ r. ⌜ r ≡ readRefusalIn (openFile (now (line .entry .file)) (line .entry .superframes) (line .entry .overhead) (line .entry .frames)) superframe subframe ⌝ }
 {
-    read_answer_at(
+    read_refusal_at(
         line.file,
         line.superframes,
         line.overhead,

@@ -5,7 +5,7 @@ use lineformat::Header;
 use lineheader::rules::judge;
 use lineheader::rules::refused;
 ghost use mathlib.Core.Path.{_≡_};
-ghost use Rattle.lineformat.specs.Opening.{headerOf, openAnswer, openPart};
+ghost use Rattle.lineformat.specs.Opening.{headerOf, openRefusal, openPart};
 
 // What opening finds: the header's numbers, or the refusal with zeros.
 pub fn open_header(file: &[u8]) -> Header
@@ -17,19 +17,22 @@ pub fn open_header(file: &[u8]) -> Header
     judge(file, file.len())
 }
 
-// The opening's companion: done, or the refusal.
-pub fn open_answer(file: &[u8]) -> Answer
-    ensures { λ r. ⌜ r ≡ openAnswer (now (file .entry)) ⌝ }
+// The opening's companion: the refusal number, or 0.
+pub fn open_refusal(file: &[u8]) -> u32
+    ensures { λ r. ⌜ r ≡ openRefusal (now (file .entry)) ⌝ }
 {
     let h = open_header(file);
-    h.answer
+    let a = h.answer;
+    calls::refusal_of(a)
 }
 
 // The part that the open file holds: the whole file, or the empty part where opening is refused.
 pub fn open_part(file: &[u8]) -> &[u8]
     ensures { λ r. ⌜ now r ≡ openPart (now (file .entry)) ⌝ }
 {
-    match open_answer(file) {
+    let h = open_header(file);
+    let a = h.answer;
+    match a {
         Answer::Done(_) => file,
         Answer::Refused(_) => &file[..0],
     }

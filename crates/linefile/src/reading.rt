@@ -5,7 +5,7 @@ use calls::Refusal;
 ghost use mathlib.Core.Path.{_≡_};
 ghost use Prim.Native.Nat.{_+_, _≤_};
 ghost use lib.ListN.{length, take, drop};
-ghost use Rattle.lineformat.specs.Reading.{startOf, readAnswer, readPart};
+ghost use Rattle.lineformat.specs.Reading.{startOf, readAnswer, readRefusal, readPart};
 
 // Where a sub-frame's stretch of the file starts.
 pub fn start(frames: u32, superframe: u32, subframe: u32) -> usize
@@ -14,8 +14,8 @@ pub fn start(frames: u32, superframe: u32, subframe: u32) -> usize
     frames as usize + 356352 * superframe as usize + 7424 * subframe as usize
 }
 
-// The reader's companion: done, or the refusal.
-pub fn read_answer_at(
+// What the reader answers: done, or the refusal.
+pub fn read_answer(
     file: &[u8],
     superframes: u32,
     overhead: u32,
@@ -48,6 +48,20 @@ pub fn read_answer_at(
     Answer::Done(0)
 }
 
+// The reader's companion: the refusal number, or 0.
+pub fn read_refusal_at(
+    file: &[u8],
+    superframes: u32,
+    overhead: u32,
+    frames: u32,
+    superframe: u32,
+    subframe: u32,
+) -> u32
+    ensures { λ r. ⌜ r ≡ readRefusal (now (file .entry)) superframes overhead frames superframe subframe ⌝ }
+{
+    calls::refusal_of(read_answer(file, superframes, overhead, frames, superframe, subframe))
+}
+
 // A sub-frame's bytes from there on.
 fn stretch(file: &[u8], at: usize) -> &[u8]
     requires { ⌜ at + 7424 ≤ length (now file) ⌝ }
@@ -67,7 +81,7 @@ pub fn read_at(
 ) -> &[u8]
     ensures { λ r. ⌜ now r ≡ readPart (now (file .entry)) superframes overhead frames superframe subframe ⌝ }
 {
-    match read_answer_at(file, superframes, overhead, frames, superframe, subframe) {
+    match read_answer(file, superframes, overhead, frames, superframe, subframe) {
         Answer::Done(_) => stretch(file, start(frames, superframe, subframe)),
         Answer::Refused(_) => &file[..0],
     }

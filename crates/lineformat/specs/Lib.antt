@@ -7,4 +7,5 @@ pub mod Reading
 pub mod ReadingLaws
 pub mod Writing
 pub mod WritingLaws
+pub mod ResultLaws
 pub mod Example

@@ -5,6 +5,7 @@ use Prim.Native.Nat.{ℕ}
 use lib.ListN.{length}
 use Rattle.calls.specs.declared.Answer.{Answer}
 use Rattle.calls.specs.declared.Answer.the-variants.{Done, Refused}
+use Rattle.calls.specs.Answers.{refusalOf}
 use Rattle.lineformat.specs.declared.Header.{Header}
 use Rattle.lineformat.specs.Header.{judged}
 
@@ -12,9 +13,13 @@ use Rattle.lineformat.specs.Header.{judged}
 abbrev pub headerOf : List ℕ → Header
 headerOf file = judged file (length file)
 
--- "A companion call on the same arguments gives the refusal number, or 0."
+-- What opening answers.
 abbrev pub openAnswer : List ℕ → Answer
 openAnswer file = headerOf file .answer
+
+-- "a companion call on the same arguments gives the refusal number, or 0"
+abbrev pub openRefusal : List ℕ → ℕ
+openRefusal file = refusalOf (openAnswer file)
 
 -- A part of the file that a call hands on where it is done; the empty part where it is refused.
 abbrev pub partWhen : Answer → List ℕ → List ℕ

@@ -14,17 +14,19 @@ use Rattle.lineformat.specs.Header.{number}
 use Rattle.lineformat.specs.HeaderLaws.{RulesOf, Sound, judged-short, judged-broken, judged-good, judged-refused}
 use Rattle.lineformat.specs.Opening.{headerOf, openAnswer, partWhen, openPart, openFile, openWith, openCall}
 
-module _ (answer a : Answer) (part : List ℕ) where
-  pub part-done : (v : ℕ) → answer ≡ a → answer ≡ Done v → part ≡ partWhen a part
-  part-done v e q = ap (λ (x : Answer). partWhen x part) (sym q ∙ e)
+-- ---- as a worker meets it: it has the file's header
 
-  pub part-refused : (r : Refusal) → answer ≡ a → answer ≡ Refused r → [] ≡ partWhen a part
-  part-refused r e q = ap (λ (x : Answer). partWhen x part) (sym q ∙ e)
+module _ (file : List ℕ) (h : Header) (is : h ≡ headerOf file) where
+  pub answer-of : h .answer ≡ openAnswer file
+  answer-of = ap (λ (x : Header). x .answer) is
+
+  pub part-done : (v : ℕ) → h .answer ≡ Done v → file ≡ openPart file
+  part-done v e = ap (λ (x : Answer). partWhen x file) (sym e ∙ answer-of)
+
+  pub part-refused : (r : Refusal) → h .answer ≡ Refused r → [] ≡ openPart file
+  part-refused r e = ap (λ (x : Answer). partWhen x file) (sym e ∙ answer-of)
 
 pub ruleset parts = (part-done, part-refused)
-
-pub answer-of : (file : List ℕ) (h : Header) → h ≡ headerOf file → h .answer ≡ openAnswer file
-answer-of file h e = ap (λ (x : Header). x .answer) e
 
 -- ---- the call, case by case
 

@@ -9,6 +9,7 @@ use Rattle.bits.specs.Tests.{both}
 use Rattle.calls.specs.declared.Answer.{Answer}
 use Rattle.calls.specs.declared.Answer.the-variants.{Done, Refused}
 use Rattle.calls.specs.declared.Refusal.the-variants.{BadHeader, NoSuchFrame}
+use Rattle.calls.specs.Answers.{refusalOf}
 use Rattle.lineformat.specs.Header.{number}
 use Rattle.lineformat.specs.Opening.{openAnswer, partWhen, OpenFile}
 
@@ -26,10 +27,14 @@ abbrev pub andThen : Answer → Answer → Answer
 andThen (Done v) next = next
 andThen (Refused r) next = Refused r
 
--- What the reader's companion answers, in the order of 01's table: the bytes are refused as the opening of them would be, then
--- the numbers, then the frame.
+-- What the reader answers, in the order of 01's table: the bytes are refused as the opening of them would be, then the numbers, then
+-- the frame.
 unfoldable pub readAnswer : List ℕ → ℕ → ℕ → ℕ → ℕ → ℕ → Answer
 readAnswer file n o f q s = andThen (openAnswer file) (andThen (sameAnswer file n o f) (frameAnswer n q s))
+
+-- "a companion call on the same arguments gives the refusal number, or 0"
+abbrev pub readRefusal : List ℕ → ℕ → ℕ → ℕ → ℕ → ℕ → ℕ
+readRefusal file n o f q s = refusalOf (readAnswer file n o f q s)
 
 -- "7,424 bytes from f + 356,352×q + 7,424×s".
 abbrev pub startOf : ℕ → ℕ → ℕ → ℕ
@@ -43,6 +48,9 @@ readPart file n o f q s = partWhen (readAnswer file n o f q s) (take 7424 (drop 
 -- The same of an open file.
 abbrev pub readAnswerIn : OpenFile → ℕ → ℕ → Answer
 readAnswerIn d q s = readAnswer (d .file) (d .superframes) (d .overhead) (d .frames) q s
+
+abbrev pub readRefusalIn : OpenFile → ℕ → ℕ → ℕ
+readRefusalIn d q s = refusalOf (readAnswerIn d q s)
 
 abbrev pub readPartIn : OpenFile → ℕ → ℕ → List ℕ
 readPartIn d q s = readPart (d .file) (d .superframes) (d .overhead) (d .frames) q s

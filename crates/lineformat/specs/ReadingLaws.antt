@@ -25,7 +25,7 @@ use Rattle.lineformat.specs.Opening.{headerOf, openAnswer, partWhen, ope
 use Rattle.lineformat.specs.OpeningLaws.{open-done, open-refused, open-misfit}
 use Rattle.lineformat.specs.Reading.{sameAnswer, frameAnswer, readAnswer, readAnswerIn, startOf, readPart}
 
--- ---- the companion, case by case
+-- ---- the answer, case by case
 
 module _ (file : List ℕ) (n o f q s : ℕ) where
   pub read-closed : (r : Refusal) → openAnswer file ≡ Refused r → readAnswer file n o f q s ≡ Refused r

@@ -17,5 +17,6 @@ pub mod ReceivingLaws
 pub mod Calls
 pub mod CallLaws
 pub mod StateLaws
+pub mod ResultLaws
 pub mod Promise
 pub mod PromiseLaws

@@ -11,8 +11,7 @@ pub ofec-read-line-spec : {M : Type 1} → statement M
 ofec-read-line-spec =
     tie.close
     (tie.spec
-    (λ c κs. search kit)  -- read-answer-at-requires
-    (λ c κs. search kit)  -- refusal-of-requires
+    (λ c κs. search kit)  -- read-refusal-at-requires
     (λ c. search kit)  -- returns
     (λ c κs. search kit)  -- start-requires
     (λ c. search kit))  -- returns-2

@@ -1,12 +1,12 @@
 -- `checkword::syndrome::locator` meets its contract: the table of powers, and 0 for the last place.
 -- Assumes nothing.
 use borrow.Author.Needs.{needs}
-use Rattle.bch.specs.SyndromeLaws.{locators}
+use Rattle.bch.specs.SyndromeLaws.{locator-end}
 use Rattle.checkword.specs.Finding.{locator-in}
 use Rattle.checkword.proofs.syndrome.locator.Statement.{statement}
 use Rattle.checkword.proofs.syndrome.locator.Tie as tie
 
-ruleset kit = (needs, locators, locator-in)
+ruleset kit = (needs, locator-in, locator-end)
 
 pub locator-spec : {M : Type 1} → statement M
 locator-spec =

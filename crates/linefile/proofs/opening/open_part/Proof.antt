@@ -11,7 +11,7 @@ pub open-part-spec : {M : Type 1} → statement M
 open-part-spec =
     tie.close
     (tie.spec
-    (λ c κs. search kit)  -- open-answer-requires
+    (λ c κs. search kit)  -- open-header-requires
     (λ c. search kit)  -- enum-told
     (λ c. search kit)  -- enum-told-2
     (λ c. search kit)  -- slice-aggregate-result

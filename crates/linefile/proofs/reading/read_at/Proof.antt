@@ -11,7 +11,7 @@ pub read-at-spec : {M : Type 1} → statement M
 read-at-spec =
     tie.close
     (tie.spec
-    (λ c κs. search kit)  -- read-answer-at-requires
+    (λ c κs. search kit)  -- read-answer-requires
     (λ c. search kit)  -- enum-told
     (λ c κs. search kit)  -- start-requires
     (λ c κs. search kit)  -- stretch-requires

@@ -1,4 +1,4 @@
--- `linefile::read_answer` meets its contract: a walk of its MIR, by hand, after the kit's `reader::next`.
+-- `linefile::read_refusal` meets its contract: a walk of its MIR, by hand, after the kit's `reader::next`.
 -- Assumes nothing.
 use mathlib.Core.Path.{_≡_, refl}
 use Prim.Native.Nat.{ℕ, _<_, _^_}
@@ -23,13 +23,12 @@ use types.Run.{look, init, forget, stop, fld, from, load, of-opd, and-then, no-m
 use sound.WpLaws.{FmC, fmOf, WpFn-mono}
 use denote.RattleType.{RattleType, owns}
 use denote.Laws.{Is, shows}
-use denote.Plain.{uint-vals, uint-tells, uint-makes}
+use denote.Plain.{uint-vals, uint-tells, uint-makes, uint-lawful}
 use denote.Builtin.{u32, u8}
 use denote.Ref.{now}
 use denote.Signature.{namedLft}
 use denote.Slice.{sliceVal, ShrSlice}
 use denote.Steps.{owned, peeks, heard, nothing}
-use denote.Enum.Laws as EL
 use denote.Struct.Declared.{Declared}
 use denote.Struct.Laws as LL
 use denote.Struct.Rest.{all-own, ownAt, rest, own-open, own-out}
@@ -45,19 +44,16 @@ use denote.Triple.Clauses.{ensured, lasts}
 use Rattle.linefile.specs.declared.line_file.LineFile.{LineFile}
 use Rattle.linefile.proofs.line_file.LineFile as T
 use Rattle.linefile.proofs.line_file.LineFile.Laws as T′
-use Rattle.linefile.proofs.line_file.read_answer.Key.{name as #linefile·read-answer}
-use Rattle.linefile.proofs.line_file.read_answer as it
-use Rattle.linefile.proofs.line_file.read_answer.Statement as stated
-use Rattle.linefile.proofs.line_file.read_answer.Code as code
+use Rattle.linefile.proofs.line_file.read_refusal.Key.{name as #linefile·read-refusal}
+use Rattle.linefile.proofs.line_file.read_refusal as it
+use Rattle.linefile.proofs.line_file.read_refusal.Statement as stated
+use Rattle.linefile.proofs.line_file.read_refusal.Code as code
 use Rattle.lineformat.specs.Opening.{openFile}
-use Rattle.lineformat.specs.Reading.{readAnswerIn}
-use Rattle.calls.specs.declared.Answer.{Answer}
-use Rattle.calls.proofs.Answer as Sr
-use Rattle.calls.proofs.Answer.Laws as Sr′
-use Rattle.linefile.proofs.reading.read_answer_at as step
-use Rattle.linefile.proofs.reading.read_answer_at.Symbol as step-def
-use Rattle.linefile.proofs.reading.read_answer_at.Symbol.{name as #linefile·read-answer-at}
-use Rattle.linefile.proofs.reading.read_answer_at.Met as step-thm
+use Rattle.lineformat.specs.Reading.{readRefusalIn}
+use Rattle.linefile.proofs.reading.read_refusal_at as step
+use Rattle.linefile.proofs.reading.read_refusal_at.Symbol as step-def
+use Rattle.linefile.proofs.reading.read_refusal_at.Symbol.{name as #linefile·read-refusal-at}
+use Rattle.linefile.proofs.reading.read_refusal_at.Met as step-thm
 
 abbrev B : Lfts 1 → RattleType
 B κs = T.the-row (namedLft 1 0 tt κs)
@@ -76,8 +72,8 @@ module _ {M : Type 1} (𝓤 : URA M) (H : Heap 𝓤) (A : Atoms 𝓤) (W : Given
   abbrev v : Val
   v = sliceVal (d .file .ptr) (length (d .file .now))
 
-  abbrev found : Answer
-  found = readAnswerIn (openFile (now (d .file)) (d .superframes) (d .overhead) (d .frames)) superframe subframe
+  abbrev found : ℕ
+  found = readRefusalIn (openFile (now (d .file)) (d .superframes) (d .overhead) (d .frames)) superframe subframe
 
   abbrev at : Vals it.signature (κ, tt)
   at = (mach ∷ [], (vint w32 superframe ∷ [], (vint w32 subframe ∷ [], tt)))
@@ -89,7 +85,7 @@ module _ {M : Type 1} (𝓤 : URA M) (H : Heap 𝓤) (A : Atoms 𝓤) (W : Given
   Own = B (κ, tt) .own d (mach ∷ [])
 
   abbrev R : RattleType
-  R = Sr.the-row
+  R = u32
 
   abbrev D : Declared
   D = T.the-type (namedLft 1 0 tt (κ, tt))
@@ -117,16 +113,16 @@ module _ {M : Type 1} (𝓤 : URA M) (H : Heap 𝓤) (A : Atoms 𝓤) (W : Given
       move ! (1 ∷ []) $ drop ! $ nothing ! $ owned ! u32 (Is u32) (uint-makes 𝓤 H A W w32) subframe _ (refl, ok-subframe) $ fjoin ! $ owned ! u32 (Is u32) (uint-makes 𝓤 H A W w32) superframe _ (refl, ok-superframe) $ fjoin ! $ owned ! u32 (Is u32) (uint-makes 𝓤 H A W w32) (d .frames) _ (refl, ok-frames) $ fjoin ! $ owned ! u32 (Is u32) (uint-makes 𝓤 H A W w32) (d .overhead) _ (refl, ok-overhead) $ fjoin ! $ owned ! u32 (Is u32) (uint-makes 𝓤 H A W w32) (d .superframes) _ (refl, ok-superframes) $ fjoin ! $ move ! (1 ∷ 0 ∷ []) $ fjoin ! $
       move ! (2 ∷ 0 ∷ []) $ use2 W (raw (Callee 𝓤 H A mem run .pre to)) asked $ frame ! $ done !)
 
-  said : (r : Answer) → ent 𝓤 (ensured 𝓤 H A step.ended (step.clauses 𝓤 H A mem run) (κ, tt) (d .file, (d .superframes, (d .overhead, (d .frames, (superframe, (subframe, tt)))))) tt r) (fact 𝓤 (r ≡ found))
+  said : (r : ℕ) → ent 𝓤 (ensured 𝓤 H A step.ended (step.clauses 𝓤 H A mem run) (κ, tt) (d .file, (d .superframes, (d .overhead, (d .frames, (superframe, (subframe, tt)))))) tt r) (fact 𝓤 (r ≡ found))
   said r = exE 𝓤 _ (λ ws. snd∗ 𝓤 (sem 𝓤 H A (lasts step.ended (κ, tt) (d .file, (d .superframes, (d .overhead, (d .frames, (superframe, (subframe, tt)))))) ws)) (fact 𝓤 (r ≡ found)))
 
-  exits : (r : Answer) (u : Val) → r ≡ found → ent 𝓤 (⋆ 𝓤 H A (‵ (R .own r (u ∷ [])) ∷ (‵ (flft κ q) ⊛ ‵ ftrue) ∷ ‵ Own ∷ [])) (Post u)
+  exits : (r : ℕ) (u : Val) → r ≡ found → ent 𝓤 (⋆ 𝓤 H A (‵ (R .own r (u ∷ [])) ∷ (‵ (flft κ q) ⊛ ‵ ftrue) ∷ ‵ Own ∷ [])) (Post u)
   exits r u e =
       qed W (‵ (R .own r (u ∷ [])) ∷ (‵ (flft κ q) ⊛ ‵ ftrue) ∷ ‵ Own ∷ []) ∵
       suffices ! _ (ends-at 𝓤 H A it.ended stayed (it.clauses 𝓤 H A mem run) W (((κ, tt), (q, tt), tt, (d, (superframe, (subframe, tt))), at), tt) u r (tt, (tt, (tt, tt))) (tt, (tt, (tt, tt)))) $ says ! e $
       move ! (1 ∷ []) $ frame ! $ nothing ! $ owned ! u32 (Is u32) (uint-makes 𝓤 H A W w32) subframe _ (refl, ok-subframe) $ fjoin ! $ owned ! u32 (Is u32) (uint-makes 𝓤 H A W w32) superframe _ (refl, ok-superframe) $ fjoin ! $ move ! (2 ∷ 0 ∷ []) $ fjoin ! $ frame ! $ done !
 
-  module _ (C : Calls 𝓤 H) (Λ : Loops 𝓤 H) (fm : FmC 𝓤 H (W .laws) C) (known : Triple 𝓤 (C #linefile·read-answer-at) (Callee 𝓤 H A mem run)) where
+  module _ (C : Calls 𝓤 H) (Λ : Loops 𝓤 H) (fm : FmC 𝓤 H (W .laws) C) (known : Triple 𝓤 (C #linefile·read-refusal-at) (Callee 𝓤 H A mem run)) where
     walk : Holds (hasTy (T′.mir (named 0)) mach) × WT mach → ent 𝓤 (onEntry 𝓤 H A it.signature (κ, tt) (q, tt) (d, (superframe, (subframe, tt))) at) (WpFn 𝓤 H C Λ code.function (mach ∷ vint w32 superframe ∷ vint w32 subframe ∷ []) Post)
     walk wt =
         qed W (raw (onEntry 𝓤 H A it.signature (κ, tt) (q, tt) (d, (superframe, (subframe, tt))) at) ∷ []) ∵ enter ! C Λ code.function (mach ∷ vint w32 superframe ∷ vint w32 subframe ∷ []) _ $
@@ -137,29 +133,29 @@ module _ {M : Type 1} (𝓤 : URA M) (H : Heap 𝓤) (A : Atoms 𝓤) (W : Given
         assigns ! (of-opd ! (load ! (from ! (fld ! refl (stop !))) (look-in ! 12 (sub ! 3 refl (whole !))))) (from ! (stop !)) (init ! 0 refl (tt, wt .1 .1 .1 .1 .0)) $
         move ! (16 ∷ []) $ use1 W (raw (Callee 𝓤 H A mem run .pre to) ⊛ ‵ Own) (apart (wt .1 .1 .0 .fits) (wt .1 .1 .1 .0 .fits) (wt .1 .1 .1 .1 .0 .fits)) $ split ! $
         calls-at ! fm (Callee 𝓤 H A mem run) known to (and-then ! (load ! (from ! (stop !)) (look ! 8 refl)) (and-then ! (load ! (from ! (stop !)) (look ! 6 refl)) (and-then ! (load ! (from ! (stop !)) (look ! 4 refl)) (and-then ! (load ! (from ! (stop !)) (look ! 2 refl)) (and-then ! (load ! (from ! (stop !)) (look ! 12 refl)) (and-then ! (load ! (from ! (stop !)) (look ! 10 refl)) (no-more !))))))) (λ u.
-        use1 W (later (some (λ (r : Answer). ((‵ (flft κ q) ⊛ ‵ ftrue) ⊛ ‵ (R .own r (u ∷ []))) ⊛ raw (ensured 𝓤 H A step.ended (step.clauses 𝓤 H A mem run) (κ, tt) (d .file, (d .superframes, (d .overhead, (d .frames, (superframe, (subframe, tt)))))) tt r)))) (id⊢ 𝓤 _) $ await ! tt $ pick ! (λ r.
+        use1 W (later (some (λ (r : ℕ). ((‵ (flft κ q) ⊛ ‵ ftrue) ⊛ ‵ (R .own r (u ∷ []))) ⊛ raw (ensured 𝓤 H A step.ended (step.clauses 𝓤 H A mem run) (κ, tt) (d .file, (d .superframes, (d .overhead, (d .frames, (superframe, (subframe, tt)))))) tt r)))) (id⊢ 𝓤 _) $ await ! tt $ pick ! (λ r.
         split ! $ move ! (1 ∷ []) $ use1 W (raw (fact 𝓤 (r ≡ found))) (said r) $ heard ! (r ≡ found) (λ e. split ! $ move ! (1 ∷ []) $
         peeks ! R (Is R) (shows 𝓤 H A R) r (u ∷ []) (λ is.
-        land ! (from ! (stop !)) (init ! 17 refl (EL.lawful Sr.the-type Sr′.the-laws 𝓤 H A W tt .typed r _ is .0)) $
+        land ! (from ! (stop !)) (init ! 17 refl (uint-lawful 𝓤 H A W w32 .typed r _ is .0)) $
         returns ! (look ! 17 refl) $ forget ! 3 refl $ forget ! 5 refl $ forget ! 7 refl $ forget ! 9 refl $ forget ! 11 refl $ forget ! 13 refl $ forget ! 15 refl $ forget ! 17 refl $
         move ! (17 ∷ 18 ∷ []) $ free1 ! $ move ! (15 ∷ 16 ∷ []) $ free1 ! $ move ! (13 ∷ 14 ∷ []) $ free1 ! $ move ! (11 ∷ 12 ∷ []) $ free1 ! $ move ! (9 ∷ 10 ∷ []) $ free1 ! $ move ! (7 ∷ 8 ∷ []) $ free1 ! $ move ! (5 ∷ 6 ∷ []) $ free1 ! $ move ! (3 ∷ 4 ∷ []) $ free1 ! $ free0 ! $ by ! (exits r u e)))))))))))))
 
 module _ {M : Type 1} (𝓤 : URA M) (H : Heap 𝓤) (A : Atoms 𝓤) (W : Given 𝓤 H A) (mem : Memory → SProp 𝓤) (run : Routine → Fun 𝓤) where
-  it-walks : (C : Calls 𝓤 H) (Λ : Loops 𝓤 H) → FmC 𝓤 H (W .laws) C → Triple 𝓤 (C #linefile·read-answer-at) (Callee 𝓤 H A mem run)
+  it-walks : (C : Calls 𝓤 H) (Λ : Loops 𝓤 H) → FmC 𝓤 H (W .laws) C → Triple 𝓤 (C #linefile·read-refusal-at) (Callee 𝓤 H A mem run)
       → Walks 𝓤 H A it.ended stayed (WpFn 𝓤 H C Λ code.function) (it.clauses 𝓤 H A mem run)
   it-walks C Λ fm known = walked 𝓤 H A it.ended stayed (it.clauses 𝓤 H A mem run) (WpFn 𝓤 H C Λ code.function) (λ κs. (LL.vals (T.the-type (namedLft 1 0 tt κs)) (T′.the-laws (namedLft 1 0 tt κs)), (uint-vals w32, (uint-vals w32, tt)))) (λ κs. (LL.tells (T.the-type (namedLft 1 0 tt κs)) (T′.the-laws (namedLft 1 0 tt κs)), (uint-tells w32, (uint-tells w32, tt))))
       (λ κs qs bounds a g are. via 𝓤 _ (fst∗ 𝓤 _ (emp 𝓤)) (walk 𝓤 H A W mem run (κs .0) (qs .0) (a .0) (a .1 .0) (a .1 .1 .0) (are .1 .0 .1) (are .1 .1 .0 .1) C Λ fm known (LL.lawful (T.the-type (namedLft 1 0 tt κs)) (T′.the-laws (namedLft 1 0 tt κs)) 𝓤 H A W .typed (a .0) _ (are .0) .0)))
 
 it-meets : {M : Type 1} (𝓤 : URA M) (H : Heap 𝓤) (A : Atoms 𝓤) (W : Given 𝓤 H A) (mem : Memory → SProp 𝓤) (run : Routine → Fun 𝓤) (𝓣 : Tables 𝓤 H)
-    → Triple 𝓤 (𝓣 .C #linefile·read-answer-at) (Callee 𝓤 H A mem run)
+    → Triple 𝓤 (𝓣 .C #linefile·read-refusal-at) (Callee 𝓤 H A mem run)
     → Meets 𝓤 H A it.signature (WpFn 𝓤 H (𝓣 .C) (𝓣 .Λ) code.function) (it.spec 𝓤 H A mem run)
 it-meets 𝓤 H A W mem run 𝓣 known-step = walk-meets 𝓤 H A it.ended stayed W (goes-none 𝓤 H A W 1 B yes (λ κs x f. refl), (goes-none 𝓤 H A W 1 (λ _. u32) yes (λ κs x f. refl), (goes-none 𝓤 H A W 1 (λ _. u32) yes (λ κs x f. refl), tt))) (it.clauses 𝓤 H A mem run) (WpFn 𝓤 H (𝓣 .C) (𝓣 .Λ) code.function) (WpFn-mono 𝓤 H (W .laws) 𝓣 code.function)
     (it-walks 𝓤 H A W mem run (𝓣 .C) (𝓣 .Λ) (fmOf 𝓤 H (W .laws) 𝓣) known-step)
 
-pub read-answer-spec : {M : Type 1} → stated.statement M
+pub read-refusal-spec : {M : Type 1} → stated.statement M
 unfolding code.routine tablesOf
-read-answer-spec 𝓤 H 𝓜 𝓖 𝓡 =
+read-refusal-spec 𝓤 H 𝓜 𝓖 𝓡 =
     entered 𝓤 H (tripleOf 𝓤 H (𝓖 .A) it.signature (it.spec 𝓤 H (𝓖 .A) (𝓜 .mem) (𝓡 .run)))
-    (tables 𝓤 H 𝓜 𝓡 code.env .C) (tables 𝓤 H 𝓜 𝓡 code.env .Λ) #linefile·read-answer code.function (code.unfolded 𝓤 H 𝓜 𝓡)
+    (tables 𝓤 H 𝓜 𝓡 code.env .C) (tables 𝓤 H 𝓜 𝓡 code.env .Λ) #linefile·read-refusal code.function (code.unfolded 𝓤 H 𝓜 𝓡)
     (it-meets 𝓤 H (𝓖 .A) (givenOf 𝓤 H 𝓜 𝓖) (𝓜 .mem) (𝓡 .run) (tablesOf 𝓤 H 𝓜 (tables 𝓤 H 𝓜 𝓡 code.env))
-    (cited 𝓤 H (Callee 𝓤 H (𝓖 .A) (𝓜 .mem) (𝓡 .run)) 𝓜 𝓡 code.env #linefile·read-answer-at step-def.routine code.calls-linefile·reading·read-answer-at (step-thm.met 𝓤 H 𝓜 𝓖 𝓡)))
+    (cited 𝓤 H (Callee 𝓤 H (𝓖 .A) (𝓜 .mem) (𝓡 .run)) 𝓜 𝓡 code.env #linefile·read-refusal-at step-def.routine code.calls-linefile·reading·read-refusal-at (step-thm.met 𝓤 H 𝓜 𝓖 𝓡)))

@@ -1,14 +1,14 @@
--- `linefile::read_answer_at` meets its contract: the cases of the companion.
+-- `linefile::read_answer` meets its contract: the cases of the answer.
 -- Assumes nothing.
 use Rattle.lineformat.specs.ReadingLaws.{read-cases}
 use borrow.Author.Needs.{needs}
-use Rattle.linefile.proofs.reading.read_answer_at.Statement.{statement}
-use Rattle.linefile.proofs.reading.read_answer_at.Tie as tie
+use Rattle.linefile.proofs.reading.read_answer.Statement.{statement}
+use Rattle.linefile.proofs.reading.read_answer.Tie as tie
 
 ruleset kit = (needs, read-cases)
 
-pub read-answer-at-spec : {M : Type 1} → statement M
-read-answer-at-spec =
+pub read-answer-spec : {M : Type 1} → statement M
+read-answer-spec =
     tie.close
     (tie.spec
     (λ c κs. search kit)  -- open-header-requires
