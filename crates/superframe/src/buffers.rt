@@ -36,10 +36,10 @@ fn part_buffer(b: usize, cells: &[u8], pairs0: &mut [u8], pairs1: &mut [u8])
     requires { ⌜ (b < 8) × (length (now cells) ≡ 344064) × Legal (payloadRule qam16) (now cells) × (length (now pairs0) ≡ 10752) × (length (now pairs1) ≡ 10752) ⌝ }
     ensures { λ _. ⌜ (now (pairs0 .exit) ≡ bufferPairs qam16 (now (cells .entry)) 0 b) × (now (pairs1 .exit) ≡ bufferPairs qam16 (now (cells .entry)) 1 b) ⌝ }
 {
-    let f = b * 43008;
-    let g = f + 43008;
+    let a = b * 43008;
+    let e = a + 43008;
     let mut bits = [0u8; 21504];
-    symbols::cells_to_bits(&cells[f..g], &mut bits);
+    symbols::cells_to_bits(&cells[a..e], &mut bits);
     interleaver::deinterleave(&bits, pairs0, pairs1);
 }
 
@@ -49,8 +49,8 @@ pub fn part(cells: &[u8], pairs0: &mut [u8], pairs1: &mut [u8])
     ensures { λ _. ⌜ (now (pairs0 .exit) ≡ takenPairs qam16 (now (cells .entry)) 0) × (now (pairs1 .exit) ≡ takenPairs qam16 (now (cells .entry)) 1) ⌝ }
 {
     for b in 0..8 {
-        let a = b * 10752;
-        let e = a + 10752;
-        part_buffer(b, cells, &mut pairs0[a..e], &mut pairs1[a..e]);
+        let f = b * 10752;
+        let g = f + 10752;
+        part_buffer(b, cells, &mut pairs0[f..g], &mut pairs1[f..g]);
     }
 }

@@ -47,9 +47,9 @@ fn unframe_next(s: usize, line: &[u8], overhead: &[u8], cells: &mut [u8]) -> u32
     requires { ⌜ (s < 48) × (length (now line) ≡ 356352) × Legal (lineRule qam16) (now line) × (length (now overhead) ≡ 12288) × Legal overheadRule (now overhead) × (length (now cells) ≡ payloadCells s * 2) ⌝ }
     ensures { λ r. ⌜ (now (cells .exit) ≡ unframed s (partOf 7424 (now (line .entry)) s)) × (r ≡ differingIn (now (line .entry)) (now (overhead .entry)) s) ⌝ }
 {
-    let f = s * 7424;
-    let g = f + 7424;
-    calls::value_or(framing::unframe(s as u32, &line[f..g], overhead, cells), 0)
+    let a = s * 7424;
+    let e = a + 7424;
+    calls::value_or(framing::unframe(s as u32, &line[a..e], overhead, cells), 0)
 }
 
 // That of all of them, end to end, and the number of their overhead cells that differ.
@@ -59,9 +59,9 @@ pub fn unframe(line: &[u8], overhead: &[u8], cells: &mut [u8]) -> u32
 {
     let mut n = 0u32;
     for s in 0..48 {
-        let a = start(s);
-        let e = start(s + 1);
-        n = n + unframe_next(s, line, overhead, &mut cells[a..e]);
+        let f = start(s);
+        let g = start(s + 1);
+        n = n + unframe_next(s, line, overhead, &mut cells[f..g]);
     }
     n
 }

@@ -28,8 +28,8 @@ part-spec =
     Inv-loop
     μ-loop
     (λ c. search kit)  -- loop-holds
-    (λ c. search kit)  -- mul-a
-    (λ c. search kit)  -- add-e
+    (λ c. search kit)  -- mul-f
+    (λ c. search kit)  -- add-g
     (λ c. search kit)  -- sub-part-buffer
     (λ c. search kit)  -- part-part-buffer-start
     (λ c. search kit)  -- part-part-buffer-end

@@ -14,8 +14,8 @@ unfolding qam16 cellsPerBuffer
 part-buffer-spec =
     tie.close
     (tie.spec
-    (λ c. search kit)  -- mul-f
-    (λ c. search kit)  -- add-g
+    (λ c. search kit)  -- mul-a
+    (λ c. search kit)  -- add-e
     (λ c. search kit)  -- sub-cells-to-bits
     (λ c. search kit)  -- part-cells-to-bits-start
     (λ c. search kit)  -- part-cells-to-bits-end

@@ -14,11 +14,11 @@ use Rattle.superframe.proofs.pairs.encode.Tie as tie
 ruleset kit = (needs, by-blocks, streaming)
 
 abbrev Inv-loop : tie.InvT-loop
-Inv-loop payload first history₀ coded₀ k₀ history coded k =
-    Blocks (byteOfEach 512 (givenAt encoder history₀ first (partOf 444 payload) encoded)) 512 168 k coded × Streaming encoder history₀ first payload k history
+Inv-loop pairs payload first history₀ coded₀ k₀ history coded k =
+    Blocks (byteOfEach 512 (givenAt encoder history₀ first (partOf 444 payload) encoded)) 512 pairs k coded × Streaming encoder history₀ first payload k history
 
 abbrev μ-loop : tie.MeasureT-loop
-μ-loop payload first history₀ coded₀ k₀ history coded k = 168 - k
+μ-loop pairs payload first history₀ coded₀ k₀ history coded k = pairs - k
 
 pub encode-spec : {M : Type 1} → statement M
 encode-spec =

@@ -14,13 +14,13 @@ use Rattle.superframe.proofs.pairs.receive.Tie as tie
 ruleset kit = (needs, by-blocks, streaming)
 
 abbrev Inv-loop : tie.InvT-loop
-Inv-loop coded first history₀ payload₀ marks₀ k₀ history payload marks k =
-    Blocks (byteOfEach 444 (givenAt receiver history₀ first (partOf 512 coded) payloadOut)) 444 168 k payload
-    × Blocks (byteOfEach 32 (givenAt receiver history₀ first (partOf 512 coded) pairMarks)) 32 168 k marks
+Inv-loop pairs coded first history₀ payload₀ marks₀ k₀ history payload marks k =
+    Blocks (byteOfEach 444 (givenAt receiver history₀ first (partOf 512 coded) payloadOut)) 444 pairs k payload
+    × Blocks (byteOfEach 32 (givenAt receiver history₀ first (partOf 512 coded) pairMarks)) 32 pairs k marks
     × Streaming receiver history₀ first coded k history
 
 abbrev μ-loop : tie.MeasureT-loop
-μ-loop coded first history₀ payload₀ marks₀ k₀ history payload marks k = 168 - k
+μ-loop pairs coded first history₀ payload₀ marks₀ k₀ history payload marks k = pairs - k
 
 pub receive-spec : {M : Type 1} → statement M
 receive-spec =
@@ -31,8 +31,8 @@ receive-spec =
     (λ c. (search kit, search kit, search kit))  -- loop-holds
     (λ c. search kit)  -- mul-f
     (λ c. search kit)  -- add-g
-    (λ c. search kit)  -- mul-a
-    (λ c. search kit)  -- add-e
+    (λ c. search kit)  -- mul-i
+    (λ c. search kit)  -- add-j
     (λ c. search kit)  -- cast-receive-next
     (λ c. search kit)  -- add-receive-next
     (λ c. search kit)  -- sub-receive-next

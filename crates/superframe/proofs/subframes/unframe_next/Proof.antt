@@ -11,8 +11,8 @@ pub unframe-next-spec : {M : Type 1} → statement M
 unframe-next-spec =
     tie.close
     (tie.spec
-    (λ c. search kit)  -- mul-f
-    (λ c. search kit)  -- add-g
+    (λ c. search kit)  -- mul-a
+    (λ c. search kit)  -- add-e
     (λ c. search kit)  -- cast-unframe
     (λ c. search kit)  -- sub-unframe
     (λ c. search kit)  -- part-unframe-start
