@@ -13,6 +13,8 @@ pub mod Tests
 pub mod TestLaws
 pub mod Least
 pub mod LeastLaws
+pub mod Parts
+pub mod PartLaws
 pub mod Filling
 pub mod Folding
 pub mod Seeking

@@ -42,7 +42,7 @@ use Rattle.line.specs.LineLaws.{cut-bit, OnLine, buffer-lt, cell-lt, lin
 module _ (p : Profile) (n : ℕ) (h : Heard p n) where
   -- ---- the calls, and the cells that they give
 
-  unframing-is : (f : ℕ) → f < 48 * n
+  pub unframing-is : (f : ℕ) → f < 48 * n
       → unframing p n h f ≡ after (Done (differing (f % 48) (getD (h .frames) f []) (ownOverhead (f % 48) (h .overhead)))) (unframed (f % 48) (getD (h .frames) f []))
   unfolding unframing
   unframing-is f lf =
@@ -73,7 +73,7 @@ module _ (p : Profile) (n : ℕ) (h : Heard p n) where
       place : (a y : ℕ) → a + y ≡ x → x - a ≡ y
       place a y e = omega arith
 
-  cells-length : (b : ℕ) → length (bufferCells p n h b) ≡ cellsPerBuffer p * 2
+  pub cells-length : (b : ℕ) → length (bufferCells p n h b) ≡ cellsPerBuffer p * 2
   unfolding bufferCells
   cells-length b = length-tabulate (cellsPerBuffer p * 2) (λ i. heardByte p n h (b / p .bits) (b % p .bits * cellsPerBuffer p + i / 2) (i % 2))
 
@@ -98,7 +98,7 @@ module _ (p : Profile) (n : ℕ) (h : Heard p n) where
       let sub : (48 * q + subFrameOf x) % 48 ≡ subFrameOf x = omega (arith, at .sub-frame) in
       payload-cell-legal p (f % 48) (getD (h .frames) f []) (h .long f lf) (h .legal f lf) (cellOf x) k (at .inside) lk (rw sub (at .payload))
 
-  cells-legal : (b : ℕ) → b < buffersIn p n → Legal (payloadRule p) (bufferCells p n h b)
+  pub cells-legal : (b : ℕ) → b < buffersIn p n → Legal (payloadRule p) (bufferCells p n h b)
   unfolding payloadRule
   cells-legal b lb =
       record {
@@ -121,7 +121,7 @@ module _ (p : Profile) (n : ℕ) (h : Heard p n) where
       (part-done (demapping p n h b .written) (h .lent .pairs side0 b) (h .lent .pairs side1 b) _ _ (bits-length b lb)
       (h .lent .pairs-long side0 b) (h .lent .pairs-long side1 b) refl refl)
 
-  pairs-is : (e : Side) (b : ℕ) → b < buffersIn p n → pairsBack p n h e b ≡ apart (toBits p (bufferCells p n h b)) (encoder e)
+  pub pairs-is : (e : Side) (b : ℕ) → b < buffersIn p n → pairsBack p n h e b ≡ apart (toBits p (bufferCells p n h b)) (encoder e)
   unfolding pairsBack
   pairs-is side0 b lb = ap (λ (a : Apart). a .pairs0) (parting-is b lb) ∙ ap (λ (a : After). apart (a .written) 0) (demapping-is b lb)
   pairs-is side1 b lb = ap (λ (a : Apart). a .pairs1) (parting-is b lb) ∙ ap (λ (a : After). apart (a .written) 1) (demapping-is b lb)

@@ -11,6 +11,7 @@ use native.Mathlib.Decide.{decLt}
 use lib.ListN.{length, getD, length-map}
 use Rattle.bits.specs.Bits.{bit}
 use Rattle.bits.specs.CountLaws.{distance-ext}
+use Rattle.calls.specs.declared.Answer.the-variants.{Done}
 use Rattle.calls.specs.Answers.{valueOr, Accepted}
 use Rattle.calls.specs.Sequences.{At, Run, accepted}
 use Rattle.calls.specs.SequenceLaws.{At-lt, At-find, At-map, is-accepted, lent-at}
@@ -31,7 +32,7 @@ use Rattle.ofec.specs.SentLaws.{encoderHistory, encoder-right}
 use Rattle.ofec.specs.Receiving.{repairOf, mendedWord, newestPair, payloadOut, marks}
 use Rattle.ofec.specs.ReceivingLaws.{newest-bit, payload-bit, mark-is, repair-of, mended-word, word-outcome, receiverHistory, receiver-right}
 use Rattle.ofec.specs.WordLaws.{Outcome}
-use Rattle.ofec.specs.Calls.{Encoded, Received, State, state, start, Encoding, Receiving, encode, receive, Encodings, Receivings, payloads}
+use Rattle.ofec.specs.Calls.{Encoded, Received, afterReceive, State, state, start, Encoding, Receiving, encode, receive, Encodings, Receivings, payloads}
 use Rattle.ofec.specs.CallLaws.{encode-accepted, encode-keeps, receiveDone, receive-accepted, receive-keeps}
 use Rattle.ofec.specs.Promise.{Holds, Takes, wrongBits, Limit, markOf, NotLost, Lost, AsSent, Promise}
 
@@ -79,6 +80,35 @@ module _ (cs : List Encoding) where
   coded-sent run v sent P c a =
       let within : P < length (payloads cs) = payloads-lt a in
       subst (λ q. Holds v P q) (sym (coded-made run P c a)) (encoded-holds sent deep (encoder-right deep sent P (omega arith)) within)
+
+-- A list of receiving calls whose accepted ones take these pairs in order.
+module _ (cs : List Receiving) (pair : ℕ → List ℕ) (in-order : (P : ℕ) (c : Receiving) → At (accepted Receivings cs) P c → c .coded ≡ pair P) {t : State}
+    (run : Run Receivings start cs t) where
+  -- Call number i is lent the receiver's history before pair i,
+  receiver-lent : (i : ℕ) (c : Receiving) → At (accepted Receivings cs) i c → state (c .history) (c .pair) ≡ state (receiverHistory depth pair i) i
+  unfolding receiverHistory historyAfter
+  receiver-lent = lent-at Receivings receive-keeps (λ i. state (receiverHistory depth pair i) i) run refl next
+    where
+      next : (i : ℕ) (c : Receiving) → At (accepted Receivings cs) i c → state (c .history) (c .pair) ≡ state (receiverHistory depth pair i) i
+          → state (receive c .history) (valueOr (receive c .answer) (c .pair)) ≡ state (receiverHistory depth pair (suc i)) (suc i)
+      next i c a e =
+          let ok = receive-accepted c (is-accepted Receivings cs a) in
+          let eh : c .history ≡ receiverHistory depth pair i = ap (λ (s : State). s .history) e in
+          let ep : c .pair ≡ i = ap (λ (s : State). s .pair) e in
+          ap (λ (x : Received). state (x .history) (valueOr (x .answer) (c .pair))) (ok .1)
+          ∙ ap₂ state (ap₂ shift eh (ap₂ (λ h P. newestPair depth h P (c .coded)) eh ep ∙ ap (newestPair depth (receiverHistory depth pair i) i) (in-order i c a))) (omega arith)
+
+  -- and leaves what receiving pair i of it gives.
+  pub received-made : (P : ℕ) (c : Receiving) → At (accepted Receivings cs) P c
+      → receive c ≡ afterReceive (Done (P + 1)) (payloadOut depth (receiverHistory depth pair P) P (pair P)) (marks depth (receiverHistory depth pair P) P (pair P)) (receiverHistory depth pair (suc P))
+  unfolding receiverHistory historyAfter
+  received-made P c a =
+      let lent = receiver-lent P c a in
+      receive-accepted c (is-accepted Receivings cs a) .1
+      ∙ ap₂ (λ h Q. afterReceive (Done (Q + 1)) (payloadOut depth h Q (c .coded)) (marks depth h Q (c .coded)) (shift h (newestPair depth h Q (c .coded))))
+      (ap (λ (s : State). s .history) lent) (ap (λ (s : State). s .pair) lent)
+      ∙ ap (λ y. afterReceive (Done (P + 1)) (payloadOut depth (receiverHistory depth pair P) P y) (marks depth (receiverHistory depth pair P) P y)
+      (shift (receiverHistory depth pair P) (newestPair depth (receiverHistory depth pair P) P y))) (in-order P c a)
 
 -- ---- one word, checked, of a call on pair R div 2 with a history of n pairs that is right and a pair that was delivered
 
@@ -171,18 +201,8 @@ module _ (S W : RowBits) (ys : List (List ℕ)) (sent : Sent ys S) (cs : List Re
       subst (λ q. Holds W P q) (sym (pair-at (f .1))) (takes .takes P (f .0) (f .1))
 
   lent : (i : ℕ) (c : Receiving) → At (accepted Receivings cs) i c → state (c .history) (c .pair) ≡ state (history i) i
-  unfolding history receiverHistory historyAfter
-  lent = lent-at Receivings receive-keeps (λ i. state (history i) i) run refl next
-    where
-      next : (i : ℕ) (c : Receiving) → At (accepted Receivings cs) i c → state (c .history) (c .pair) ≡ state (history i) i
-          → state (receive c .history) (valueOr (receive c .answer) (c .pair)) ≡ state (history (suc i)) (suc i)
-      next i c a e =
-          let ok = receive-accepted c (is-accepted Receivings cs a) in
-          let eh : c .history ≡ history i = ap (λ (s : State). s .history) e in
-          let ep : c .pair ≡ i = ap (λ (s : State). s .pair) e in
-          let ey : c .coded ≡ pair i = sym (pair-at a) in
-          ap (λ (x : Received). state (x .history) (valueOr (x .answer) (c .pair))) (ok .1)
-          ∙ ap₂ state (ap₂ shift eh (ap₂ (λ h P. newestPair depth h P (c .coded)) eh ep ∙ ap (newestPair depth (history i) i) ey)) (omega arith)
+  unfolding history
+  lent = receiver-lent cs pair (λ P c a. sym (pair-at a)) run
 
   right-lent : (P : ℕ) (c : Receiving) → At (accepted Receivings cs) P c → Right depth S W P (c .history)
   unfolding history

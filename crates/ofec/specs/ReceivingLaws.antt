@@ -8,7 +8,7 @@ use native.Mathlib.Omega.{arith}
 use borrow.Author.Tests.{leb-false}
 use lib.ListN.{length, getD}
 use Rattle.bits.specs.Bits.{bit}
-use Rattle.bits.specs.ListLaws.{getD-tabulate}
+use Rattle.bits.specs.ListLaws.{length-tabulate, getD-tabulate}
 use Rattle.bch.specs.CodeWord.{Word, CodeWord}
 use Rattle.bch.specs.Repair.{repair, repaired, mark}
 use Rattle.bch.specs.RepairLaws.{FrontKept, repaired-bits, repaired-off}
@@ -17,7 +17,7 @@ use Rattle.bch.specs.declared.Repair.the-variants.{Sound}
 use Rattle.ofec.specs.Rows.{RowBits, frontCounts, checked, Checked, wordOf, payloadIndex}
 use Rattle.ofec.specs.RowLaws.{reach, word-lt, word-start, word-at, backPlace, backPlace-lt}
 use Rattle.ofec.specs.Pairs.{pairBit, rowOf, bitRowOf, ownIndex}
-use Rattle.ofec.specs.PairLaws.{codedPair-bit, length-codedPair, payloadOf-bit}
+use Rattle.ofec.specs.PairLaws.{codedPair-bit, length-codedPair, length-payloadOf, payloadOf-bit}
 use Rattle.ofec.specs.History.{heldBits}
 use Rattle.ofec.specs.HistoryLaws.{heldBits-lt, Right, RightPair, near, historyAfter, right-after}
 use Rattle.ofec.specs.WordLaws.{Outcome, outcome}
@@ -37,6 +37,14 @@ module _ (n : ℕ) (h : List ℕ) (P : ℕ) (p : List ℕ) where
   pub length-newest : length (newestPair n h P p) ≡ 512
   unfolding newestPair
   length-newest = length-codedPair (mendedWord n h P p)
+
+  pub length-payloadOut : length (payloadOut n h P p) ≡ 444
+  unfolding payloadOut
+  length-payloadOut = length-payloadOf (mendedWord n h P p)
+
+  pub length-marks : length (marks n h P p) ≡ 32
+  unfolding marks
+  length-marks = length-tabulate 32 (λ w. mark (repairOf n h P p w))
 
   -- A word's back half goes to the newest pair,
   pub newest-bit : (R C r c : ℕ) → C < 8 → r < 16 → c < 16 → pairBit (newestPair n h P p) (R % 2) C r c ≡ mendedWord n h P p (16 * (R % 2) + r) (backPlace C r c)

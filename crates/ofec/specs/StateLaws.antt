@@ -7,16 +7,14 @@ use Prim.Native.Nat.{ℕ, suc, _*_, _<_}
 use native.Mathlib.Omega.{arith}
 use lib.ListN.{length, getD}
 use Rattle.bits.specs.BitLaws.{pack-below}
-use Rattle.bits.specs.ListLaws.{length-tabulate}
 use Rattle.calls.specs.Answers.{refusalOf, valueOr, Accepted, TurnedBack}
 use Rattle.ofec.specs.Pairs.{laidOut, ownIndex, payloadOf}
-use Rattle.ofec.specs.PairLaws.{length-payloadOf}
 use Rattle.ofec.specs.History.{depth}
 use Rattle.ofec.specs.HistoryLaws.{length-fresh, length-shift}
 use Rattle.ofec.specs.Encoding.{encoded}
 use Rattle.ofec.specs.EncodingLaws.{length-encoded}
 use Rattle.ofec.specs.Receiving.{mendedWord, newestPair, payloadOut, marks}
-use Rattle.ofec.specs.ReceivingLaws.{length-newest}
+use Rattle.ofec.specs.ReceivingLaws.{length-newest, length-payloadOut, length-marks}
 use Rattle.ofec.specs.Calls.{State, start, Encoded, Encoding, encode, Encodings, Received, Receiving, receive, Receivings}
 use Rattle.ofec.specs.CallLaws.{encode-payload, encode-accepted, receive-coded, receive-accepted}
 
@@ -66,8 +64,7 @@ module _ (c : Receiving) (ok : Accepted (receive c .answer)) where
       }
 
   pub payload-long : length (receive c .payload) ≡ 444
-  unfolding payloadOut
-  payload-long = ap (λ (a : Received). length (a .payload)) (receive-accepted c ok .1) ∙ length-payloadOf (mendedWord depth (c .history) (c .pair) (c .coded))
+  payload-long = ap (λ (a : Received). length (a .payload)) (receive-accepted c ok .1) ∙ length-payloadOut depth (c .history) (c .pair) (c .coded)
 
   pub payload-bytes : (j : ℕ) → getD (receive c .payload) j 0 < 256
   unfolding payloadOut payloadOf
@@ -75,5 +72,4 @@ module _ (c : Receiving) (ok : Accepted (receive c .answer)) where
       rw (receive-accepted c ok .1) (pack-below 444 (laidOut 111 ownIndex (mendedWord depth (c .history) (c .pair) (c .coded))) j)
 
   pub marks-long : length (receive c .marks) ≡ 32
-  unfolding marks
-  marks-long = ap (λ (a : Received). length (a .marks)) (receive-accepted c ok .1) ∙ length-tabulate 32 _
+  marks-long = ap (λ (a : Received). length (a .marks)) (receive-accepted c ok .1) ∙ length-marks depth (c .history) (c .pair) (c .coded)

@@ -3,17 +3,18 @@
 -- Assumes nothing.
 use mathlib.Core.Path.{_≡_, sym, ap, ap₂, _∙_}
 use mathlib.Core.List.{List, []}
-use Prim.Native.Nat.{ℕ, zero, suc, _+_, _*_, _/_, _%_, _<_, _≤_}
+use Prim.Native.Nat.{ℕ, _+_, _*_, _/_, _%_, _<_, _≤_}
 use native.Mathlib.Nat.{suc-mul, mul-le-mul-right}
 use native.Mathlib.Omega.{arith}
 use lib.Dec.{lit<}
 use lib.ListN.{length, getD}
 use Rattle.bits.specs.DigitLaws.{digit-lt, digits, group-of, place-of, place-lt, group-lt}
-use Rattle.bits.specs.ListLaws.{is-tabulate, tabulate-ext}
+use Rattle.bits.specs.ListLaws.{is-tabulate}
+use Rattle.bits.specs.Parts.{part, partOf, endToEnd}
+use Rattle.bits.specs.PartLaws.{part-length, part-at, partOf-length, partOf-at, endToEnd-length, endToEnd-at, endToEnd-ext, part-endToEnd}
 use Rattle.calls.specs.Sequences.{accepted}
 use Rattle.calls.specs.SequenceLaws.{At-find}
-use Rattle.ofec.specs.History.{depth, fresh}
-use Rattle.ofec.specs.HistoryLaws.{historyAfter}
+use Rattle.ofec.specs.History.{depth}
 use Rattle.ofec.specs.Encoding.{encoded}
 use Rattle.ofec.specs.SentLaws.{encoderHistory}
 use Rattle.ofec.specs.Calls.{Encodings, payloads}
@@ -28,10 +29,10 @@ use Rattle.line.specs.Sides.{Side, side0, side1}
 use Rattle.line.specs.Outward as outward
 use Rattle.line.specs.Outward.{Outward, codedPairs, pairsOfBuffer, mapping, payloadByte, framePayload}
 use Rattle.line.specs.OutwardLaws.{coded-at, cells-are, frame-is}
-use Rattle.superframe.specs.Superframe.{part, byteOfEach, endToEnd, bufferCells, payload, subFrame, frames, superframe}
-use Rattle.superframe.specs.SuperframeLaws.{part-length, part-at, endToEnd-length, endToEnd-at, part-endToEnd, payload-within}
-use Rattle.superframe.specs.Stream.{historyAt, pairAt, pairPayload, codedOf, historyOver, historyBefore}
-use Rattle.superframe.specs.StreamLaws.{historyAt-ext, historyAt-more, from-fresh}
+use Rattle.superframe.specs.Superframe.{bufferCells, payload, subFrame, frames, superframe}
+use Rattle.superframe.specs.SuperframeLaws.{payload-within}
+use Rattle.superframe.specs.Stream.{encoder, givenAt, givenOver, codedOf, historyBefore}
+use Rattle.superframe.specs.StreamLaws.{given-in}
 
 -- The pairs of an encoder in a super-frame.
 abbrev pub pairs : Profile → ℕ
@@ -48,20 +49,20 @@ pair-lt p q k n lq lk = omega (arith, suc-mul q (p .bits), mul-le-mul-right (p .
 
 module _ (p : Profile) (o : Outward p) (q : ℕ) where
   -- Those of a buffer.
-  buffer-pairs : (e : Side) (b : ℕ) → b < p .bits → part (b * 10752) 10752 (pairsOf p o q e) ≡ pairsOfBuffer (codedPairs (o .calls e)) (buffersIn p q + b)
+  buffer-pairs : (e : Side) (b : ℕ) → b < p .bits → partOf 10752 (pairsOf p o q e) b ≡ pairsOfBuffer (codedPairs (o .calls e)) (buffersIn p q + b)
   unfolding pairsOf pairsOfBuffer buffersIn
   buffer-pairs e b l =
-      is-tabulate (part (b * 10752) 10752 (pairsOf p o q e)) 10752 (λ i. getD (getD coded (21 * (buffersIn p q + b) + i / 512) []) (i % 512) 0)
-      (part-length (b * 10752) 10752 (pairsOf p o q e) within)
-      (λ i li. part-at (b * 10752) 10752 (pairsOf p o q e) within i li
+      is-tabulate (partOf 10752 (pairsOf p o q e) b) 10752 (λ i. getD (getD coded (21 * (buffersIn p q + b) + i / 512) []) (i % 512) 0)
+      (partOf-length 10752 (p .bits) b l (pairsOf p o q e) whole)
+      (λ i li. partOf-at 10752 (p .bits) b l (pairsOf p o q e) whole i li
       ∙ endToEnd-at (pairs p) 512 (λ P. getD coded (pairs p * q + P) []) (b * 10752 + i) (omega arith)
       ∙ ap₂ (λ P j. getD (getD coded P []) j 0) (which i) (place i))
     where
       coded : List (List ℕ)
       coded = codedPairs (o .calls e)
 
-      within : b * 10752 + 10752 ≤ length (pairsOf p o q e)
-      within = omega (arith, endToEnd-length (pairs p) 512 (λ P. getD coded (pairs p * q + P) []))
+      whole : length (pairsOf p o q e) ≡ p .bits * 10752
+      whole = omega (arith, endToEnd-length (pairs p) 512 (λ P. getD coded (pairs p * q + P) []))
 
       which : (i : ℕ) → pairs p * q + (b * 10752 + i) / 512 ≡ 21 * (buffersIn p q + b) + i / 512
       which i = omega arith
@@ -116,7 +117,7 @@ module _ (p : Profile) (o : Outward p) (q : ℕ) where
 
   -- Sub-frame s of the super-frame is frame 48×q + s of the line.
   pub line-of-superframes : (s : ℕ) → q < o .superframes → s < 48
-      → part (s * 7424) 7424 (superframe p (pairsOf p o q side0) (pairsOf p o q side1) (o .overhead)) ≡ getD (outward.frames p o) (48 * q + s) []
+      → partOf 7424 (superframe p (pairsOf p o q side0) (pairsOf p o q side1) (o .overhead)) s ≡ getD (outward.frames p o) (48 * q + s) []
   unfolding superframe frames subFrame cells
   line-of-superframes s lq l =
       part-endToEnd 48 7424 (subFrame cells (o .overhead)) s (lit< tt) l (framed-length s (part (payloadStart s * 2) (payloadCells s * 2) cells) (ownOverhead s (o .overhead)))
@@ -133,50 +134,27 @@ module _ (p : Profile) (o : Outward p) (q : ℕ) where
 
 -- S gives the payload of each super-frame of each encoder, its pairs of 444 bytes.
 module _ (p : Profile) (o : Outward p) (S : Side → ℕ → List ℕ)
-    (given : (e : Side) (q k : ℕ) → q < o .superframes → k < pairs p → getD (payloads (o .calls e)) (pairs p * q + k) [] ≡ pairPayload (S e q) k) where
-  -- The history before each pair is the encoder's,
-  history-in : (e : Side) (q k : ℕ) → q < o .superframes → k ≤ pairs p → historyBefore (pairs p) (S e) q ≡ encoderHistory depth (payloads (o .calls e)) (pairs p * q)
-      → historyAt (historyBefore (pairs p) (S e) q) (pairs p * q) (pairPayload (S e q)) k ≡ encoderHistory depth (payloads (o .calls e)) (pairs p * q + k)
-  history-in e q k lq lk is =
-      historyAt-ext (historyBefore (pairs p) (S e) q) (pairs p * q) (pairPayload (S e q)) (λ i. ys (pairs p * q + i)) k (λ i l. sym (given e q i lq (omega arith)))
-      ∙ ap (λ x. historyAt x (pairs p * q) (λ i. ys (pairs p * q + i)) k) (is ∙ sym (from-fresh (payloads (o .calls e)) (pairs p * q)))
-      ∙ ap (λ x. historyAt (historyAt (fresh depth) 0 ys (pairs p * q)) x (λ i. ys (pairs p * q + i)) k) number
-      ∙ sym (historyAt-more (fresh depth) 0 ys (pairs p * q) k)
-      ∙ from-fresh (payloads (o .calls e)) (pairs p * q + k)
-    where
-      ys : ℕ → List ℕ
-      ys i = getD (payloads (o .calls e)) i []
-
-      number : pairs p * q ≡ 0 + pairs p * q
-      number = omega arith
-
-  history-before : (e : Side) (q : ℕ) → q ≤ o .superframes → historyBefore (pairs p) (S e) q ≡ encoderHistory depth (payloads (o .calls e)) (pairs p * q)
-  unfolding historyBefore historyOver encoderHistory historyAfter
-  history-before e zero l = let n : 0 ≡ pairs p * 0 = omega arith in ap (encoderHistory depth (payloads (o .calls e))) n
-  history-before e (suc q) l =
-      let n : pairs p * q + pairs p ≡ pairs p * suc q = omega arith in
-      history-in e q (pairs p) (omega arith) (omega arith) (history-before e q (omega arith)) ∙ ap (encoderHistory depth (payloads (o .calls e))) n
-
-  -- so each coded pair is that of the accepted call,
+    (given : (e : Side) (q k : ℕ) → q < o .superframes → k < pairs p → getD (payloads (o .calls e)) (pairs p * q + k) [] ≡ partOf 444 (S e q) k) where
+  -- Each coded pair is that of the accepted call,
   pair-is : (e : Side) (q k : ℕ) → q < o .superframes → k < pairs p
-      → pairAt (historyBefore (pairs p) (S e) q) (pairs p * q) (pairPayload (S e q)) k ≡ getD (codedPairs (o .calls e)) (pairs p * q + k) []
-  unfolding pairAt
+      → givenAt encoder (historyBefore encoder (pairs p) (S e) q) (pairs p * q) (partOf 444 (S e q)) (encoded depth) k ≡ getD (codedPairs (o .calls e)) (pairs p * q + k) []
+  unfolding encoderHistory
   pair-is e q k lq lk =
       let f = At-find (accepted Encodings (o .calls e)) (pairs p * q + k) (omega (arith, o .filled e, pair-lt p q k (o .superframes) lq lk)) in
-      ap₂ (λ x y. encoded depth x (pairs p * q + k) y) (history-in e q k lq (omega arith) (history-before e q (omega arith))) (sym (given e q k lq lk))
+      given-in encoder (pairs p) (o .superframes) (λ i. getD (payloads (o .calls e)) i []) (S e) (λ r i lr li. sym (given e r i lr li)) (encoded depth) q k lq lk
       ∙ sym (coded-made (o .calls e) (o .runs e) (pairs p * q + k) (f .0) (f .1))
       ∙ sym (coded-at (o .calls e) (f .1))
 
-  pairs-are : (e : Side) (q : ℕ) → q < o .superframes → codedOf (pairs p) (historyBefore (pairs p) (S e) q) (pairs p * q) (S e q) ≡ pairsOf p o q e
-  unfolding codedOf pairsOf endToEnd
+  pairs-are : (e : Side) (q : ℕ) → q < o .superframes → codedOf (pairs p) (historyBefore encoder (pairs p) (S e) q) (pairs p * q) (S e q) ≡ pairsOf p o q e
+  unfolding givenOver pairsOf
   pairs-are e q lq =
-      tabulate-ext (pairs p * 512) (byteOfEach 512 (pairAt (historyBefore (pairs p) (S e) q) (pairs p * q) (pairPayload (S e q)))) (byteOfEach 512 (λ P. getD (codedPairs (o .calls e)) (pairs p * q + P) []))
-      (λ y l. ap (λ x. getD x (y % 512) 0) (pair-is e q (y / 512) lq (omega arith)))
+      endToEnd-ext (pairs p) 512 (givenAt encoder (historyBefore encoder (pairs p) (S e) q) (pairs p * q) (partOf 444 (S e q)) (encoded depth))
+      (λ P. getD (codedPairs (o .calls e)) (pairs p * q + P) []) (lit< tt) (λ k lk. pair-is e q k lq lk)
 
   -- and the super-frame made of these payloads is the line's.
   pub line-of-payloads : (q s : ℕ) → q < o .superframes → s < 48
-      → part (s * 7424) 7424
-      (superframe p (codedOf (pairs p) (historyBefore (pairs p) (S side0) q) (pairs p * q) (S side0 q)) (codedOf (pairs p) (historyBefore (pairs p) (S side1) q) (pairs p * q) (S side1 q)) (o .overhead))
+      → partOf 7424
+      (superframe p (codedOf (pairs p) (historyBefore encoder (pairs p) (S side0) q) (pairs p * q) (S side0 q)) (codedOf (pairs p) (historyBefore encoder (pairs p) (S side1) q) (pairs p * q) (S side1 q)) (o .overhead)) s
       ≡ getD (outward.frames p o) (48 * q + s) []
   line-of-payloads q s lq ls =
-      ap₂ (λ x y. part (s * 7424) 7424 (superframe p x y (o .overhead))) (pairs-are side0 q lq) (pairs-are side1 q lq) ∙ line-of-superframes p o q s lq ls
+      ap₂ (λ x y. partOf 7424 (superframe p x y (o .overhead)) s) (pairs-are side0 q lq) (pairs-are side1 q lq) ∙ line-of-superframes p o q s lq ls

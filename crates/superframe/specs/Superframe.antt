@@ -2,28 +2,16 @@
 -- sub-frame to sub-frame". The calls of interleaving, cells and framing, one after the other, over its buffers and 48 sub-frames.
 -- Assumes nothing.
 use mathlib.Core.List.{List}
-use Prim.Native.Nat.{ℕ, _*_, _/_, _%_}
-use lib.ListN.{getD, take, drop}
-use Rattle.bits.specs.Lists.{tabulate}
+use Prim.Native.Nat.{ℕ, _*_}
+use Rattle.bits.specs.Parts.{part, partOf, endToEnd}
 use Rattle.interleaving.specs.Interleaving.{interleaved}
 use Rattle.cells.specs.Profile.{Profile, cellsPerBuffer}
 use Rattle.cells.specs.Cells.{toCells}
 use Rattle.frames.specs.Frames.{payloadCells, payloadStart, ownOverhead, framed}
 
--- n bytes of a buffer, from byte a on.
-abbrev pub part : ℕ → ℕ → List ℕ → List ℕ
-part a n s = take n (drop a s)
-
--- m buffers of w bytes end to end: f 0, f 1, .., f (m - 1).
-abbrev pub byteOfEach : ℕ → (ℕ → List ℕ) → ℕ → ℕ
-byteOfEach w f y = getD (f (y / w)) (y % w) 0
-
-unfoldable pub endToEnd : ℕ → ℕ → (ℕ → List ℕ) → List ℕ
-endToEnd m w f = tabulate (m * w) (byteOfEach w f)
-
 -- Buffer b of the super-frame is made of 21 pairs of either encoder.
 unfoldable pub bufferCells : Profile → List ℕ → List ℕ → ℕ → List ℕ
-bufferCells p pairs0 pairs1 b = toCells p (interleaved (part (b * 10752) 10752 pairs0) (part (b * 10752) 10752 pairs1))
+bufferCells p pairs0 pairs1 b = toCells p (interleaved (partOf 10752 pairs0 b) (partOf 10752 pairs1 b))
 
 -- The payload of the super-frame.
 unfoldable pub payload : Profile → List ℕ → List ℕ → List ℕ

@@ -1,19 +1,18 @@
 -- Laws of a super-frame: each buffer and each sub-frame is its block of the whole, and what the calls give for it.
 -- Assumes nothing.
-use mathlib.Core.Path.{_≡_, refl, sym, ap, ap₂, _∙_}
+use mathlib.Core.Path.{_≡_, refl, ap, ap₂, _∙_}
 use mathlib.Core.List.{List}
 use mathlib.Core.Logic.{_≢_}
 use Prim.Native.Nat.{ℕ, zero, suc, _+_, _-_, _*_, _/_, _%_, _<_, _≤_}
-use native.Mathlib.Nat.{add-zero, suc-mul, mul-le-mul-right, div-eq-of-lt, mod-eq-of-lt, mul-add-div-right, mul-add-mod-self-right}
 use native.Mathlib.Omega.{arith}
 use native.Mathlib.Numerals.{add-one}
 use lib.Dec.{lit<}
-use lib.ListN.{length, getD, drop, length-drop}
-use lib.Seq.{ext-getD, length-take-le, getD-take, getD-drop}
+use lib.ListN.{length}
 use Rattle.bits.specs.DigitLaws.{digit-lt}
 use Rattle.bits.specs.Count.{count}
 use Rattle.bits.specs.Lists.{tabulate}
-use Rattle.bits.specs.ListLaws.{length-tabulate, getD-tabulate, is-tabulate}
+use Rattle.bits.specs.Parts.{part, partOf, byteOfEach, endToEnd}
+use Rattle.bits.specs.PartLaws.{part-length, part-at, part-long, endToEnd-length, endToEnd-at, each-block}
 use Rattle.calls.specs.declared.Answer.{Answer}
 use Rattle.interleaving.specs.Interleaving.{interleaved}
 use Rattle.interleaving.specs.InterleavingLaws.{length-interleaved}
@@ -30,60 +29,13 @@ use Rattle.frames.specs.FrameLaws.{framed-length, own-legal}
 use Rattle.frames.specs.LayoutLaws.{payloadStart-closed}
 use Rattle.frames.specs.Calls.{frameCall}
 use Rattle.frames.specs.CallLaws.{frame-accepts}
-use Rattle.superframe.specs.Superframe.{part, byteOfEach, endToEnd, bufferCells, payload, subFrame, frames, superframe}
+use Rattle.superframe.specs.Superframe.{bufferCells, payload, subFrame, frames, superframe}
 
--- ---- parts of a buffer
-
-module _ (a n : ℕ) (s : List ℕ) (l : a + n ≤ length s) where
-  pub part-length : length (part a n s) ≡ n
-  part-length = length-take-le n (drop a s) (simp length-drop (omega arith))
-
-  pub part-at : (i : ℕ) → i < n → getD (part a n s) i 0 ≡ getD s (a + i) 0
-  part-at i li = getD-take n (drop a s) i 0 li ∙ getD-drop a s i 0
-
-  part-legal : (p : Profile) → Legal (payloadRule p) s → Legal (payloadRule p) (part a n s)
-  unfolding payloadRule
-  part-legal p h = record { legal = λ k lk. let i : k < n = omega (arith, part-length) in ap (p .illegal) (part-at k i) ∙ h .legal (a + k) (omega arith) }
-
--- The part from a to e, as code lends it.
-pub part-long : (a e n : ℕ) (s : List ℕ) → e ≡ a + n → e ≤ length s → length (part a (e - a) s) ≡ n
-part-long a e n s ee l = let size : e - a ≡ n = omega arith in part-length a (e - a) s (omega arith) ∙ size
-
--- ---- end to end
-
-pub endToEnd-length : (m w : ℕ) (f : ℕ → List ℕ) → length (endToEnd m w f) ≡ m * w
-unfolding endToEnd
-endToEnd-length m w f = length-tabulate (m * w) (byteOfEach w f)
-
-pub endToEnd-at : (m w : ℕ) (f : ℕ → List ℕ) (y : ℕ) → y < m * w → getD (endToEnd m w f) y 0 ≡ byteOfEach w f y
-unfolding endToEnd
-endToEnd-at m w f y l = getD-tabulate (m * w) (byteOfEach w f) y l
-
--- Byte i of block k.
-each-at : (f : ℕ → List ℕ) (w k i : ℕ) → 0 < w → i < w → byteOfEach w f (k * w + i) ≡ getD (f k) i 0
-each-at f w k i pos l =
-    ap₂ (λ b j. getD (f b) j 0) (mul-add-div-right pos k i ∙ ap (λ u. k + u) (div-eq-of-lt l) ∙ add-zero k) (mul-add-mod-self-right k w i ∙ mod-eq-of-lt l)
-
--- A buffer that is f k is block k of the whole,
-pub each-block : (f : ℕ → List ℕ) (w k : ℕ) (ys : List ℕ) → 0 < w → length ys ≡ w → ys ≡ f k → ys ≡ tabulate w (λ i. byteOfEach w f (k * w + i))
-each-block f w k ys pos long e =
-    is-tabulate ys w (λ i. byteOfEach w f (k * w + i)) long (λ i l. ap (λ s. getD s i 0) e ∙ sym (each-at f w k i pos l))
-
--- and that block is it.
-pub part-endToEnd : (m w : ℕ) (f : ℕ → List ℕ) (k : ℕ) → 0 < w → k < m → length (f k) ≡ w → part (k * w) w (endToEnd m w f) ≡ f k
-part-endToEnd m w f k pos l long =
-    ext-getD 0 (part (k * w) w (endToEnd m w f)) (f k) (size ∙ sym long)
-    (λ i li. let h : i < w = omega (arith, size) in
-    part-at (k * w) w (endToEnd m w f) within i h ∙ endToEnd-at m w f (k * w + i) (omega (arith, inside)) ∙ each-at f w k i pos h)
-  where
-    inside : k * w + w ≤ m * w
-    inside = omega (arith, suc-mul k w, mul-le-mul-right {m = suc k} {n = m} w l)
-
-    within : k * w + w ≤ length (endToEnd m w f)
-    within = omega (arith, inside, endToEnd-length m w f)
-
-    size : length (part (k * w) w (endToEnd m w f)) ≡ w
-    size = part-length (k * w) w (endToEnd m w f) within
+-- A part of legal payload is legal.
+pub part-legal : (p : Profile) (a n : ℕ) (s : List ℕ) → a + n ≤ length s → Legal (payloadRule p) s → Legal (payloadRule p) (part a n s)
+unfolding payloadRule
+part-legal p a n s l h =
+    record { legal = λ k lk. let i : k < n = omega (arith, part-length a n s l) in ap (p .illegal) (part-at a n s l k i) ∙ h .legal (a + k) (omega arith) }
 
 -- ---- the cells of a buffer
 
@@ -96,7 +48,7 @@ module _ (n b a e : ℕ) (ea : a ≡ b * 10752) (ee : e ≡ a + 10752) (lb : b <
   pairs-long s l = part-long a e 10752 s ee (omega arith)
 
   pub joined-bits : (r : Answer) (s bits : List ℕ) → joined r s ≡ interleave (part a (e - a) pairs0) (part a (e - a) pairs1) bits → length bits ≡ 21504
-      → s ≡ interleaved (part (b * 10752) 10752 pairs0) (part (b * 10752) 10752 pairs1)
+      → s ≡ interleaved (partOf 10752 pairs0 b) (partOf 10752 pairs1 b)
   joined-bits r s bits j l =
       ap (λ (x : Interleaved). x .bits) j
       ∙ interleave-bits (part a (e - a) pairs0) (part a (e - a) pairs1) bits (pairs-long pairs0 l0) (pairs-long pairs1 l1) l
@@ -104,19 +56,19 @@ module _ (n b a e : ℕ) (ea : a ≡ b * 10752) (ee : e ≡ a + 10752) (lb : b <
 
 module _ (p : Profile) where
   pub mapped-cells : (b : ℕ) (pairs0 pairs1 : List ℕ) (r : Answer) (d s cells : List ℕ) → after r d ≡ bitsToCells p s cells
-      → s ≡ interleaved (part (b * 10752) 10752 pairs0) (part (b * 10752) 10752 pairs1) → length cells ≡ cellsPerBuffer p * 2 → d ≡ bufferCells p pairs0 pairs1 b
+      → s ≡ interleaved (partOf 10752 pairs0 b) (partOf 10752 pairs1 b) → length cells ≡ cellsPerBuffer p * 2 → d ≡ bufferCells p pairs0 pairs1 b
   unfolding bufferCells
   mapped-cells b pairs0 pairs1 r d s cells e f l =
       ap (λ (x : After). x .written) e
       ∙ ap (λ u. bitsToCells p u cells .written) f
-      ∙ ap (λ (x : After). x .written) (map-accepts p _ cells (length-interleaved (part (b * 10752) 10752 pairs0) (part (b * 10752) 10752 pairs1)) l)
+      ∙ ap (λ (x : After). x .written) (map-accepts p _ cells (length-interleaved (partOf 10752 pairs0 b) (partOf 10752 pairs1 b)) l)
 
   size-pos : 0 < cellsPerBuffer p * 2
   size-pos = omega (arith, cells-pos p)
 
   buffer-long : (pairs0 pairs1 : List ℕ) (b : ℕ) → length (bufferCells p pairs0 pairs1 b) ≡ cellsPerBuffer p * 2
   unfolding bufferCells
-  buffer-long pairs0 pairs1 b = buffer-cells p _ (length-interleaved (part (b * 10752) 10752 pairs0) (part (b * 10752) 10752 pairs1))
+  buffer-long pairs0 pairs1 b = buffer-cells p _ (length-interleaved (partOf 10752 pairs0 b) (partOf 10752 pairs1 b))
 
   pub buffer-block : (pairs0 pairs1 : List ℕ) (b : ℕ) (ys : List ℕ) → ys ≡ bufferCells p pairs0 pairs1 b
       → ys ≡ tabulate (cellsPerBuffer p * 2) (λ i. byteOfEach (cellsPerBuffer p * 2) (bufferCells p pairs0 pairs1) (b * (cellsPerBuffer p * 2) + i))
@@ -182,7 +134,7 @@ module _ (s a e : ℕ) (ls : s < 48) (ea : a ≡ payloadStart s * 2) (ee : e ≡
       ∙ ap₂ (λ x y. frameCall p s (part x y cells) overhead lent .written) ea own-part
       ∙ ap (λ (x : After). x .written)
       (frame-accepts p s overhead lent (part (payloadStart s * 2) (payloadCells s * 2) cells) (omega arith) lo lf (part-length (payloadStart s * 2) (payloadCells s * 2) cells fits)
-      (own-legal s overhead (omega arith) lo ho) (part-legal (payloadStart s * 2) (payloadCells s * 2) cells fits p hc))
+      (own-legal s overhead (omega arith) lo ho) (part-legal p (payloadStart s * 2) (payloadCells s * 2) cells fits hc))
     where
       fits : payloadStart s * 2 + payloadCells s * 2 ≤ length cells
       fits = omega (arith, next-start s, payload-within s ls)

@@ -1,7 +1,7 @@
 -- `loopback::line::frame_next` is safe and ends.
 -- Assumes nothing.
 use borrow.Author.Needs.{needs}
-use Rattle.superframe.specs.SuperframeLaws.{part-long}
+use Rattle.bits.specs.PartLaws.{part-long}
 use Rattle.loopback.proofs.line.frame_next.Statement.{statement}
 use Rattle.loopback.proofs.line.frame_next.Tie as tie
 

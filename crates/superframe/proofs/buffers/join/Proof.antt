@@ -5,7 +5,8 @@ use Rattle.bits.specs.Filling.{Blocks, by-blocks}
 use borrow.Author.Needs.{needs}
 use Rattle.cells.specs.Profile.{cellsPerBuffer}
 use Rattle.cells.specs.Profiles.{qam16}
-use Rattle.superframe.specs.Superframe.{byteOfEach, bufferCells}
+use Rattle.bits.specs.Parts.{byteOfEach}
+use Rattle.superframe.specs.Superframe.{bufferCells}
 use Rattle.superframe.specs.SuperframeLaws.{joining}
 use Rattle.superframe.proofs.buffers.join.Statement.{statement}
 use Rattle.superframe.proofs.buffers.join.Tie as tie

@@ -3,21 +3,23 @@
 use mathlib.Core.Path.{refl}
 use Prim.Native.Nat.{_+_, _-_, _*_}
 use Rattle.bits.specs.Filling.{Blocks, by-blocks, blocks-next}
+use Rattle.bits.specs.Parts.{partOf, byteOfEach}
+use Rattle.ofec.specs.History.{depth}
+use Rattle.ofec.specs.Encoding.{encoded}
+use Rattle.superframe.specs.Stream.{encoder, givenAt}
+use Rattle.superframe.specs.StreamLaws.{Streaming, streaming, coded-block}
 use borrow.Author.Needs.{needs}
-use Rattle.superframe.specs.Superframe.{byteOfEach}
-use Rattle.superframe.specs.Stream.{pairAt, pairPayload}
-use Rattle.superframe.specs.StreamLaws.{Streaming, streaming, stream-block, stream-more}
 use Rattle.superframe.proofs.pairs.encode.Statement.{statement}
 use Rattle.superframe.proofs.pairs.encode.Tie as tie
 
 ruleset kit = (needs, by-blocks, streaming)
 
 abbrev Inv-loop : tie.InvT-loop
-Inv-loop payload first history₀ coded₀ k₀ history coded k =
-    Blocks (byteOfEach 512 (pairAt history₀ first (pairPayload payload))) 512 168 k coded × Streaming history₀ first payload k history
+Inv-loop pairs payload first history₀ coded₀ k₀ history coded k =
+    Blocks (byteOfEach 512 (givenAt encoder history₀ first (partOf 444 payload) (encoded depth))) 512 pairs k coded × Streaming encoder history₀ first payload k history
 
 abbrev μ-loop : tie.MeasureT-loop
-μ-loop payload first history₀ coded₀ k₀ history coded k = 168 - k
+μ-loop pairs payload first history₀ coded₀ k₀ history coded k = pairs - k
 
 pub encode-spec : {M : Type 1} → statement M
 encode-spec =
@@ -28,19 +30,18 @@ encode-spec =
     (λ c. search kit)  -- loop-holds
     (λ c. search kit)  -- mul-f
     (λ c. search kit)  -- add-g
-    (λ c. search kit)  -- cast-pair
-    (λ c. search kit)  -- add-pair
-    (λ c. search kit)  -- sub-pair
-    (λ c. search kit)  -- part-pair-start
-    (λ c. search kit)  -- part-pair-end
-    (λ c κs. search kit)  -- pair-requires
+    (λ c. search kit)  -- cast-encode-next
+    (λ c. search kit)  -- add-encode-next
+    (λ c. search kit)  -- sub-encode-next
+    (λ c. search kit)  -- part-encode-next-start
+    (λ c. search kit)  -- part-encode-next-end
+    (λ c κs. search kit)  -- encode-next-requires
     (λ c. search kit)  -- add-k
     (λ c. search kit)  -- loop-less
-    (λ c.
+    (λ c. let made = c .before .before .before .before .encode-next .ensures in
     let l = c .before .before .before .before .before .before .before .before .loop in (
-      blocks-next {d = l .coded} (l .k * 512) (l .k * 512 + 512) _ (l .inv .0) (search needs) refl refl
-          (stream-block _ _ (l .inv .1) (search needs) (c .before .before .before .before .pair .ensures .0)),
-      search (needs, stream-more),
+      blocks-next {d = l .coded} (l .k * 512) (l .k * 512 + 512) _ (l .inv .0) (search needs) refl refl (coded-block _ _ (l .inv .1) (search needs) (made .0)),
+      search kit,
     ))  -- loop-again
     (λ c. search kit)  -- same-length
     (λ c. search kit)  -- same-length-2

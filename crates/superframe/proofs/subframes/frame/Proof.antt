@@ -3,7 +3,8 @@
 use Prim.Native.Nat.{_-_}
 use Rattle.bits.specs.Filling.{Blocks, by-blocks}
 use borrow.Author.Needs.{needs}
-use Rattle.superframe.specs.Superframe.{byteOfEach, subFrame}
+use Rattle.bits.specs.Parts.{byteOfEach}
+use Rattle.superframe.specs.Superframe.{subFrame}
 use Rattle.superframe.specs.SuperframeLaws.{framing}
 use Rattle.superframe.proofs.subframes.frame.Statement.{statement}
 use Rattle.superframe.proofs.subframes.frame.Tie as tie

@@ -1,12 +1,12 @@
--- `superframe::pairs::pair` meets its contract.
+-- `superframe::pairs::encode_next` meets its contract.
 -- Assumes nothing.
 use borrow.Author.Needs.{needs}
 use Rattle.superframe.specs.StreamLaws.{pairing}
-use Rattle.superframe.proofs.pairs.pair.Statement.{statement}
-use Rattle.superframe.proofs.pairs.pair.Tie as tie
+use Rattle.superframe.proofs.pairs.encode_next.Statement.{statement}
+use Rattle.superframe.proofs.pairs.encode_next.Tie as tie
 
-pub pair-spec : {M : Type 1} → statement M
-pair-spec =
+pub encode-next-spec : {M : Type 1} → statement M
+encode-next-spec =
     tie.close
     (tie.spec
     (λ c. search needs)  -- mul-a

@@ -1,0 +1,21 @@
+-- `superframe::take` meets its contract.
+-- Assumes nothing.
+use Rattle.superframe.specs.ApartLaws.{taken-legal, pairs-of-line}
+use borrow.Author.Needs.{needs}
+use Rattle.superframe.proofs.take.Statement.{statement}
+use Rattle.superframe.proofs.take.Tie as tie
+
+ruleset kit = (needs, taken-legal, pairs-of-line)
+
+pub take-spec : {M : Type 1} → statement M
+take-spec =
+    tie.close
+    (tie.spec
+    (λ c κs. search kit)  -- blank-requires
+    (λ c. search kit)  -- slice-aggregate-unframe
+    (λ c κs. search needs)  -- unframe-requires
+    (λ c. search kit)  -- slice-aggregate-part
+    (λ c κs. search kit)  -- part-requires
+    (λ c. search kit)  -- same-length
+    (λ c. search kit)  -- same-length-2
+    (λ c. (search kit, search kit, search kit)))  -- returns

@@ -1,0 +1,22 @@
+-- `superframe::take_apart` meets its contract.
+-- Assumes nothing.
+use Rattle.cells.specs.CallLaws.{demap-legal}
+use Rattle.superframe.specs.ApartLaws.{line-flat, line-legal, apart-cases}
+use borrow.Author.Needs.{needs}
+use Rattle.superframe.proofs.take_apart.Statement.{statement}
+use Rattle.superframe.proofs.take_apart.Tie as tie
+
+ruleset kit = (needs, line-flat, apart-cases)
+
+pub take-apart-spec : {M : Type 1} → statement M
+take-apart-spec =
+    tie.close
+    (tie.spec
+    (λ c κs. search kit)  -- first-illegal-requires
+    (λ c. search kit)  -- returns
+    (λ c κs. search kit)  -- first-illegal-requires-2
+    (λ c. search kit)  -- returns-2
+    (λ c κs. (search needs, line-legal _ _ (c .before .before .before .first-illegal2 .ensures) (c .before .before .if2 .left), search needs, search (needs, demap-legal), search needs, search needs))  -- take-requires
+    (λ c. search kit)  -- same-length
+    (λ c. search kit)  -- same-length-2
+    (λ c. search kit))  -- returns-3
