@@ -1,144 +1,97 @@
-// What a receiver made of a pair, compared with what was sent.
-use crate::counts;
-use crate::counts::Counts;
-use crate::counts::one_more;
-use crate::encoding::payload_of;
+// What a receiver made of a word, compared with what was sent. A word is 32 bytes, gathered from the pairs by `layout`.
+use crate::counts::add;
 ghost use mathlib.Core.Path.{_≡_};
-ghost use Prim.Native.Nat.{_<_, _*_};
+ghost use Prim.Native.Nat.{_<_, _≤_};
 ghost use lib.ListN.{length};
+ghost use Rattle.bits.specs.Bits.{bit};
+ghost use Rattle.bits.specs.Count.{distance};
+ghost use Rattle.loopback.specs.Tally.{wrongAt, Tallied, lost, wordKind, bitKind, payloadKind};
 
-// 1 where bit i of a buffer differs from bit j of another, and 0 otherwise.
-fn differ(a: &[u8], i: usize, b: &[u8], j: usize) -> usize
-    requires { ⌜ (i < length (now a) * 8) × (j < length (now b) * 8) ⌝ }
-    ensures { λ r. ⌜ r < 2 ⌝ }
+// 1 where bit k of two words differs, and 0 otherwise.
+fn differ(a: &[u8], b: &[u8], k: usize) -> usize
+    requires { ⌜ (length (now a) ≡ 32) × (length (now b) ≡ 32) × (k < 256) ⌝ }
+    ensures { λ r. ⌜ (r ≡ wrongAt (now (a .entry)) (now (b .entry)) k) × (r < 2) ⌝ }
 {
-    bits::widen((bits::bit(a, i) + bits::bit(b, j)) % 2)
-}
-
-// The word of which payload bit i is.
-fn word_of(i: usize) -> usize
-    requires { ⌜ i < 3552 ⌝ }
-    ensures { λ w. ⌜ w < 32 ⌝ }
-{
-    if i < 3072 {
-        return i % 512 / 16;
-    }
-    (i - 3072) / 15
-}
-
-// Compares the payload out with that sent.
-pub fn compare_payload(
-    encoder: u32,
-    pair: usize,
-    out: [u8; 444],
-    marks: [u8; 32],
-    from: Counts,
-) -> Counts
-    requires { ⌜ pair < 336 ⌝ }
-{
-    let sent = payload_of(encoder, pair as u32);
-    let mut counts = from;
-    for i in 0..3552 {
-        let lost = bits::widen(marks[word_of(i)] / 3 % 2);
-        let next = one_more(
-            counts,
-            counts::PAYLOAD + differ(&sent, i, &out, i) + lost * 2,
-        );
-        counts = next;
-    }
-    counts
-}
-
-// Compares the coded pair as received, and as the receiver's history keeps it, with that sent.
-fn compare_coded(
-    pair: usize,
-    sent: &[u8],
-    coded: &[u8],
-    history: &[u8],
-    marks: [u8; 32],
-    from: Counts,
-) -> Counts
-    requires { ⌜ (pair < 336) × (length (now sent) ≡ 172032) × (length (now coded) ≡ 172032) × (length (now history) ≡ 5120) ⌝ }
-{
-    let mut counts = from;
-    for i in 0..4096 {
-        let j = pair * 4096 + i;
-        let lost = bits::widen(marks[i / 128] / 3 % 2);
-        let kind = differ(sent, j, coded, j) + differ(sent, j, history, 36864 + i) * 2 + lost * 4;
-        let next = one_more(counts, counts::BITS + kind);
-        counts = next;
-    }
-    counts
-}
-
-// Where bit k of word w of a pair stands among the coded pairs; in the front half the bits of a block in the order of their rows.
-fn place(pair: usize, w: usize, k: usize) -> usize
-    requires { ⌜ (pair < 336) × (w < 32) × (k < 256) ⌝ }
-    ensures { λ r. ⌜ r < 1376256 ⌝ }
-{
-    if 128 <= k {
-        return pair * 4096 + w * 128 + k - 128;
-    }
-    if pair < 10 {
+    if bits::bit(a, k) == bits::bit(b, k) {
         return 0;
     }
-    (pair - 10 + k / 16) * 4096 + (1 - w / 16) * 2048 + k % 16 * 128 + k / 16 * 16 + w % 16
+    1
 }
 
-// The first bit of a pair's words that counts.
-fn first(pair: usize) -> usize {
-    if pair < 10 {
-        return 128;
-    }
-    0
-}
-
-// The number of wrong received bits of word w.
-fn wrong_bits(pair: usize, w: usize, sent: &[u8], coded: &[u8]) -> usize
-    requires { ⌜ (pair < 336) × (w < 32) × (length (now sent) ≡ 172032) × (length (now coded) ≡ 172032) ⌝ }
+// In how many bits two words differ.
+fn distance(a: &[u8], b: &[u8]) -> usize
+    requires { ⌜ (length (now a) ≡ 32) × (length (now b) ≡ 32) ⌝ }
+    ensures { λ r. ⌜ r ≡ distance 256 (bit (now (a .entry))) (bit (now (b .entry))) ⌝ }
 {
     let mut n = 0;
-    for k in first(pair)..256 {
-        let i = place(pair, w, k);
-        n = std::num::wrapping_add_usize(n, differ(sent, i, coded, i));
+    for k in 0..256 {
+        n = n + differ(a, b, k);
     }
     n
 }
 
-// The row of the table of words for a number of wrong bits.
-fn row(n: usize) -> usize
-    ensures { λ r. ⌜ r < 5 ⌝ }
+// 1 for the mark of a lost word.
+fn lost(mark: u8) -> usize
+    ensures { λ r. ⌜ (r ≡ lost mark) × (r < 2) ⌝ }
 {
+    if mark == 3 {
+        return 1;
+    }
+    0
+}
+
+// The kind of a word.
+fn word_kind(sent: &[u8], got: &[u8], mark: u8) -> usize
+    requires { ⌜ (length (now sent) ≡ 32) × (length (now got) ≡ 32) ⌝ }
+    ensures { λ r. ⌜ (r ≡ wordKind (now (sent .entry)) (now (got .entry)) mark) × (r < 27) ⌝ }
+{
+    let n = distance(sent, got);
     if n < 4 {
-        return n;
+        return 7 + n * 4 + bits::widen(mark) % 4;
     }
-    4
+    23 + bits::widen(mark) % 4
 }
 
-// Counts the words of a pair by their wrong received bits and their marks.
-fn count_words(pair: usize, sent: &[u8], coded: &[u8], marks: [u8; 32], from: Counts) -> Counts
-    requires { ⌜ (pair < 336) × (length (now sent) ≡ 172032) × (length (now coded) ≡ 172032) ⌝ }
+// The kind of bit i of a back half.
+fn bit_kind(sent: &[u8], got: &[u8], kept: &[u8], mark: u8, i: usize) -> usize
+    requires { ⌜ (length (now sent) ≡ 32) × (length (now got) ≡ 32) × (length (now kept) ≡ 32) × (i < 128) ⌝ }
+    ensures { λ r. ⌜ (r ≡ bitKind (now (sent .entry)) (now (got .entry)) (now (kept .entry)) mark i) × (r < 35) ⌝ }
 {
-    let mut counts = from;
-    for w in 0..32 {
-        let n = row(wrong_bits(pair, w, sent, coded));
-        let next = one_more(counts, counts::WORDS + n * 4 + bits::widen(marks[w]) % 4);
-        counts = next;
-    }
-    counts
+    27 + differ(sent, got, 128 + i) + differ(sent, kept, 128 + i) * 2 + lost(mark) * 4
 }
 
-// Compares a pair with that sent.
-pub fn compare(
-    pair: usize,
-    sent: &[u8],
-    coded: &[u8],
-    history: &[u8],
-    marks: [u8; 32],
-    from: Counts,
-) -> Counts
-    requires { ⌜ (pair < 336) × (length (now sent) ≡ 172032) × (length (now coded) ≡ 172032) × (length (now history) ≡ 5120) ⌝ }
+// The kind of payload bit i of a word.
+fn payload_kind(sent: &[u8], out: &[u8], mark: u8, i: usize) -> usize
+    requires { ⌜ (length (now sent) ≡ 32) × (length (now out) ≡ 32) × (i < 128) ⌝ }
+    ensures { λ r. ⌜ (r ≡ payloadKind (now (sent .entry)) (now (out .entry)) mark i) × (r < 39) ⌝ }
 {
-    let counts = compare_coded(pair, sent, coded, history, marks, from);
-    count_words(pair, sent, coded, marks, counts)
+    35 + differ(sent, out, 128 + i) + lost(mark) * 2
+}
+
+// Counts a word.
+pub fn count_word(sent: &[u8], got: &[u8], mark: u8, counts: &mut [u32])
+    requires { ⌜ (length (now sent) ≡ 32) × (length (now got) ≡ 32) × (length (now counts) ≡ 40) ⌝ }
+    ensures { λ _. ⌜ Tallied (λ _. wordKind (now (sent .entry)) (now (got .entry)) mark) 1 (now (counts .entry)) (now (counts .exit)) ⌝ }
+{
+    add(counts, word_kind(sent, got, mark), 1);
+}
+
+// Counts the bits of its back half.
+pub fn count_bits(sent: &[u8], got: &[u8], kept: &[u8], mark: u8, counts: &mut [u32])
+    requires { ⌜ (length (now sent) ≡ 32) × (length (now got) ≡ 32) × (length (now kept) ≡ 32) × (length (now counts) ≡ 40) ⌝ }
+    ensures { λ _. ⌜ Tallied (bitKind (now (sent .entry)) (now (got .entry)) (now (kept .entry)) mark) 128 (now (counts .entry)) (now (counts .exit)) ⌝ }
+{
+    for i in 0..128 {
+        add(counts, bit_kind(sent, got, kept, mark, i), 1);
+    }
+}
+
+// Counts its payload bits.
+pub fn count_payload(sent: &[u8], out: &[u8], mark: u8, counts: &mut [u32])
+    requires { ⌜ (length (now sent) ≡ 32) × (length (now out) ≡ 32) × (length (now counts) ≡ 40) ⌝ }
+    ensures { λ _. ⌜ Tallied (payloadKind (now (sent .entry)) (now (out .entry)) mark) 111 (now (counts .entry)) (now (counts .exit)) ⌝ }
+{
+    for i in 0..111 {
+        add(counts, payload_kind(sent, out, mark, i), 1);
+    }
 }

@@ -1,34 +1,26 @@
-// Counts, and their print.
+// Counters, and their print: first the pair number, and calls by the refusal's number, 0 done, 1 to 5 refused; then words, coded bits and
+// payload bits by their kinds.
 use calls::Answer;
 use libc::STDOUT_FILENO;
-ghost use Prim.Native.Nat.{_<_};
+ghost use mathlib.Core.Path.{_≡_};
+ghost use Prim.Native.Nat.{_+_, _^_, _%_, _<_};
+ghost use lib.ListN.{length, getD, set};
+ghost use Rattle.calls.specs.Answers.{refusalOf};
 
-// First the pair number, and calls by the refusal's number: 0 done, 1 to 5 refused.
-pub type Counts = [u32; 40];
-
-// Then words, by their wrong received bits, 0 to 3 or 4 for more, and by their marks, 0 to 3.
-pub const WORDS: usize = 7;
-
-// Coded bits: 1 for wrong as received, 2 for wrong in the history, 4 for a lost word.
-pub const BITS: usize = 27;
-
-// Payload bits: 1 for wrong, 2 for a lost word.
-pub const PAYLOAD: usize = 35;
-
-// Counts one more at a place.
-pub fn one_more(from: Counts, at: usize) -> Counts
-    requires { ⌜ at < 40 ⌝ }
+// Adds to the counter at a place.
+pub fn add(counts: &mut [u32], at: usize, n: u32)
+    requires { ⌜ at < length (now counts) ⌝ }
+    ensures { λ _. ⌜ now (counts .exit) ≡ set (now (counts .entry)) at ((getD (now (counts .entry)) at 0 + n) % 2 ^ 32) ⌝ }
 {
-    let mut counts = from;
-    counts[at] = std::num::wrapping_add_u32(counts[at], 1);
-    counts
+    counts[at] = std::num::wrapping_add_u32(counts[at], n);
 }
 
-// Counts a call by its answer, and takes the pair number that it gave.
-pub fn answered(from: Counts, a: Answer) -> Counts {
-    let mut counts = one_more(from, 1 + calls::refusal_of(a) as usize % 6);
-    counts[0] = calls::value_or(a, counts[0]);
-    counts
+// Counts a call by its answer.
+pub fn answered(counts: &mut [u32], a: Answer)
+    requires { ⌜ length (now counts) ≡ 40 ⌝ }
+    ensures { λ _. ⌜ now (counts .exit) ≡ set (now (counts .entry)) (1 + refusalOf a % 6) ((getD (now (counts .entry)) (1 + refusalOf a % 6) 0 + 1) % 2 ^ 32) ⌝ }
+{
+    add(counts, 1 + calls::refusal_of(a) as usize % 6, 1);
 }
 
 fn number(n: u32) {
@@ -36,7 +28,7 @@ fn number(n: u32) {
 }
 
 // Prints a text with the counts, from a place on, for its number signs.
-pub fn print(text: &[u8], counts: &Counts, from: usize) {
+pub fn print(text: &[u8], counts: &[u32; 40], from: usize) {
     let mut at = from % 40;
     for i in 0..text.len() {
         if text[i] == b'#' {

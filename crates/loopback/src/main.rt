@@ -2,27 +2,28 @@
 // calls in between; what came of it, in counts.
 mod comparing;
 mod counts;
-mod encoding;
 mod line;
 mod noise;
 mod random;
 mod receiving;
+mod refusing;
+mod sending;
 
-// The 336 coded pairs of an encoder.
-type Coded = [u8; 172032];
+// The 336 coded pairs of an encoder, with the ten of a fresh history in front.
+type Coded = [u8; 177152];
 
 fn blank() -> Coded {
-    [0u8; 172032]
+    [0u8; 177152]
 }
 
 fn main() {
     let mut sent0 = blank();
     let mut sent1 = blank();
-    encoding::encode(0, &mut sent0);
-    encoding::encode(1, &mut sent1);
-    let mut coded0 = blank();
-    let mut coded1 = blank();
-    line::carry(&sent0, &sent1, &mut coded0, &mut coded1);
-    receiving::receive(0, &sent0, &coded0);
-    receiving::receive(1, &sent1, &coded1);
+    sending::encode(0, &mut sent0);
+    sending::encode(1, &mut sent1);
+    let mut got0 = blank();
+    let mut got1 = blank();
+    line::carry(&sent0, &sent1, &mut got0, &mut got1);
+    receiving::receive(0, &sent0, &got0);
+    receiving::receive(1, &sent1, &got1);
 }

@@ -80,11 +80,12 @@ pub fn receive(
         let g = f + 444;
         let i = k * 32;
         let j = i + 32;
+        let number = first + k as u32;
         receive_next(
             k,
             pairs,
             coded,
-            first + k as u32,
+            number,
             history,
             &mut payload[f..g],
             &mut marks[i..j],

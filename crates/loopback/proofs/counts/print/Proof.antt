@@ -1,3 +1,5 @@
+-- `loopback::counts::print` is safe and ends.
+-- Assumes nothing.
 use Prim.Native.Nat.{_-_, _<_}
 use native.Mathlib.Omega.{arith}
 use mathlib.Core.Logic.{⊎-elim}

@@ -1,12 +1,15 @@
-use Prim.Native.Nat.{_-_, _<_}
-use mathlib.Core.Path.{_≡_}
-use lib.ListN.{length}
+-- `loopback::random::fill` meets its contract: one number a turn.
+-- Assumes nothing.
+use Prim.Native.Nat.{_-_}
+use Rattle.loopback.specs.RandomLaws.{Drawing, drawing}
 use borrow.Author.Needs.{needs}
 use Rattle.loopback.proofs.random.fill.Statement.{statement}
 use Rattle.loopback.proofs.random.fill.Tie as tie
 
+ruleset kit = (needs, drawing)
+
 abbrev Inv-loop : tie.InvT-loop
-Inv-loop buffer₀ stream d state₀ i₀ i-end buffer state i = (length buffer ≡ length buffer₀) × (state < 8589934592)
+Inv-loop buffer₀ stream d state₀ i₀ i-end buffer state i = Drawing stream d i-end i state buffer
 
 abbrev μ-loop : tie.MeasureT-loop
 μ-loop buffer₀ stream d state₀ i₀ i-end buffer state i = i-end - i
@@ -17,15 +20,15 @@ fill-spec =
     (tie.spec
     Inv-loop
     μ-loop
-    (λ c. search needs)  -- add-state
-    (λ c. search needs)  -- loop-holds
-    (λ c. search needs)  -- mul-state
-    (λ c. search needs)  -- add-state-2
-    (λ c. search needs)  -- cast-buffer
-    (λ c. search needs)  -- div-buffer
-    (λ c. search needs)  -- slice-write-buffer
-    (λ c. search needs)  -- add-i
-    (λ c. search needs)  -- loop-less
-    (λ c. search needs)  -- loop-again
-    (λ c. search needs)  -- same-length
-    (λ c. search needs))  -- returns
+    (λ c. search kit)  -- add-state
+    (λ c. search kit)  -- loop-holds
+    (λ c. search kit)  -- mul-state
+    (λ c. search kit)  -- add-state-2
+    (λ c. search kit)  -- cast-buffer
+    (λ c. search kit)  -- div-buffer
+    (λ c. search kit)  -- slice-write-buffer
+    (λ c. search kit)  -- add-i
+    (λ c. search kit)  -- loop-less
+    (λ c. search kit)  -- loop-again
+    (λ c. search kit)  -- same-length
+    (λ c. search kit))  -- returns

@@ -1,13 +1,17 @@
+-- `loopback::receiving::receive` is safe and ends: one pair a turn.
+-- Assumes nothing.
 use Prim.Native.Nat.{_-_}
+use mathlib.Core.Path.{_≡_}
+use lib.ListN.{length}
 use borrow.Author.Needs.{needs}
 use Rattle.loopback.proofs.receiving.receive.Statement.{statement}
 use Rattle.loopback.proofs.receiving.receive.Tie as tie
 
 abbrev Inv-loop : tie.InvT-loop
-Inv-loop encoder sent coded history₀ counts₀ i₀ t8 history counts i = Unit {0}
+Inv-loop encoder sent got history₀ counts₀ k₀ t7 history counts k = (length history ≡ 5120) × (length counts ≡ 40)
 
 abbrev μ-loop : tie.MeasureT-loop
-μ-loop encoder sent coded history₀ counts₀ i₀ t8 history counts i = 1008 - i
+μ-loop encoder sent got history₀ counts₀ k₀ t7 history counts k = 336 - k
 
 pub receive-spec : {M : Type 1} → statement M
 receive-spec =
@@ -16,8 +20,10 @@ receive-spec =
     Inv-loop
     μ-loop
     (λ c. search needs)  -- loop-holds
-    (λ c κs. search needs)  -- receive-next-requires
-    (λ c. search needs)  -- add-i
+    (λ c. search needs)  -- slice-aggregate-receive-after
+    (λ c. search needs)  -- slice-aggregate-receive-after-2
+    (λ c κs. search needs)  -- receive-after-requires
+    (λ c. search needs)  -- add-k
     (λ c. search needs)  -- loop-less
     (λ c. search needs)  -- loop-again
     (λ c. search needs)  -- slice-aggregate-print

@@ -34,8 +34,8 @@ receive-spec =
     (λ c. search kit)  -- add-g
     (λ c. search kit)  -- mul-i
     (λ c. search kit)  -- add-j
-    (λ c. search kit)  -- cast-receive-next
-    (λ c. search kit)  -- add-receive-next
+    (λ c. search kit)  -- cast-number
+    (λ c. search kit)  -- add-number
     (λ c. search kit)  -- sub-receive-next
     (λ c. search kit)  -- part-receive-next-start
     (λ c. search kit)  -- part-receive-next-end

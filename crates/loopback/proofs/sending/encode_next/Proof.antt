@@ -1,0 +1,23 @@
+-- `loopback::sending::encode_next` meets its contract.
+-- Assumes nothing.
+use borrow.Author.Needs.{needs}
+use Rattle.loopback.specs.RandomLaws.{given-of, history-of}
+use Rattle.loopback.proofs.sending.encode_next.Statement.{statement}
+use Rattle.loopback.proofs.sending.encode_next.Tie as tie
+
+pub encode-next-spec : {M : Type 1} → statement M
+encode-next-spec =
+    tie.close
+    (tie.spec
+    (λ c. search needs)  -- slice-aggregate-draw
+    (λ c κs. search needs)  -- draw-requires
+    (λ c κs. search needs)  -- refuse-encodings-requires
+    (λ c. search needs)  -- slice-aggregate-encode
+    (λ c. search needs)  -- mul-encode
+    (λ c κs. search needs)  -- encode-requires
+    (λ c κs. search needs)  -- add-requires
+    (λ c κs. search needs)  -- add-requires-2
+    (λ c. search needs)  -- same-length
+    (λ c. search needs)  -- same-length-2
+    (λ c. search needs)  -- same-length-3
+    (λ c. (search (needs, given-of), search (needs, history-of))))  -- returns

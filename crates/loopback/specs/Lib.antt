@@ -1,0 +1,5 @@
+pub mod Random
+pub mod RandomLaws
+pub mod Tally
+pub mod TallyLaws
+pub mod PlaceLaws

@@ -1,0 +1,78 @@
+// Refused calls among the others: lent an encoder's or a receiver's own history, they leave it as it was.
+use crate::counts::answered;
+use calls::Answer;
+ghost use mathlib.Core.Path.{_≡_};
+ghost use lib.ListN.{length};
+
+// The pair number that no call takes.
+const SPENT: u32 = 4294967295;
+
+// A call of encoding with a byte too few.
+fn encode_short(history: &mut [u8]) -> Answer
+    ensures { λ _. ⌜ now (history .exit) ≡ now (history .entry) ⌝ }
+{
+    let payload = [0u8; 443];
+    let mut coded = [0u8; 512];
+    codec::encode_pair(&payload, &mut coded, history, 0)
+}
+
+// One with the pair number that no call takes.
+fn encode_spent(history: &mut [u8]) -> Answer
+    requires { ⌜ length (now history) ≡ 5120 ⌝ }
+    ensures { λ _. ⌜ now (history .exit) ≡ now (history .entry) ⌝ }
+{
+    let payload = [0u8; 444];
+    let mut coded = [0u8; 512];
+    codec::encode_pair(&payload, &mut coded, history, SPENT)
+}
+
+// Both, for each pair of a super-frame.
+pub fn refuse_encodings(history: &mut [u8], counts: &mut [u32])
+    requires { ⌜ (length (now history) ≡ 5120) × (length (now counts) ≡ 40) ⌝ }
+    ensures { λ _. ⌜ now (history .exit) ≡ now (history .entry) ⌝ }
+{
+    for k in 0..168usize {
+        answered(counts, encode_short(history));
+        answered(counts, encode_spent(history));
+    }
+}
+
+// A call of receiving with a byte too few.
+fn receive_short(history: &mut [u8]) -> Answer
+    ensures { λ _. ⌜ now (history .exit) ≡ now (history .entry) ⌝ }
+{
+    let coded = [0u8; 511];
+    let mut payload = [0u8; 444];
+    let mut marks = [0u8; 32];
+    codec::receive_pair(&coded, &mut payload, &mut marks, history, 0)
+}
+
+// One with the pair number that no call takes.
+fn receive_spent(history: &mut [u8]) -> Answer
+    requires { ⌜ length (now history) ≡ 5120 ⌝ }
+    ensures { λ _. ⌜ now (history .exit) ≡ now (history .entry) ⌝ }
+{
+    let coded = [0u8; 512];
+    let mut payload = [0u8; 444];
+    let mut marks = [0u8; 32];
+    codec::receive_pair(&coded, &mut payload, &mut marks, history, SPENT)
+}
+
+// Both.
+pub fn refuse_receiving(history: &mut [u8], counts: &mut [u32])
+    requires { ⌜ (length (now history) ≡ 5120) × (length (now counts) ≡ 40) ⌝ }
+    ensures { λ _. ⌜ now (history .exit) ≡ now (history .entry) ⌝ }
+{
+    answered(counts, receive_short(history));
+    answered(counts, receive_spent(history));
+}
+
+// Two calls of framing, lent a frame: a sub-frame that there is not, and an illegal overhead list.
+pub fn refuse_framing(frame: &mut [u8], counts: &mut [u32])
+    requires { ⌜ (length (now frame) ≡ 7424) × (length (now counts) ≡ 40) ⌝ }
+{
+    let list = [16u8; 12288];
+    let all = &list[..];
+    answered(counts, framing::frame(48, all, all, frame));
+    answered(counts, framing::frame(0, &all[0..6980], all, frame));
+}
