@@ -3,7 +3,8 @@
 use mathlib.Core.Path.{_≡_, refl, sym, ap, _∙_, subst}
 use mathlib.Core.List.{List}
 use mathlib.Core.Logic.{_⊎_, inl, inr}
-use Prim.Native.Nat.{ℕ, zero, suc, _-_, _<_}
+use Prim.Native.Nat.{ℕ, zero, suc, _+_, _-_, _<_}
+use native.Mathlib.Nat.{zero-add}
 use native.Mathlib.Omega.{arith}
 use lib.Dec.{ltb, ltb→lt}
 use lib.ListN.{getD}
@@ -55,30 +56,30 @@ log-of (suc x) p h = (log-lt (suc x) h, power-log x (omega arith))
 
 -- ---- no zero divisors
 
--- a^k times a^(254 - k) is a^254: a step up in the one for a step down in the other.
-ends : (k : ℕ) → k < 255 → getD powers k 0 · getD powers (254 - k) 0 ≡ getD powers 254 0
-ends zero h =
-    let q = getD powers 254 0 in
-    ap (λ u. u · q) powers-first ∙ ·-comm 1 q ∙ ·-one q ∙ byte-id q (powers-lt 254 (omega arith))
-ends (suc k) h =
-    let q = getD powers (254 - suc k) 0 in
-    let e : suc (254 - suc k) ≡ 254 - k = omega arith in
-    ap (λ u. u · q) (sym (powers-next k (omega arith))) ∙ shiftA-· (getD powers k 0) q ∙ sym (·-shiftA (getD powers k 0) q)
-    ∙ ap (λ u. getD powers k 0 · u) (powers-next (254 - suc k) (omega arith) ∙ ap (λ i. getD powers i 0) e) ∙ ends k (omega arith)
+-- a^i times a^j is a^254 where i and j add up to 254: a step up in the one for a step down in the other.
+ends : (i j : ℕ) → i + j ≡ 254 → getD powers i 0 · getD powers j 0 ≡ getD powers 254 0
+ends zero j e =
+    ap (λ u. u · getD powers j 0) powers-first ∙ ·-comm 1 (getD powers j 0) ∙ ·-one (getD powers j 0)
+    ∙ byte-id (getD powers j 0) (powers-lt j (omega arith)) ∙ ap (λ k. getD powers k 0) (sym (zero-add j) ∙ e)
+ends (suc i) j e =
+    ap (λ u. u · getD powers j 0) (sym (powers-next i (omega arith))) ∙ shiftA-· (getD powers i 0) (getD powers j 0)
+    ∙ sym (·-shiftA (getD powers i 0) (getD powers j 0)) ∙ ap (λ u. getD powers i 0 · u) (powers-next j (omega arith)) ∙ ends i (suc j) (omega arith)
 
 -- An entry can be divided out.
-divide : (k x : ℕ) → k < 255 → x · getD powers k 0 ≡ 0 → byte x ≡ 0
-divide k x h e =
+divide : (i j x : ℕ) → i + j ≡ 254 → x · getD powers i 0 ≡ 0 → byte x ≡ 0
+divide i j x h e =
     sym (·-one x) ∙ ap (λ u. x · u) (sym powers-round) ∙ ·-shiftA x (getD powers 254 0)
     ∙ ap shiftA
-    (ap (λ u. x · u) (sym (ends k h)) ∙ sym (·-assoc x (getD powers k 0) (getD powers (254 - k) 0))
-    ∙ ap (λ u. u · getD powers (254 - k) 0) e ∙ zero-· (getD powers (254 - k) 0))
+    (ap (λ u. x · u) (sym (ends i j h)) ∙ sym (·-assoc x (getD powers i 0) (getD powers j 0)) ∙ ap (λ u. u · getD powers j 0) e ∙ zero-· (getD powers j 0))
     ∙ shiftA-linear .at-zero
 
 pub no-zero-divisors : (x y : ℕ) → x < 256 → y < 256 → x · y ≡ 0 → (x ≡ 0) ⊎ (y ≡ 0)
 no-zero-divisors x zero hx hy e = inr refl
 no-zero-divisors x (suc y) hx hy e =
-    inl (sym (byte-id x hx) ∙ divide (getD logs (suc y) 0) x (log-lt (suc y) hy) (ap (λ u. x · u) (power-log y (omega arith)) ∙ e))
+    let k = getD logs (suc y) 0 in
+    inl
+    (sym (byte-id x hx)
+    ∙ divide k (254 - k) x (omega (arith, log-lt (suc y) hy)) (ap (λ u. x · u) (power-log y (omega arith)) ∙ e))
 
 byte-lt : (x : ℕ) → byte x < 256
 unfolding byte units
@@ -89,23 +90,24 @@ pub ·-lt : (x y : ℕ) → x · y < 256
 
 -- ---- cubes
 
--- The rule of the table of cubes, computed over all of it: a step of the powers is three steps of their cubes.
-cubed-step : (k : ℕ) → k < 254 → getD cubed (getD powers (suc k) 0) 0 ≡ shiftA (shiftA (shiftA (getD cubed (getD powers k 0) 0)))
-unfolding cubed powers shiftA a-columns lin _⊕_
-cubed-step = agree 254 (λ k. getD cubed (getD powers (suc k) 0) 0) (λ k. shiftA (shiftA (shiftA (getD cubed (getD powers k 0) 0)))) tt
-
-cubed-first : getD cubed (getD powers 0 0) 0 ≡ cube (getD powers 0 0)
-unfolding cubed powers cube _·_ orbit byte units shiftA a-columns lin _⊕_
-cubed-first = refl
+-- The rule of the table of cubes, computed over all of it: a times x has a^3 times the cube of x.
+cubed-step : (x : ℕ) → x < 256 → getD cubed (shiftA x) 0 ≡ shiftA (shiftA (shiftA (getD cubed x 0)))
+unfolding cubed shiftA a-columns lin _⊕_
+cubed-step = agree 256 (λ x. getD cubed (shiftA x) 0) (λ x. shiftA (shiftA (shiftA (getD cubed x 0)))) tt
 
 cubed-zero : getD cubed 0 0 ≡ 0
 unfolding cubed
 cubed-zero = refl
 
+cubed-one : getD cubed 1 0 ≡ cube 1
+unfolding cubed cube _·_ orbit byte units shiftA a-columns lin _⊕_
+cubed-one = refl
+
 cubed-power : (k : ℕ) → k < 255 → getD cubed (getD powers k 0) 0 ≡ cube (getD powers k 0)
-cubed-power zero h = cubed-first
+cubed-power zero h = rw powers-first cubed-one
 cubed-power (suc k) h =
-    cubed-step k (omega arith) ∙ ap (λ u. shiftA (shiftA (shiftA u))) (cubed-power k (omega arith)) ∙ sym (cube-shiftA (getD powers k 0))
+    ap (λ u. getD cubed u 0) (sym (powers-next k (omega arith))) ∙ cubed-step (getD powers k 0) (powers-lt k (omega arith))
+    ∙ ap (λ u. shiftA (shiftA (shiftA u))) (cubed-power k (omega arith)) ∙ sym (cube-shiftA (getD powers k 0))
     ∙ ap cube (powers-next k (omega arith))
 
 pub cubed-at : (x : ℕ) → x < 256 → getD cubed x 0 ≡ cube x
