@@ -1,6 +1,6 @@
 -- Repair of a word, 01, "Code words": "Repair yields the only code word within two flips and the number of flips, 0 to 2; if none
 -- exists, the word is lost and unaltered." It is a search through all flips, none, one and two; that what it yields is the only
--- code word there is a law (RepairLaws.antt).
+-- code word there is a law (RepairTheorems.antt).
 -- Assumes nothing.
 use mathlib.Core.Bool.{Bool, true, false, cond}
 use mathlib.Core.List.{List, [], _∷_, _++_, map}
