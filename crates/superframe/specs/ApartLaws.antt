@@ -35,7 +35,7 @@ use Rattle.interleaving.specs.CallLaws.{deinterleave-pairs0, deinterleave-pairs
 use Rattle.cells.specs.Profile.{Profile, cellsPerBuffer}
 use Rattle.cells.specs.Profiles.{qam16}
 use Rattle.cells.specs.Cells.{overheadRule, payloadRule, firstIllegal, Legal, toBits}
-use Rattle.cells.specs.CellLaws.{buffer-bits, buffer-whole}
+use Rattle.cells.specs.CellLaws.{buffer-bits}
 use Rattle.cells.specs.Calls.{After, after, cellsToBits}
 use Rattle.cells.specs.CallLaws.{demap-accepts, demap-legal}
 use Rattle.frames.specs.Frames.{isOverhead, overheadCells, payloadCells, overheadStart, payloadStart, ownOverhead, cellRule, frameRule, unframed, subFrameOf, cellOf}

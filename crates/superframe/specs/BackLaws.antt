@@ -3,18 +3,16 @@
 -- Assumes nothing.
 use mathlib.Core.Path.{_≡_, refl, sym, ap, ap₂, _∙_}
 use mathlib.Core.List.{List, []}
-use Prim.Native.Nat.{ℕ, suc, _+_, _-_, _*_, _/_, _%_, _<_, _≤_}
-use native.Mathlib.Nat.{suc-mul}
+use Prim.Native.Nat.{ℕ, suc, _+_, _-_, _*_, _/_, _%_, _<_}
 use native.Mathlib.Omega.{arith}
 use lib.Dec.{lit<}
 use lib.ListN.{length, getD}
 use Rattle.bits.specs.Count.{count}
 use Rattle.bits.specs.CountLaws.{count-ext}
-use Rattle.bits.specs.DigitLaws.{group-of, place-of, place-lt, group-lt, digit-lt}
-use Rattle.bits.specs.Lists.{tabulate}
+use Rattle.bits.specs.DigitLaws.{group-of, place-of, place-lt}
 use Rattle.bits.specs.ListLaws.{length-tabulate, getD-tabulate, is-tabulate}
 use Rattle.bits.specs.Parts.{part, partOf, endToEnd}
-use Rattle.bits.specs.PartLaws.{partOf-length, partOf-at, endToEnd-length, endToEnd-at, endToEnd-ext, part-endToEnd}
+use Rattle.bits.specs.PartLaws.{partOf-length, partOf-at, endToEnd-length, endToEnd-at, part-endToEnd}
 use Rattle.calls.specs.declared.Answer.the-variants.{Done}
 use Rattle.calls.specs.Answers.{valueOr}
 use Rattle.calls.specs.Sequences.{At, Run, accepted}
@@ -25,7 +23,7 @@ use Rattle.ofec.specs.Calls.{State, start, Received, Receiving, receive, Receiv
 use Rattle.ofec.specs.PromiseLaws.{received-made}
 use Rattle.interleaving.specs.Interleaving.{apart}
 use Rattle.interleaving.specs.Calls.{parted}
-use Rattle.cells.specs.Profile.{Profile, cellsPerBuffer, buffersIn, pairsIn}
+use Rattle.cells.specs.Profile.{Profile, cellsPerBuffer, buffersIn}
 use Rattle.cells.specs.Cells.{overheadRule, Legal, toBits}
 use Rattle.cells.specs.CellLaws.{none-illegal, buffer-whole, cells-pos, width-pos}
 use Rattle.cells.specs.Calls.{After}
@@ -35,8 +33,7 @@ use Rattle.line.specs.Sides.{Side, side0, side1, encoder}
 use Rattle.line.specs.Outward.{Outward}
 use Rattle.line.specs.Inward as inward
 use Rattle.line.specs.Inward.{Heard, unframing, heardByte, pairsBack, receivedPair, Inward}
-use Rattle.line.specs.InwardLaws.{unframing-is, cells-length, pairs-is, length-received}
-use Rattle.line.specs.LineLaws.{cell-lt}
+use Rattle.line.specs.InwardLaws.{unframing-is, pairs-is, length-received}
 use Rattle.superframe.specs.Apart.{takenByte, takenCells, bufferPairs, takenPairs, differingIn, differingAll, lineRule, takeApart}
 use Rattle.superframe.specs.ApartLaws.{apart-done}
 use Rattle.superframe.specs.LineLaws.{pairs}
