@@ -73,7 +73,7 @@ module _ (p : Profile) (n : ℕ) (h : Heard p n) where
       place : (a y : ℕ) → a + y ≡ x → x - a ≡ y
       place a y e = omega arith
 
-  pub cells-length : (b : ℕ) → length (bufferCells p n h b) ≡ cellsPerBuffer p * 2
+  cells-length : (b : ℕ) → length (bufferCells p n h b) ≡ cellsPerBuffer p * 2
   unfolding bufferCells
   cells-length b = length-tabulate (cellsPerBuffer p * 2) (λ i. heardByte p n h (b / p .bits) (b % p .bits * cellsPerBuffer p + i / 2) (i % 2))
 
@@ -98,7 +98,7 @@ module _ (p : Profile) (n : ℕ) (h : Heard p n) where
       let sub : (48 * q + subFrameOf x) % 48 ≡ subFrameOf x = omega (arith, at .sub-frame) in
       payload-cell-legal p (f % 48) (getD (h .frames) f []) (h .long f lf) (h .legal f lf) (cellOf x) k (at .inside) lk (rw sub (at .payload))
 
-  pub cells-legal : (b : ℕ) → b < buffersIn p n → Legal (payloadRule p) (bufferCells p n h b)
+  cells-legal : (b : ℕ) → b < buffersIn p n → Legal (payloadRule p) (bufferCells p n h b)
   unfolding payloadRule
   cells-legal b lb =
       record {

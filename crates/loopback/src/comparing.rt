@@ -1,7 +1,7 @@
 // What a receiver made of a word, compared with what was sent. A word is 32 bytes, gathered from the pairs by `layout`.
 use crate::counts::add;
 ghost use mathlib.Core.Path.{_≡_};
-ghost use Prim.Native.Nat.{_<_, _≤_};
+ghost use Prim.Native.Nat.{_<_};
 ghost use lib.ListN.{length};
 ghost use Rattle.bits.specs.Bits.{bit};
 ghost use Rattle.bits.specs.Count.{distance};

@@ -28,7 +28,7 @@ fn number(n: u32) {
 }
 
 // Prints a text with the counts, from a place on, for its number signs.
-pub fn print(text: &[u8], counts: &[u32; 40], from: usize) {
+fn print(text: &[u8], counts: &[u32; 40], from: usize) {
     let mut at = from % 40;
     for i in 0..text.len() {
         if text[i] == b'#' {
@@ -39,4 +39,44 @@ pub fn print(text: &[u8], counts: &[u32; 40], from: usize) {
             io::write_all(STDOUT_FILENO, &text[i..e]);
         }
     }
+}
+
+// Prints what an encoder did.
+pub fn print_encoder(counts: &[u32; 40]) {
+    print(
+        b"encoder: pairs #, calls done #, refused by number # # # # #\n",
+        counts,
+        0,
+    );
+}
+
+// Prints what the line did.
+pub fn print_line(counts: &[u32; 40]) {
+    print(
+        b"\
+line: refused by number # # # # #
+overhead cells that differ #
+",
+        counts,
+        2,
+    );
+}
+
+// Prints what a receiver did, and what came of it.
+pub fn print_receiver(counts: &[u32; 40]) {
+    print(
+        b"\
+receiver: pairs #, calls done #, refused by number # # # # #
+words with 0 wrong bits: marked 0 #, 1 #, 2 #, lost #
+words with 1: # # # #
+words with 2: # # # #
+words with 3: # # # #
+words with more: # # # #
+bits in words not lost: right #, mended #, spoilt #, wrong #
+bits in lost words: right #, mended #, spoilt #, wrong #
+payload bits: right #, wrong #; in lost words: right #, wrong #
+",
+        counts,
+        0,
+    );
 }

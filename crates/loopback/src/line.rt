@@ -1,6 +1,6 @@
 // The line: coded pairs to frames, which are damaged, and back.
 use crate::counts::add;
-use crate::counts::print;
+use crate::counts::print_line;
 use crate::noise::damage;
 use crate::random;
 use crate::refusing::refuse_framing;
@@ -59,22 +59,22 @@ fn carry_both(
     }
 }
 
-// Carries two super-frames, with an overhead list that is drawn, after refused calls.
-pub fn carry(sent0: &[u8], sent1: &[u8], got0: &mut [u8], got1: &mut [u8])
-    requires { ⌜ (length (now sent0) ≡ 177152) × (length (now sent1) ≡ 177152) × (length (now got0) ≡ 177152) × (length (now got1) ≡ 177152) ⌝ }
+// An overhead list that is drawn.
+fn overhead() -> [u8; 12288]
+    ensures { λ r. ⌜ Legal overheadRule r ⌝ }
 {
     let mut list = [0u8; 12288];
     random::fill(&mut list, 4294967295, 16);
+    list
+}
+
+// Carries two super-frames, after refused calls.
+pub fn carry(sent0: &[u8], sent1: &[u8], got0: &mut [u8], got1: &mut [u8])
+    requires { ⌜ (length (now sent0) ≡ 177152) × (length (now sent1) ≡ 177152) × (length (now got0) ≡ 177152) × (length (now got1) ≡ 177152) ⌝ }
+{
+    let list = overhead();
     let mut counts = [0u32; 40];
-    let mut frame = [0u8; 7424];
-    refuse_framing(&mut frame, &mut counts);
+    refuse_framing(&mut counts);
     carry_both(sent0, sent1, &list, got0, got1, &mut counts);
-    print(
-        b"\
-line: refused by number # # # # #
-overhead cells that differ #
-",
-        &counts,
-        2,
-    );
+    print_line(&counts);
 }

@@ -4,7 +4,7 @@ use crate::comparing::count_bits;
 use crate::comparing::count_payload;
 use crate::comparing::count_word;
 use crate::counts::add;
-use crate::counts::print;
+use crate::counts::print_receiver;
 use crate::random;
 use crate::refusing::refuse_receiving;
 use layout::words::held_word;
@@ -12,6 +12,25 @@ use layout::words::open_word;
 ghost use mathlib.Core.Path.{_≡_};
 ghost use Prim.Native.Nat.{_<_};
 ghost use lib.ListN.{length};
+ghost use Rattle.bits.specs.Bits.{pack};
+ghost use Rattle.bits.specs.Parts.{part};
+ghost use Rattle.ofec.specs.Receiving.{heldWord};
+
+// Word w of the last of eleven pairs.
+fn word(pairs: &[u8], pair: u32, w: usize) -> [u8; 32]
+    requires { ⌜ (length (now pairs) ≡ 5632) × (w < 32) ⌝ }
+    ensures { λ r. ⌜ r ≡ pack 32 (heldWord (part 0 5120 (now (pairs .entry))) pair (part 5120 512 (now (pairs .entry))) w) ⌝ }
+{
+    held_word(&pairs[0..5120], &pairs[5120..5632], pair, w)
+}
+
+// Word w of the newest pair of a history, as far as that pair has it: its back half.
+fn kept_word(history: &[u8], pair: u32, w: usize) -> [u8; 32]
+    requires { ⌜ (length (now history) ≡ 5120) × (w < 32) ⌝ }
+    ensures { λ r. ⌜ r ≡ pack 32 (heldWord (now (history .entry)) pair (part 4608 512 (now (history .entry))) w) ⌝ }
+{
+    held_word(history, &history[4608..5120], pair, w)
+}
 
 // Compares word w of a pair: as received with the ten pairs before it, and as the receiver's history keeps it.
 fn compare_coded(
@@ -19,16 +38,16 @@ fn compare_coded(
     pair: u32,
     sent: &[u8],
     got: &[u8],
-    kept: &[u8],
+    history: &[u8],
     mark: u8,
     counts: &mut [u32],
 )
-    requires { ⌜ (w < 32) × (length (now sent) ≡ 5632) × (length (now got) ≡ 5632) × (length (now kept) ≡ 512) × (length (now counts) ≡ 40) ⌝ }
+    requires { ⌜ (w < 32) × (length (now sent) ≡ 5632) × (length (now got) ≡ 5632) × (length (now history) ≡ 5120) × (length (now counts) ≡ 40) ⌝ }
 {
-    let s = held_word(&sent[0..5120], &sent[5120..5632], pair, w);
-    let g = held_word(&got[0..5120], &got[5120..5632], pair, w);
+    let s = word(sent, pair, w);
+    let g = word(got, pair, w);
+    let k = kept_word(history, pair, w);
     count_word(&s, &g, mark, counts);
-    let k = held_word(&sent[0..5120], kept, pair, w);
     count_bits(&s, &g, &k, mark, counts);
 }
 
@@ -48,17 +67,17 @@ fn compare(
     pair: u32,
     sent: &[u8],
     got: &[u8],
-    kept: &[u8],
+    history: &[u8],
     out: &[u8],
     marks: &[u8],
     counts: &mut [u32],
 )
-    requires { ⌜ (encoder < 2) × (pair < 336) × (length (now sent) ≡ 5632) × (length (now got) ≡ 5632) × (length (now kept) ≡ 512) × (length (now out) ≡ 444) × (length (now marks) ≡ 32) × (length (now counts) ≡ 40) ⌝ }
+    requires { ⌜ (encoder < 2) × (pair < 336) × (length (now sent) ≡ 5632) × (length (now got) ≡ 5632) × (length (now history) ≡ 5120) × (length (now out) ≡ 444) × (length (now marks) ≡ 32) × (length (now counts) ≡ 40) ⌝ }
 {
     let mut payload = [0u8; 444];
     random::fill(&mut payload, pair * 2 + encoder, 1);
     for w in 0..32 {
-        compare_coded(w, pair, sent, got, kept, marks[w], counts);
+        compare_coded(w, pair, sent, got, history, marks[w], counts);
         compare_payload(w, pair, &payload, out, marks[w], counts);
     }
 }
@@ -85,7 +104,7 @@ fn receive_next(
         k as u32,
         &sent[a..e],
         &got[a..e],
-        &history[4608..5120],
+        history,
         &out,
         &marks,
         counts,
@@ -118,19 +137,5 @@ pub fn receive(encoder: u32, sent: &[u8], got: &[u8])
     for k in 0..336 {
         receive_after(k, encoder, sent, got, &mut history, &mut counts);
     }
-    print(
-        b"\
-receiver: pairs #, calls done #, refused by number # # # # #
-words with 0 wrong bits: marked 0 #, 1 #, 2 #, lost #
-words with 1: # # # #
-words with 2: # # # #
-words with 3: # # # #
-words with more: # # # #
-bits in words not lost: right #, mended #, spoilt #, wrong #
-bits in lost words: right #, mended #, spoilt #, wrong #
-payload bits: right #, wrong #; in lost words: right #, wrong #
-",
-        &counts,
-        0,
-    );
+    print_receiver(&counts);
 }

@@ -67,12 +67,26 @@ pub fn refuse_receiving(history: &mut [u8], counts: &mut [u32])
     answered(counts, receive_spent(history));
 }
 
-// Two calls of framing, lent a frame: a sub-frame that there is not, and an illegal overhead list.
-pub fn refuse_framing(frame: &mut [u8], counts: &mut [u32])
-    requires { ⌜ (length (now frame) ≡ 7424) × (length (now counts) ≡ 40) ⌝ }
-{
+// A call of framing for a sub-frame that there is not.
+fn frame_beyond() -> Answer {
+    let list = [0u8; 12288];
+    let all = &list[..];
+    let mut frame = [0u8; 7424];
+    framing::frame(48, all, all, &mut frame)
+}
+
+// One with an illegal overhead list.
+fn frame_off_grid() -> Answer {
     let list = [16u8; 12288];
     let all = &list[..];
-    answered(counts, framing::frame(48, all, all, frame));
-    answered(counts, framing::frame(0, &all[0..6980], all, frame));
+    let mut frame = [0u8; 7424];
+    framing::frame(0, &all[0..6980], all, &mut frame)
+}
+
+// Both.
+pub fn refuse_framing(counts: &mut [u32])
+    requires { ⌜ length (now counts) ≡ 40 ⌝ }
+{
+    answered(counts, frame_beyond());
+    answered(counts, frame_off_grid());
 }

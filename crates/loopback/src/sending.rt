@@ -1,6 +1,6 @@
 // Sending: the pairs of an encoder, super-frame by super-frame.
 use crate::counts::add;
-use crate::counts::print;
+use crate::counts::print_encoder;
 use crate::random;
 use crate::refusing::refuse_encodings;
 ghost use mathlib.Core.Path.{_≡_};
@@ -51,9 +51,5 @@ pub fn encode(encoder: u32, sent: &mut [u8])
             &mut counts,
         );
     }
-    print(
-        b"encoder: pairs #, calls done #, refused by number # # # # #\n",
-        &counts,
-        0,
-    );
+    print_encoder(&counts);
 }

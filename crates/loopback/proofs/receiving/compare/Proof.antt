@@ -8,10 +8,10 @@ use Rattle.loopback.proofs.receiving.compare.Statement.{statement}
 use Rattle.loopback.proofs.receiving.compare.Tie as tie
 
 abbrev Inv-loop : tie.InvT-loop
-Inv-loop encoder pair sent got kept out marks counts₀ payload w₀ counts w = length counts ≡ 40
+Inv-loop encoder pair sent got history out marks counts₀ payload w₀ counts w = length counts ≡ 40
 
 abbrev μ-loop : tie.MeasureT-loop
-μ-loop encoder pair sent got kept out marks counts₀ payload w₀ counts w = 32 - w
+μ-loop encoder pair sent got history out marks counts₀ payload w₀ counts w = 32 - w
 
 pub compare-spec : {M : Type 1} → statement M
 compare-spec =

@@ -8,10 +8,10 @@ use Rattle.loopback.proofs.receiving.receive.Statement.{statement}
 use Rattle.loopback.proofs.receiving.receive.Tie as tie
 
 abbrev Inv-loop : tie.InvT-loop
-Inv-loop encoder sent got history₀ counts₀ k₀ t7 history counts k = (length history ≡ 5120) × (length counts ≡ 40)
+Inv-loop encoder sent got history₀ counts₀ k₀ history counts k = (length history ≡ 5120) × (length counts ≡ 40)
 
 abbrev μ-loop : tie.MeasureT-loop
-μ-loop encoder sent got history₀ counts₀ k₀ t7 history counts k = 336 - k
+μ-loop encoder sent got history₀ counts₀ k₀ history counts k = 336 - k
 
 pub receive-spec : {M : Type 1} → statement M
 receive-spec =
@@ -26,6 +26,5 @@ receive-spec =
     (λ c. search needs)  -- add-k
     (λ c. search needs)  -- loop-less
     (λ c. search needs)  -- loop-again
-    (λ c. search needs)  -- slice-aggregate-print
-    (λ c κs. search needs)  -- print-requires
+    (λ c κs. search needs)  -- print-receiver-requires
     (λ c. search needs))  -- returns

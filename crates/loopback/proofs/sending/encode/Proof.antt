@@ -8,10 +8,10 @@ use Rattle.loopback.proofs.sending.encode.Statement.{statement}
 use Rattle.loopback.proofs.sending.encode.Tie as tie
 
 abbrev Inv-loop : tie.InvT-loop
-Inv-loop encoder sent₀ history₀ counts₀ q₀ t8 sent history counts q = (length sent ≡ 177152) × (length history ≡ 5120) × (length counts ≡ 40)
+Inv-loop encoder sent₀ history₀ counts₀ q₀ sent history counts q = (length sent ≡ 177152) × (length history ≡ 5120) × (length counts ≡ 40)
 
 abbrev μ-loop : tie.MeasureT-loop
-μ-loop encoder sent₀ history₀ counts₀ q₀ t8 sent history counts q = 2 - q
+μ-loop encoder sent₀ history₀ counts₀ q₀ sent history counts q = 2 - q
 
 pub encode-spec : {M : Type 1} → statement M
 encode-spec =
@@ -33,7 +33,6 @@ encode-spec =
     (λ c. search needs)  -- add-q
     (λ c. search needs)  -- loop-less
     (λ c. search needs)  -- loop-again
-    (λ c. search needs)  -- slice-aggregate-print
-    (λ c κs. search needs)  -- print-requires
+    (λ c κs. search needs)  -- print-encoder-requires
     (λ c. search needs)  -- same-length
     (λ c. search needs))  -- returns

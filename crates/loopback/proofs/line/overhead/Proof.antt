@@ -1,0 +1,16 @@
+-- `loopback::line::overhead` meets its contract.
+-- Assumes nothing.
+use Rattle.loopback.specs.RandomLaws.{drawn-legal}
+use borrow.Author.Needs.{needs}
+use Rattle.loopback.proofs.line.overhead.Statement.{statement}
+use Rattle.loopback.proofs.line.overhead.Tie as tie
+
+ruleset kit = (needs, drawn-legal)
+
+pub overhead-spec : {M : Type 1} → statement M
+overhead-spec =
+    tie.close
+    (tie.spec
+    (λ c. search kit)  -- slice-aggregate-fill
+    (λ c κs. search kit)  -- fill-requires
+    (λ c. search kit))  -- returns
