@@ -8,17 +8,20 @@ ghost use Rattle.interleaving.specs.BlockBuffer.{Held, pairsBlock, sentBlock, r
 use crate::block::reorder;
 use crate::buffer::held_row;
 use crate::rows::block_row_of;
+use crate::rows::pairs_byte;
+use crate::rows::within;
 use interleaving::BitRow;
 use interleaving::BlockRow;
+use interleaving::SubsetBitRow;
 
-// Block C of an encoder's row R.
-fn pairs_block(pairs: &[u8], row: usize, block: usize) -> [u16; 16]
-    requires { ⌜ (length (now pairs) ≡ 10752) × (row < 42) × (block < 8) ⌝ }
-    ensures { λ b. ⌜ b ≡ pairsBlock (now (pairs .entry)) row block ⌝ }
+// Block C of a block row, from its encoder's pairs.
+fn pairs_block(pairs: &[u8], k: BlockRow, block: usize) -> [u16; 16]
+    requires { ⌜ (length (now pairs) ≡ 10752) × (k .0 < 84) × (block < 8) ⌝ }
+    ensures { λ b. ⌜ b ≡ pairsBlock (now (pairs .entry)) k block ⌝ }
 {
     let mut b = [0u16; 16];
     for r in 0..16 {
-        let at = 256 * row + 16 * r + 2 * block;
+        let at = pairs_byte(k, block, BitRow(r));
         b[r] = (bits::widen(pairs[at]) * 256 + bits::widen(pairs[at + 1])) as u16;
     }
     b
@@ -29,11 +32,10 @@ fn reordered_block(pairs0: &[u8], pairs1: &[u8], k: BlockRow, block: usize) -> [
     requires { ⌜ (length (now pairs0) ≡ 10752) × (length (now pairs1) ≡ 10752) × (k .0 < 84) × (block < 8) ⌝ }
     ensures { λ b. ⌜ b ≡ reordered (sentBlock (now (pairs0 .entry)) (now (pairs1 .entry)) k block) ⌝ }
 {
-    let row = k.0 / 2;
     if k.0 % 2 == 0 {
-        return reorder(pairs_block(pairs0, row, block));
+        return reorder(pairs_block(pairs0, k, block));
     }
-    reorder(pairs_block(pairs1, row, block))
+    reorder(pairs_block(pairs1, k, block))
 }
 
 // All blocks, reordered.
@@ -54,10 +56,10 @@ fn output_byte(blocks: &[[u16; 16]; 672], column: usize, t: usize, subset: usize
     requires { ⌜ (column < 128) × (t < 42) × (subset < 4) ⌝ }
     ensures { λ r. ⌜ r ≡ fromBits 8 (partsBit (now (blocks .entry)) column t subset) ⌝ }
 {
-    let k = block_row_of(subset, BitRow(8 * t));
+    let k = block_row_of(subset, SubsetBitRow(8 * t));
     let mut acc: u8 = 0;
     for b in 0..8 {
-        let w = held_row(blocks, k, column / 16, BitRow((8 * t + b) % 16));
+        let w = held_row(blocks, k, column / 16, within(SubsetBitRow(8 * t + b)));
         acc = acc * 2 + ((w >> (15 - column % 16)) % 2) as u8;
     }
     acc

@@ -7,20 +7,18 @@ ghost use Rattle.interleaving.specs.Block.{rowWord, restored};
 ghost use Rattle.interleaving.specs.BlockBuffer.{Held, linePlace, lineBlock, restoredBlock, heldBit};
 use crate::block::restore;
 use crate::buffer::held_row;
+use crate::rows::output_at;
 use interleaving::BitRow;
 use interleaving::BlockRow;
 
-// Bit row i of block C of a block row, as the bits have it: bit row q of a subset, t = q div 8 and b = q mod 8.
+// Bit row i of block C of a block row, as the bits have it.
 fn line_row(bits: &[u8], k: BlockRow, block: usize, i: BitRow) -> u16
     requires { ⌜ (length (now bits) ≡ 21504) × (k .0 < 84) × (block < 8) × (i .0 < 16) ⌝ }
     ensures { λ r. ⌜ r ≡ rowWord (linePlace (now (bits .entry)) k block) (i .0) ⌝ }
 {
-    let subset = k.0 / 42 * 2 + k.0 % 2;
-    let q = BitRow(k.0 % 42 / 2 * 16 + i.0);
-    let at = 32 * (q.0 / 8) + 8 * subset + q.0 % 8;
     let mut acc: u16 = 0;
     for j in 0..16 {
-        acc = acc * 2 + bits::bit(bits, 1344 * (16 * block + j) + at) as u16;
+        acc = acc * 2 + bits::bit(bits, output_at(k, i, 16 * block + j)) as u16;
     }
     acc
 }

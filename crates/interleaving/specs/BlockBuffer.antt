@@ -7,6 +7,7 @@ use lib.ListN.{length, getD}
 use Rattle.bits.specs.Bits.{bitOf, bit}
 use Rattle.interleaving.specs.declared.BlockRow.{BlockRow}
 use Rattle.interleaving.specs.declared.BitRow.{BitRow}
+use Rattle.interleaving.specs.declared.SubsetBitRow.{SubsetBitRow}
 use Rattle.interleaving.specs.Rows.{blockRow, encoderIn, rowIn, blockRowOf, within}
 use Rattle.interleaving.specs.Block.{block, reordered, restored}
 use Rattle.interleaving.specs.Positions.{outColumn, tOf, subsetOf, bOf}
@@ -25,16 +26,16 @@ heldRow blocks k C i = getD (getD blocks (8 * k .0 + C) []) (i .0) 0
 
 -- ---- from pairs to bits
 
--- The bit at (r, c) of block C of an encoder's row R, and that block.
-unfoldable pub pairsPlace : List ℕ → ℕ → ℕ → ℕ → ℕ → ℕ
-pairsPlace pairs R C r c = bit pairs (pairsBit R C r c)
+-- The bit at (r, c) of block C of block row k in its encoder's pairs, and that block.
+unfoldable pub pairsPlace : List ℕ → BlockRow → ℕ → ℕ → ℕ → ℕ
+pairsPlace pairs k C r c = bit pairs (pairsBit (rowIn k) C r c)
 
-abbrev pub pairsBlock : List ℕ → ℕ → ℕ → List ℕ
-pairsBlock pairs R C = block (pairsPlace pairs R C)
+abbrev pub pairsBlock : List ℕ → BlockRow → ℕ → List ℕ
+pairsBlock pairs k C = block (pairsPlace pairs k C)
 
--- Block C of block row k; block number x, reordered.
+-- The same by its encoder; block number x, reordered.
 unfoldable pub sentBlock : List ℕ → List ℕ → BlockRow → ℕ → List ℕ
-sentBlock pairs0 pairs1 k C = pairsBlock (pairsOf pairs0 pairs1 (encoderIn k)) (rowIn k) C
+sentBlock pairs0 pairs1 k C = pairsBlock (pairsOf pairs0 pairs1 (encoderIn k)) k C
 
 unfoldable pub reorderedBlock : List ℕ → List ℕ → ℕ → List ℕ
 reorderedBlock pairs0 pairs1 x = reordered (sentBlock pairs0 pairs1 (record { 0 = x / 8 }) (x % 8))
@@ -42,17 +43,13 @@ reorderedBlock pairs0 pairs1 x = reordered (sentBlock pairs0 pairs1 (record { 0 
 -- Output bit n by its four parts: bit row 8t+b of the subset, at a column.
 unfoldable pub partsBit : List (List ℕ) → ℕ → ℕ → ℕ → ℕ → ℕ
 partsBit blocks column t subset b =
-    let q : BitRow = record { 0 = 8 * t + b } in
+    let q : SubsetBitRow = record { 0 = 8 * t + b } in
     bitOf 16 (heldRow blocks (blockRowOf subset q) (column / 16) (within q)) (column % 16)
 
 unfoldable pub outputBit : List (List ℕ) → ℕ → ℕ
 outputBit blocks n = partsBit blocks (outColumn n) (tOf n) (subsetOf n) (bOf n)
 
 -- ---- from bits to pairs
-
--- The bit at column j of block C, in the bit row whose first output bit is this one.
-unfoldable pub lineColumn : List ℕ → ℕ → ℕ → ℕ → ℕ
-lineColumn bits first C j = bit bits (1344 * (16 * C + j) + first)
 
 -- The bit at (i, j) of block C of block row k, and that block; block number x, restored.
 unfoldable pub linePlace : List ℕ → BlockRow → ℕ → ℕ → ℕ → ℕ

@@ -14,14 +14,14 @@ use Rattle.bits.specs.BitLaws.{bit-lt, fromBits-ext, pack-ext}
 use Rattle.interleaving.specs.declared.BlockRow.{BlockRow}
 use Rattle.interleaving.specs.declared.BitRow.{BitRow}
 use Rattle.interleaving.specs.NumberLaws.{two-bytes, half-is}
-use Rattle.interleaving.specs.Rows.{blockRow, blockRowOf}
+use Rattle.interleaving.specs.Rows.{blockRow, rowIn, blockRowOf, within}
 use Rattle.interleaving.specs.Block.{bitAt, rowWord, block, sourceRow, sourceColumn, reordered, restored}
 use Rattle.interleaving.specs.BlockLaws.{bitAt-block-of, bitAt-reordered, bitAt-restored, targetRow, targetColumn, targetRow-lt, targetColumn-lt, sourceRow-lt, sourceColumn-lt}
 use Rattle.interleaving.specs.Positions.{outColumn, tOf, subsetOf, bOf, outBlockRow, placeRow, placeColumn, encoderOf, rowOf, blockOf, bitRowOf, columnOf}
 use Rattle.interleaving.specs.PositionLaws.{outputAt, outputFor, outBlockRow-lt}
 use Rattle.interleaving.specs.Interleaving.{pairsBit, pairsOf, sourceOf, interleavedBit, interleaved, outputOf, apart}
 use Rattle.interleaving.specs.InterleavingLaws.{outputFrom, outputOf-is}
-use Rattle.interleaving.specs.BlockBuffer.{Held, heldRow, pairsPlace, pairsBlock, sentBlock, reorderedBlock, partsBit, outputBit, lineColumn, linePlace, lineBlock, restoredBlock, heldBit}
+use Rattle.interleaving.specs.BlockBuffer.{Held, heldRow, pairsPlace, pairsBlock, sentBlock, reorderedBlock, partsBit, outputBit, linePlace, lineBlock, restoredBlock, heldBit}
 
 -- ---- the loop that makes the blocks: none / more / done
 
@@ -63,20 +63,19 @@ held-is f g by blocks h k C i j lk lC =
 -- ---- from pairs to bits, as code finds them
 
 -- Bit row r of a block is two bytes of the pairs.
-pub pairs-row : (s : List ℕ) (R C r x y : ℕ) → x ≡ getD s (256 * R + 16 * r + 2 * C) 0 → y ≡ getD s (256 * R + 16 * r + 2 * C + 1) 0 → x < 256 → y < 256
-    → x * 256 + y ≡ rowWord (pairsPlace s R C) r
+pub pairs-row : (s : List ℕ) (k : BlockRow) (C r at x y : ℕ) → at * 8 ≡ pairsBit (rowIn k) C r 0 → x ≡ getD s at 0 → y ≡ getD s (at + 1) 0 → x < 256 → y < 256
+    → x * 256 + y ≡ rowWord (pairsPlace s k C) r
 unfolding rowWord pairsPlace pairsBit
-pairs-row s R C r x y p q lx ly =
-    two-bytes s (256 * R + 16 * r + 2 * C) x y (pairsPlace s R C r) p q lx ly (λ k l. ap (bit s) (omega arith))
+pairs-row s k C r at x y e p q lx ly = two-bytes s at x y (pairsPlace s k C r) p q lx ly (λ j l. ap (bit s) (omega arith))
 
 -- By its encoder.
 
-pub sent-0 : (pairs0 pairs1 : List ℕ) (k : BlockRow) (C : ℕ) (b r : List ℕ) → k .0 % 2 ≡ 0 → b ≡ pairsBlock pairs0 (k .0 / 2) C → r ≡ reordered b
+pub sent-0 : (pairs0 pairs1 : List ℕ) (k : BlockRow) (C : ℕ) (b r : List ℕ) → k .0 % 2 ≡ 0 → b ≡ pairsBlock pairs0 k C → r ≡ reordered b
     → r ≡ reordered (sentBlock pairs0 pairs1 k C)
 unfolding sentBlock pairsOf
 sent-0 pairs0 pairs1 k C b r e p q = q ∙ ap reordered (p ∙ simp (eq-eqb (k .0 % 2) 0 e))
 
-pub sent-1 : (pairs0 pairs1 : List ℕ) (k : BlockRow) (C : ℕ) (b r : List ℕ) → (k .0 % 2 ≡ 0 → ⊥) → b ≡ pairsBlock pairs1 (k .0 / 2) C → r ≡ reordered b
+pub sent-1 : (pairs0 pairs1 : List ℕ) (k : BlockRow) (C : ℕ) (b r : List ℕ) → (k .0 % 2 ≡ 0 → ⊥) → b ≡ pairsBlock pairs1 k C → r ≡ reordered b
     → r ≡ reordered (sentBlock pairs0 pairs1 k C)
 unfolding sentBlock pairsOf
 sent-1 pairs0 pairs1 k C b r e p q = q ∙ ap reordered (p ∙ simp (ne-eqb (k .0 % 2) 0 e))
@@ -86,12 +85,12 @@ unfolding reorderedBlock
 reordered-block pairs0 pairs1 x b e = e
 
 -- Bit rows 8t to 8t+7 of a subset stand in one block row.
-pub parts-bit : (blocks : List (List ℕ)) (column t subset b : ℕ) (k : BlockRow) (w : ℕ) → k ≡ blockRowOf subset (record { 0 = 8 * t }) → b < 8
-    → w ≡ heldRow blocks k (column / 16) (record { 0 = (8 * t + b) % 16 }) → w / 2 ^ (15 - column % 16) % 2 ≡ partsBit blocks column t subset b
+pub parts-bit : (blocks : List (List ℕ)) (column t subset b : ℕ) (k : BlockRow) (i : BitRow) (w : ℕ) → k ≡ blockRowOf subset (record { 0 = 8 * t }) → b < 8
+    → i ≡ within (record { 0 = 8 * t + b }) → w ≡ heldRow blocks k (column / 16) i → w / 2 ^ (15 - column % 16) % 2 ≡ partsBit blocks column t subset b
 unfolding partsBit bitOf
-parts-bit blocks column t subset b k w p l e =
+parts-bit blocks column t subset b k i w p l q e =
     let same : 8 * t / 16 ≡ (8 * t + b) / 16 = omega arith in
-    rw (e, p, same)
+    rw (e, p, q, same)
 
 -- The eight output bits of a byte are of one column, t and subset.
 pub output-byte : (blocks : List (List ℕ)) (j v : ℕ) → v ≡ fromBits 8 (partsBit blocks (j / 168) (j % 168 / 4) (j % 4)) → v ≡ byteOf (outputBit blocks) j
@@ -113,7 +112,7 @@ module _ (pairs0 pairs1 : List ℕ) (blocks : List (List ℕ)) (h : Held (reorde
   unfolding sentBlock pairsPlace
   reordered-place k C i j li lj =
       bitAt-reordered (sentBlock pairs0 pairs1 k C) i j li lj
-      ∙ bitAt-block-of (pairsPlace (pairsOf pairs0 pairs1 (k .0 % 2)) (k .0 / 2) C)
+      ∙ bitAt-block-of (pairsPlace (pairsOf pairs0 pairs1 (k .0 % 2)) k C)
       (λ r c. bit-lt (pairsOf pairs0 pairs1 (k .0 % 2)) (pairsBit (k .0 / 2) C r c))
       (sourceRow i j) (sourceColumn i j) (sourceRow-lt i j) (sourceColumn-lt i j)
 
@@ -140,28 +139,9 @@ from-at : (e m : ℕ)
 unfolding outputFrom outputFor
 from-at e m = refl
 
-pub line-bit : (bits : List ℕ) (first C j v : ℕ) → v ≡ bit bits (1344 * (16 * C + j) + first) → v ≡ lineColumn bits first C j
-unfolding lineColumn
-line-bit bits first C j v e = e
-
--- The first output bit of bit row i of block row k.
-pub line-row : (bits : List ℕ) (k : BlockRow) (i : BitRow) (C w : ℕ)
-    → w ≡ fromBits 16 (lineColumn bits (32 * ((k .0 % 42 / 2 * 16 + i .0) / 8) + 8 * (k .0 / 42 * 2 + k .0 % 2) + (k .0 % 42 / 2 * 16 + i .0) % 8) C)
-    → w ≡ rowWord (linePlace bits k C) (i .0)
-unfolding rowWord lineColumn linePlace outputAt
-line-row bits k i C w e =
-    e
-    ∙ fromBits-ext 16 (lineColumn bits (32 * (q / 8) + 8 * subset + q % 8) C) (linePlace bits k C (i .0))
-    (λ j l. ap (λ n. bit bits n % 2) (sum (1344 * (16 * C + j)) (32 * (q / 8)) (8 * subset) (q % 8)))
-  where
-    q : ℕ
-    q = k .0 % 42 / 2 * 16 + i .0
-
-    subset : ℕ
-    subset = k .0 / 42 * 2 + k .0 % 2
-
-    sum : (a b c d : ℕ) → a + (b + c + d) ≡ a + b + c + d
-    sum a b c d = omega arith
+pub line-bit : (bits : List ℕ) (k : BlockRow) (i : BitRow) (C j n v : ℕ) → n ≡ outputAt k i (16 * C + j) → v ≡ bit bits n → v ≡ linePlace bits k C (i .0) j
+unfolding linePlace
+line-bit bits k i C j n v p q = q ∙ ap (bit bits) p
 
 pub restored-block : (bits : List ℕ) (x : ℕ) (b : List ℕ) → b ≡ restored (lineBlock bits (record { 0 = x / 8 }) (x % 8)) → b ≡ restoredBlock bits x
 unfolding restoredBlock

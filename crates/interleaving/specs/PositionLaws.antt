@@ -5,6 +5,7 @@ use Prim.Native.Nat.{ℕ, _+_, _-_, _*_, _/_, _%_, _<_}
 use native.Mathlib.Omega.{arith}
 use Rattle.interleaving.specs.declared.BlockRow.{BlockRow}
 use Rattle.interleaving.specs.declared.BitRow.{BitRow}
+use Rattle.interleaving.specs.declared.SubsetBitRow.{SubsetBitRow}
 use Rattle.interleaving.specs.Rows.{blockRow, firstOf}
 use Rattle.interleaving.specs.SubsetLaws.{firstOf-is, subsetIn, bitRowIn}
 use Rattle.interleaving.specs.Block.{sourceRow, sourceColumn}
@@ -35,6 +36,15 @@ module _ (n A B D E : ℕ) (lB : B < 42) (lD : D < 4) (lE : E < 8) (is : n ≡ 1
 -- Of bit row i of a block row.
 unfoldable pub outputAt : BlockRow → BitRow → ℕ → ℕ
 outputAt k i column = 1344 * column + 32 * (bitRowIn k i .0 / 8) + 8 * subsetIn k + bitRowIn k i .0 % 8
+
+-- As code finds it, from the bit row of the subset.
+pub output-is : (k : BlockRow) (i : BitRow) (column : ℕ) (q : SubsetBitRow) (s : ℕ) → q ≡ bitRowIn k i → s ≡ subsetIn k
+    → 1344 * column + 32 * (q .0 / 8) + 8 * s + q .0 % 8 ≡ outputAt k i column
+unfolding outputAt
+output-is k i column q s p e = rw (p, e)
+
+pub output-lt : (column : ℕ) (q : SubsetBitRow) (s : ℕ) → column < 128 → q .0 < 336 → s < 4 → 1344 * column + 32 * (q .0 / 8) + 8 * s + q .0 % 8 < 172032
+output-lt column q s lc lq ls = omega arith
 
 first-in : (k : ℕ) → k < 84 → firstOf (k / 42 * 2 + k % 2) ≡ k / 42 * 42 + k % 2
 first-in k l =

@@ -28,6 +28,7 @@ output-byte-spec =
     (λ c. search kit)  -- loop-holds
     (λ c. search kit)  -- mul-t13
     (λ c. search kit)  -- add-t14
+    (λ c κs. search kit)  -- within-requires
     (λ c κs. search kit)  -- held-row-requires
     (λ c. search kit)  -- mul-acc
     (λ c. search kit)  -- sub-acc

@@ -12,10 +12,10 @@ use Rattle.blocks.proofs.joining.pairs_block.Tie as tie
 ruleset kit = (needs, fill, pairs-row)
 
 abbrev Inv-loop : tie.InvT-loop
-Inv-loop pairs row block b₀ r₀ b r = Filling (rowWord (pairsPlace pairs row block)) 16 r b
+Inv-loop pairs k block b₀ r₀ b r = Filling (rowWord (pairsPlace pairs k block)) 16 r b
 
 abbrev μ-loop : tie.MeasureT-loop
-μ-loop pairs row block b₀ r₀ b r = 16 - r
+μ-loop pairs k block b₀ r₀ b r = 16 - r
 
 pub pairs-block-spec : {M : Type 1} → statement M
 unfolding block
@@ -25,11 +25,7 @@ pairs-block-spec =
     Inv-loop
     μ-loop
     (λ c. search kit)  -- loop-holds
-    (λ c. search kit)  -- mul-at
-    (λ c. search kit)  -- mul-at-2
-    (λ c. search kit)  -- add-at
-    (λ c. search kit)  -- mul-at-3
-    (λ c. search kit)  -- add-at-2
+    (λ c κs. search kit)  -- pairs-byte-requires
     (λ c. search kit)  -- shared-slice-read-widen
     (λ c κs. search kit)  -- widen-requires
     (λ c. search kit)  -- mul-b
