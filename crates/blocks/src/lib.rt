@@ -1,6 +1,2 @@
-// The work of the interleaver on the blocks of a buffer; the calls are in `interleaver`.
+// The work of the interleaver on one block; that on the block rows of a buffer is in `blockrows`, and the calls are in `interleaver`.
 pub mod block;
-mod buffer;
-pub mod joining;
-pub mod rows;
-pub mod taking_apart;

@@ -1,10 +1,10 @@
 // The interleaver: 21 pairs of each encoder to the bits of a buffer, and back.
 ghost use mathlib.Core.Path.{_≡_};
 ghost use Rattle.interleaving.specs.Calls.{joined, interleave, parted, deinterleave};
-use blocks::joining::reordered_blocks;
-use blocks::joining::write_bits;
-use blocks::taking_apart::restored_blocks;
-use blocks::taking_apart::write_pairs;
+use blockrows::joining::reordered_rows;
+use blockrows::joining::write_bits;
+use blockrows::taking_apart::restored_rows;
+use blockrows::taking_apart::write_pairs;
 use calls::Answer;
 use calls::Refusal;
 
@@ -21,8 +21,8 @@ pub fn interleave(pairs0: &[u8], pairs1: &[u8], bits: &mut [u8]) -> Answer
     if bits.len() != 21504 {
         return Answer::Refused(Refusal::Misfit);
     }
-    let blocks = reordered_blocks(pairs0, pairs1);
-    write_bits(&blocks, bits);
+    let rows = reordered_rows(pairs0, pairs1);
+    write_bits(&rows, bits);
     Answer::Done(0)
 }
 
@@ -39,8 +39,8 @@ pub fn deinterleave(bits: &[u8], pairs0: &mut [u8], pairs1: &mut [u8]) -> Answer
     if pairs1.len() != 10752 {
         return Answer::Refused(Refusal::Misfit);
     }
-    let blocks = restored_blocks(bits);
-    write_pairs(&blocks, 0, pairs0);
-    write_pairs(&blocks, 1, pairs1);
+    let rows = restored_rows(bits);
+    write_pairs(&rows, 0, pairs0);
+    write_pairs(&rows, 1, pairs1);
     Answer::Done(0)
 }

@@ -1,69 +1,99 @@
--- The 672 blocks of a buffer as the calls hold them between reading and writing: block C of block row k is number 8k+C.
+-- The 84 block rows of a buffer as the calls hold them between reading and writing: the eight blocks of a block row side by side, word
+-- i of block C being number 8i+C.
 -- Assumes nothing.
-use mathlib.Core.Path.{_≡_}
+use mathlib.Core.Bool.{cond}
 use mathlib.Core.List.{List, []}
-use Prim.Native.Nat.{ℕ, _+_, _*_, _/_, _%_, _<_, _≤_}
-use lib.ListN.{length, getD}
-use Rattle.bits.specs.Bits.{bitOf, bit}
+use Prim.Native.Nat.{ℕ, _+_, _*_, _/_, _%_}
+use lib.Dec.{eqb}
+use lib.ListN.{getD}
+use Rattle.bits.specs.Bits.{bitOf, bit, fromBits, byteOf}
+use Rattle.bits.specs.Lists.{tabulate}
 use Rattle.interleaving.specs.declared.BlockRow.{BlockRow}
-use Rattle.interleaving.specs.declared.BitRow.{BitRow}
+use Rattle.interleaving.specs.declared.SubsetBitRow.{SubsetBitRow}
 use Rattle.interleaving.specs.Rows.{blockRow, encoderIn, rowIn, blockRowOf, within}
 use Rattle.interleaving.specs.Block.{block, reordered, restored}
+use Rattle.interleaving.specs.Moves.{transposed}
 use Rattle.interleaving.specs.Positions.{outColumn, tOf, subsetOf, bOf}
 use Rattle.interleaving.specs.PositionLaws.{outputAt}
 use Rattle.interleaving.specs.Interleaving.{pairsBit, pairsOf}
 
--- The first x of 672 blocks are f's.
-pub record Held (f : ℕ → List ℕ) (x : ℕ) (blocks : List (List ℕ)) : Type 0 where
-  pub upto : x ≤ 672
-  pub long : length blocks ≡ 672
-  pub at : (y : ℕ) → y < x → getD blocks y [] ≡ f y
+-- Word x of the block row whose blocks f gives, and that block row.
+unfoldable pub laidWord : (ℕ → List ℕ) → ℕ → ℕ
+laidWord f x = getD (f (x % 8)) (x / 8) 0
 
--- Bit row i of block C of block row k.
-unfoldable pub heldRow : List (List ℕ) → BlockRow → ℕ → BitRow → ℕ
-heldRow blocks k C i = getD (getD blocks (8 * k .0 + C) []) (i .0) 0
+unfoldable pub laid : (ℕ → List ℕ) → List ℕ
+laid f = tabulate 128 (laidWord f)
+
+-- Word x of a block row into which block C was put, and that block row.
+unfoldable pub laidAt : List ℕ → ℕ → List ℕ → ℕ → ℕ
+laidAt row C b x = cond (eqb (x % 8) C) (getD b (x / 8) 0) (getD row x 0)
+
+unfoldable pub laidIn : List ℕ → ℕ → List ℕ → List ℕ
+laidIn row C b = tabulate 128 (laidAt row C b)
+
+-- Word x of block row k.
+unfoldable pub heldWord : List (List ℕ) → BlockRow → ℕ → ℕ
+heldWord rows k x = getD (getD rows (k .0) []) x 0
 
 -- ---- from pairs to bits
 
--- The bit at (r, c) of block C of an encoder's row R, and that block.
-unfoldable pub pairsPlace : List ℕ → ℕ → ℕ → ℕ → ℕ → ℕ
-pairsPlace pairs R C r c = bit pairs (pairsBit R C r c)
+-- The bit at (r, c) of block C of block row k in its encoder's pairs, and that block.
+unfoldable pub pairsPlace : List ℕ → BlockRow → ℕ → ℕ → ℕ → ℕ
+pairsPlace pairs k C r c = bit pairs (pairsBit (rowIn k) C r c)
 
-abbrev pub pairsBlock : List ℕ → ℕ → ℕ → List ℕ
-pairsBlock pairs R C = block (pairsPlace pairs R C)
+abbrev pub pairsBlock : List ℕ → BlockRow → ℕ → List ℕ
+pairsBlock pairs k C = block (pairsPlace pairs k C)
 
--- Block C of block row k; block number x, reordered.
+-- The same by its encoder; that block reordered, by columns; and block row number k of such blocks.
 unfoldable pub sentBlock : List ℕ → List ℕ → BlockRow → ℕ → List ℕ
-sentBlock pairs0 pairs1 k C = pairsBlock (pairsOf pairs0 pairs1 (encoderIn k)) (rowIn k) C
+sentBlock pairs0 pairs1 k C = pairsBlock (pairsOf pairs0 pairs1 (encoderIn k)) k C
 
-unfoldable pub reorderedBlock : List ℕ → List ℕ → ℕ → List ℕ
-reorderedBlock pairs0 pairs1 x = reordered (sentBlock pairs0 pairs1 (record { 0 = x / 8 }) (x % 8))
+unfoldable pub reorderedBlock : List ℕ → List ℕ → BlockRow → ℕ → List ℕ
+reorderedBlock pairs0 pairs1 k C = transposed (reordered (sentBlock pairs0 pairs1 k C))
+
+unfoldable pub reorderedRow : List ℕ → List ℕ → ℕ → List ℕ
+reorderedRow pairs0 pairs1 k = laid (reorderedBlock pairs0 pairs1 (record { 0 = k }))
 
 -- Output bit n by its four parts: bit row 8t+b of the subset, at a column.
 unfoldable pub partsBit : List (List ℕ) → ℕ → ℕ → ℕ → ℕ → ℕ
-partsBit blocks column t subset b =
-    let q : BitRow = record { 0 = 8 * t + b } in
-    bitOf 16 (heldRow blocks (blockRowOf subset q) (column / 16) (within q)) (column % 16)
+partsBit rows column t subset b =
+    let q : SubsetBitRow = record { 0 = 8 * t + b } in
+    bitOf 16 (heldWord rows (blockRowOf subset q) (8 * (column % 16) + column / 16)) (within q .0)
 
 unfoldable pub outputBit : List (List ℕ) → ℕ → ℕ
-outputBit blocks n = partsBit blocks (outColumn n) (tOf n) (subsetOf n) (bOf n)
+outputBit rows n = partsBit rows (outColumn n) (tOf n) (subsetOf n) (bOf n)
+
+-- Byte y of the output bits of a column, of which there are 1,344.
+unfoldable pub columnByte : List (List ℕ) → ℕ → ℕ → ℕ
+columnByte rows column y = byteOf (outputBit rows) (column * 168 + y)
 
 -- ---- from bits to pairs
 
--- The bit at column j of block C, in the bit row whose first output bit is this one.
-unfoldable pub lineColumn : List ℕ → ℕ → ℕ → ℕ → ℕ
-lineColumn bits first C j = bit bits (1344 * (16 * C + j) + first)
-
--- The bit at (i, j) of block C of block row k, and that block; block number x, restored.
+-- The bit at (i, j) of block C of block row k, and that block.
 unfoldable pub linePlace : List ℕ → BlockRow → ℕ → ℕ → ℕ → ℕ
 linePlace bits k C i j = bit bits (outputAt k (record { 0 = i }) (16 * C + j))
 
 abbrev pub lineBlock : List ℕ → BlockRow → ℕ → List ℕ
 lineBlock bits k C = block (linePlace bits k C)
 
-unfoldable pub restoredBlock : List ℕ → ℕ → List ℕ
-restoredBlock bits x = restored (lineBlock bits (record { 0 = x / 8 }) (x % 8))
+-- The same by columns: the bit at bit row i of column j, and that block.
+unfoldable pub lineColumn : List ℕ → BlockRow → ℕ → ℕ → ℕ → ℕ
+lineColumn bits k C j i = linePlace bits k C i j
+
+abbrev pub lineColumns : List ℕ → BlockRow → ℕ → List ℕ
+lineColumns bits k C = block (lineColumn bits k C)
+
+-- The block restored, and block row number k of such blocks.
+unfoldable pub restoredBlock : List ℕ → BlockRow → ℕ → List ℕ
+restoredBlock bits k C = restored (lineBlock bits k C)
+
+unfoldable pub restoredRow : List ℕ → ℕ → List ℕ
+restoredRow bits k = laid (restoredBlock bits (record { 0 = k }))
+
+-- Byte y of block row k, two bytes a word.
+unfoldable pub rowByte : List (List ℕ) → BlockRow → ℕ → ℕ
+rowByte rows k y = fromBits 8 (λ c. bitOf 16 (heldWord rows k (y / 2)) (8 * (y % 2) + c))
 
 -- Bit m of encoder e's pairs.
 unfoldable pub heldBit : List (List ℕ) → ℕ → ℕ → ℕ
-heldBit blocks e m = bitOf 16 (heldRow blocks (blockRow e (m / 2048)) (m % 128 / 16) (record { 0 = m % 2048 / 128 })) (m % 16)
+heldBit rows e m = bitOf 16 (heldWord rows (blockRow e (m / 2048)) (8 * (m % 2048 / 128) + m % 128 / 16)) (m % 16)

@@ -1,210 +1,238 @@
--- Laws of the blocks of a buffer.
+-- Laws of the block rows of a buffer.
 -- Assumes nothing.
 use mathlib.Core.Path.{_≡_, refl, sym, ap, ap₂, _∙_}
-use mathlib.Core.List.{List, []}
-use mathlib.Core.Logic.{_≢_}
+use mathlib.Core.List.{List}
 use Prim.Native.Nat.{ℕ, _+_, _-_, _*_, _/_, _%_, _^_, _<_, _≤_}
 use native.Mathlib.Omega.{arith}
-use borrow.Author.Count.{below-none, below-more}
 use borrow.Author.Tests.{eq-eqb, ne-eqb}
+use borrow.Rule.Slice.PartMut.{putMid}
 use lib.ListN.{length, getD, set, length-set}
-use lib.Seq.{getD-set-same, getD-set-other}
 use Rattle.bits.specs.Bits.{bitOf, bit, fromBits, byteOf, pack}
 use Rattle.bits.specs.BitLaws.{bit-lt, fromBits-ext, pack-ext}
+use Rattle.bits.specs.Filling.{Filling, fill-none, fill-more, fill-done, Blocks, blocks-next}
+use Rattle.bits.specs.ListLaws.{getD-tabulate, tabulate-ext}
+use Rattle.bits.specs.Lists.{tabulate}
 use Rattle.interleaving.specs.declared.BlockRow.{BlockRow}
-use Rattle.interleaving.specs.declared.BitRow.{BitRow}
 use Rattle.interleaving.specs.NumberLaws.{two-bytes, half-is}
-use Rattle.interleaving.specs.Rows.{blockRow, blockRowOf}
+use Rattle.interleaving.specs.Rows.{blockRow, rowIn, blockRowOf}
 use Rattle.interleaving.specs.Block.{bitAt, rowWord, block, sourceRow, sourceColumn, reordered, restored}
-use Rattle.interleaving.specs.BlockLaws.{bitAt-block-of, bitAt-reordered, bitAt-restored, targetRow, targetColumn, targetRow-lt, targetColumn-lt, sourceRow-lt, sourceColumn-lt}
-use Rattle.interleaving.specs.Positions.{outColumn, tOf, subsetOf, bOf, outBlockRow, placeRow, placeColumn, encoderOf, rowOf, blockOf, bitRowOf, columnOf}
-use Rattle.interleaving.specs.PositionLaws.{outputAt, outputFor, outBlockRow-lt}
+use Rattle.interleaving.specs.BlockLaws.{bitAt-block-of, block-ext, bitAt-reordered, bitAt-restored, targetRow, targetColumn, targetRow-lt, targetColumn-lt, sourceRow-lt, sourceColumn-lt}
+use Rattle.interleaving.specs.Moves.{moved, transposed}
+use Rattle.interleaving.specs.MoveLaws.{transposed-bit}
+use Rattle.interleaving.specs.Positions.{outColumn, tOf, bOf, outBlockRow, placeRow, placeColumn, encoderOf, rowOf, blockOf, bitRowOf, columnOf}
+use Rattle.interleaving.specs.PositionLaws.{part-column, part-t, part-subset, part-b, outputAt, output-upper, output-lower, outputFor, outBlockRow-lt}
 use Rattle.interleaving.specs.Interleaving.{pairsBit, pairsOf, sourceOf, interleavedBit, interleaved, outputOf, apart}
 use Rattle.interleaving.specs.InterleavingLaws.{outputFrom, outputOf-is}
-use Rattle.interleaving.specs.BlockBuffer.{Held, heldRow, pairsPlace, pairsBlock, sentBlock, reorderedBlock, partsBit, outputBit, lineColumn, linePlace, lineBlock, restoredBlock, heldBit}
+use Rattle.interleaving.specs.BlockBuffer.{laidWord, laid, heldWord, pairsPlace, pairsBlock, sentBlock, reorderedBlock, reorderedRow, partsBit, outputBit, columnByte, linePlace, lineBlock, lineColumn, lineColumns, restoredBlock, restoredRow, rowByte, heldBit}
+use Rattle.interleaving.specs.Laying.{Held}
 
--- ---- the loop that makes the blocks: none / more / done
+-- ---- a word of the buffer by its block row, block and number
 
-pub held-none : (f : ℕ → List ℕ) (blocks : List (List ℕ)) → length blocks ≡ 672 → Held f 0 blocks
-held-none f blocks e = record { upto = omega arith; long = e; at = below-none (λ y. getD blocks y [] ≡ f y) }
+word-block : (i C : ℕ) → C < 8 → (8 * i + C) % 8 ≡ C
+word-block i C l = omega arith
 
-pub held-more : {f : ℕ → List ℕ} {x : ℕ} {blocks : List (List ℕ)} (b : List ℕ) → Held f x blocks → x < 672 → b ≡ f x → Held f (x + 1) (set blocks x b)
-held-more {f} {x} {blocks} b h l e =
-    record {
-      upto = omega arith;
-      long = length-set blocks x b ∙ h .long;
-      at = below-more (λ y. getD (set blocks x b) y [] ≡ f y) x
-          (λ y ly. let ne : y ≢ x = omega arith in getD-set-other blocks x y b [] ne ∙ h .at y ly)
-          (getD-set-same blocks x b [] (omega (arith, h .long)) ∙ e);
-    }
+word-number : (i C : ℕ) → C < 8 → (8 * i + C) / 8 ≡ i
+word-number i C l = omega arith
 
-pub held-done : {f : ℕ → List ℕ} {x : ℕ} {blocks : List (List ℕ)} → Held f x blocks → 672 ≤ x → Held f 672 blocks
-held-done h l = record { upto = omega arith; long = h .long; at = λ y ly. h .at y (omega arith) }
-
-pub ruleset hold = (held-none, held-more, held-done)
-
--- ---- a block of the buffer by its block row
-
-number-row : (k C : ℕ) → C < 8 → (8 * k + C) / 8 ≡ k
-number-row k C l = omega arith
-
-number-block : (k C : ℕ) → C < 8 → (8 * k + C) % 8 ≡ C
-number-block k C l = omega arith
-
--- Where the number of a block is used by its block row and C.
-held-is : (f : ℕ → List ℕ) (g : BlockRow → ℕ → List ℕ) → ((x : ℕ) → f x ≡ g (record { 0 = x / 8 }) (x % 8)) → (blocks : List (List ℕ)) → Held f 672 blocks
-    → (k : BlockRow) (C : ℕ) (i : BitRow) (j : ℕ) → k .0 < 84 → C < 8 → bitOf 16 (heldRow blocks k C i) j ≡ bitAt (g k C) (i .0) j
-unfolding heldRow bitAt
-held-is f g by blocks h k C i j lk lC =
-    ap (λ b. bitOf 16 (getD b (i .0) 0) j)
-    (h .at (8 * k .0 + C) (omega arith) ∙ by (8 * k .0 + C)
-    ∙ ap₂ (λ x y. g (record { 0 = x }) y) (number-row (k .0) C lC) (number-block (k .0) C lC))
+held-is : (f : ℕ → List ℕ) (g : BlockRow → ℕ → List ℕ) → ((x : ℕ) → f x ≡ laid (g (record { 0 = x }))) → (rows : List (List ℕ))
+    → Held f 84 rows
+    → (k : BlockRow) (C i j : ℕ) → k .0 < 84 → C < 8 → i < 16 → bitOf 16 (heldWord rows k (8 * i + C)) j ≡ bitAt (g k C) i j
+unfolding heldWord bitAt laid laidWord
+held-is f g by rows h k C i j lk lC li =
+    ap (λ r. bitOf 16 (getD r (8 * i + C) 0) j) (h .at (k .0) lk ∙ by (k .0))
+    ∙ ap (λ w. bitOf 16 w j)
+    (getD-tabulate 128 (laidWord (g k)) (8 * i + C) (omega arith)
+    ∙ ap₂ (λ x y. getD (g k x) y 0) (word-block i C lC) (word-number i C lC))
 
 -- ---- from pairs to bits, as code finds them
 
 -- Bit row r of a block is two bytes of the pairs.
-pub pairs-row : (s : List ℕ) (R C r x y : ℕ) → x ≡ getD s (256 * R + 16 * r + 2 * C) 0 → y ≡ getD s (256 * R + 16 * r + 2 * C + 1) 0 → x < 256 → y < 256
-    → x * 256 + y ≡ rowWord (pairsPlace s R C) r
+pub pairs-row : (s : List ℕ) (k : BlockRow) (C r at x y : ℕ) → at * 8 ≡ pairsBit (rowIn k) C r 0 → x ≡ getD s at 0
+    → y ≡ getD s (at + 1) 0 → x < 256 → y < 256
+    → x * 256 + y ≡ rowWord (pairsPlace s k C) r
 unfolding rowWord pairsPlace pairsBit
-pairs-row s R C r x y p q lx ly =
-    two-bytes s (256 * R + 16 * r + 2 * C) x y (pairsPlace s R C r) p q lx ly (λ k l. ap (bit s) (omega arith))
+pairs-row s k C r at x y e p q lx ly =
+    two-bytes s at (at + 1) x y (pairsPlace s k C r) p q lx ly (λ j l. ap (bit s) (omega arith)) (λ j l. ap (bit s) (omega arith))
 
 -- By its encoder.
-
-pub sent-0 : (pairs0 pairs1 : List ℕ) (k : BlockRow) (C : ℕ) (b r : List ℕ) → k .0 % 2 ≡ 0 → b ≡ pairsBlock pairs0 (k .0 / 2) C → r ≡ reordered b
-    → r ≡ reordered (sentBlock pairs0 pairs1 k C)
+pub sent-0 : (pairs0 pairs1 : List ℕ) (k : BlockRow) (C : ℕ) (b : List ℕ) → k .0 % 2 ≡ 0 → b ≡ pairsBlock pairs0 k C
+    → b ≡ sentBlock pairs0 pairs1 k C
 unfolding sentBlock pairsOf
-sent-0 pairs0 pairs1 k C b r e p q = q ∙ ap reordered (p ∙ simp (eq-eqb (k .0 % 2) 0 e))
+sent-0 pairs0 pairs1 k C b e p = p ∙ simp (eq-eqb (k .0 % 2) 0 e)
 
-pub sent-1 : (pairs0 pairs1 : List ℕ) (k : BlockRow) (C : ℕ) (b r : List ℕ) → (k .0 % 2 ≡ 0 → ⊥) → b ≡ pairsBlock pairs1 (k .0 / 2) C → r ≡ reordered b
-    → r ≡ reordered (sentBlock pairs0 pairs1 k C)
+pub sent-1 : (pairs0 pairs1 : List ℕ) (k : BlockRow) (C : ℕ) (b : List ℕ) → (k .0 % 2 ≡ 0 → ⊥) → b ≡ pairsBlock pairs1 k C
+    → b ≡ sentBlock pairs0 pairs1 k C
 unfolding sentBlock pairsOf
-sent-1 pairs0 pairs1 k C b r e p q = q ∙ ap reordered (p ∙ simp (ne-eqb (k .0 % 2) 0 e))
+sent-1 pairs0 pairs1 k C b e p = p ∙ simp (ne-eqb (k .0 % 2) 0 e)
 
-pub reordered-block : (pairs0 pairs1 : List ℕ) (x : ℕ) (b : List ℕ) → b ≡ reordered (sentBlock pairs0 pairs1 (record { 0 = x / 8 }) (x % 8)) → b ≡ reorderedBlock pairs0 pairs1 x
+pub reordered-block : (pairs0 pairs1 : List ℕ) (k : BlockRow) (C : ℕ) (b r : List ℕ) → b ≡ sentBlock pairs0 pairs1 k C
+    → r ≡ transposed (reordered b)
+    → r ≡ reorderedBlock pairs0 pairs1 k C
 unfolding reorderedBlock
-reordered-block pairs0 pairs1 x b e = e
+reordered-block pairs0 pairs1 k C b r p q = q ∙ ap (λ s. transposed (reordered s)) p
 
--- Bit rows 8t to 8t+7 of a subset stand in one block row.
-pub parts-bit : (blocks : List (List ℕ)) (column t subset b : ℕ) (k : BlockRow) (w : ℕ) → k ≡ blockRowOf subset (record { 0 = 8 * t }) → b < 8
-    → w ≡ heldRow blocks k (column / 16) (record { 0 = (8 * t + b) % 16 }) → w / 2 ^ (15 - column % 16) % 2 ≡ partsBit blocks column t subset b
-unfolding partsBit bitOf
-parts-bit blocks column t subset b k w p l e =
-    let same : 8 * t / 16 ≡ (8 * t + b) / 16 = omega arith in
-    rw (e, p, same)
+-- Byte y of the eight of a column in which block row x of each subset stands: half y div 4 of a word of subset y mod 4.
+pub eight-byte : (rows : List (List ℕ)) (column x y : ℕ) (k : BlockRow) (w : ℕ) → k ≡ blockRowOf (y % 4) (record { 0 = 16 * x })
+    → w ≡ heldWord rows k (8 * (column % 16) + column / 16) → w < 2 ^ 16 → x < 21 → y < 8
+    → w / 2 ^ (8 - 8 * (y / 4)) % 256 ≡ columnByte rows column (x * 8 + y)
+unfolding columnByte byteOf outputBit partsBit
+eight-byte rows column x y k w p q lw lx ly =
+    half-is w (y / 4) lw (omega arith)
+    ∙ fromBits-ext 8 (λ c. bitOf 16 w (8 * (y / 4) + c)) (λ c. outputBit rows ((column * 168 + (x * 8 + y)) * 8 + c))
+    (λ c l. ap (λ b. b % 2) (here c l))
+  where
+    here : (c : ℕ) → c < 8 → bitOf 16 w (8 * (y / 4) + c) ≡ outputBit rows ((column * 168 + (x * 8 + y)) * 8 + c)
+    here c l =
+        let n : (column * 168 + (x * 8 + y)) * 8 + c ≡ 1344 * column + 32 * (2 * x + y / 4) + 8 * (y % 4) + c = omega arith in
+        let t : 2 * x + y / 4 < 42 = omega arith in
+        let s : y % 4 < 4 = omega arith in
+        let row : 16 * x / 16 ≡ (8 * (2 * x + y / 4) + c) / 16 = omega arith in
+        let bit-row : 8 * (y / 4) + c ≡ (8 * (2 * x + y / 4) + c) % 16 = omega arith in
+        rw (
+          part-column _ column (2 * x + y / 4) (y % 4) c t s l n,
+          part-t _ column (2 * x + y / 4) (y % 4) c t s l n,
+          part-subset _ column (2 * x + y / 4) (y % 4) c t s l n,
+          part-b _ column (2 * x + y / 4) (y % 4) c t s l n,
+          q,
+          p,
+          row,
+          bit-row,
+        )
 
--- The eight output bits of a byte are of one column, t and subset.
-pub output-byte : (blocks : List (List ℕ)) (j v : ℕ) → v ≡ fromBits 8 (partsBit blocks (j / 168) (j % 168 / 4) (j % 4)) → v ≡ byteOf (outputBit blocks) j
-unfolding byteOf outputBit
-output-byte blocks j v e =
-    e
-    ∙ fromBits-ext 8 (partsBit blocks (j / 168) (j % 168 / 4) (j % 4)) (λ b. outputBit blocks (j * 8 + b))
-    (λ b l.
-    let column : outColumn (j * 8 + b) ≡ j / 168 = omega arith in
-    let t : tOf (j * 8 + b) ≡ j % 168 / 4 = omega arith in
-    let subset : subsetOf (j * 8 + b) ≡ j % 4 = omega arith in
-    let last : bOf (j * 8 + b) ≡ b = omega arith in
-    rw (column, t, subset, last))
-
--- Of reordered blocks the output bits are the buffer's.
-module _ (pairs0 pairs1 : List ℕ) (blocks : List (List ℕ)) (h : Held (reorderedBlock pairs0 pairs1) 672 blocks) where
+-- Of reordered block rows the output bits are the buffer's.
+module _ (pairs0 pairs1 : List ℕ) (rows : List (List ℕ)) (h : Held (reorderedRow pairs0 pairs1) 84 rows) where
   reordered-place : (k : BlockRow) (C i j : ℕ) → i < 16 → j < 16
-      → bitAt (reordered (sentBlock pairs0 pairs1 k C)) i j ≡ bit (pairsOf pairs0 pairs1 (k .0 % 2)) (pairsBit (k .0 / 2) C (sourceRow i j) (sourceColumn i j))
-  unfolding sentBlock pairsPlace
+      → bitAt (reorderedBlock pairs0 pairs1 k C) j i
+      ≡ bit (pairsOf pairs0 pairs1 (k .0 % 2)) (pairsBit (k .0 / 2) C (sourceRow i j) (sourceColumn i j))
+  unfolding reorderedBlock sentBlock pairsPlace
   reordered-place k C i j li lj =
-      bitAt-reordered (sentBlock pairs0 pairs1 k C) i j li lj
-      ∙ bitAt-block-of (pairsPlace (pairsOf pairs0 pairs1 (k .0 % 2)) (k .0 / 2) C)
+      transposed-bit (reordered (sentBlock pairs0 pairs1 k C)) i j li lj
+      ∙ bitAt-reordered (sentBlock pairs0 pairs1 k C) i j li lj
+      ∙ bitAt-block-of (pairsPlace (pairsOf pairs0 pairs1 (k .0 % 2)) k C)
       (λ r c. bit-lt (pairsOf pairs0 pairs1 (k .0 % 2)) (pairsBit (k .0 / 2) C r c))
       (sourceRow i j) (sourceColumn i j) (sourceRow-lt i j) (sourceColumn-lt i j)
 
-  output-bit : (n : ℕ) → n < 172032 → outputBit blocks n ≡ interleavedBit pairs0 pairs1 n
-  unfolding outputBit partsBit reorderedBlock interleavedBit sourceOf encoderOf rowOf blockOf bitRowOf columnOf
+  output-bit : (n : ℕ) → n < 172032 → outputBit rows n ≡ interleavedBit pairs0 pairs1 n
+  unfolding outputBit partsBit reorderedRow interleavedBit sourceOf encoderOf rowOf blockOf bitRowOf columnOf
   output-bit n ln =
-      held-is (reorderedBlock pairs0 pairs1) (λ k C. reordered (sentBlock pairs0 pairs1 k C)) (λ x. refl) blocks h
-      (outBlockRow n) (outColumn n / 16) (placeRow n) (placeColumn n) (outBlockRow-lt n ln) (omega arith)
+      held-is (reorderedRow pairs0 pairs1) (reorderedBlock pairs0 pairs1) (λ x. refl) rows h
+      (outBlockRow n) (outColumn n / 16) (placeColumn n) (placeRow n .0) (outBlockRow-lt n ln) (omega arith) (last (outColumn n))
       ∙ reordered-place (outBlockRow n) (outColumn n / 16) (placeRow n .0) (placeColumn n) (last (8 * tOf n + bOf n)) (last (outColumn n))
     where
       last : (x : ℕ) → x % 16 < 16
       last x = omega arith
 
-pub interleaved-blocks : (pairs0 pairs1 : List ℕ) (blocks : List (List ℕ)) (bits : List ℕ) → Held (reorderedBlock pairs0 pairs1) 672 blocks
-    → bits ≡ pack 21504 (outputBit blocks) → bits ≡ interleaved pairs0 pairs1
+pub interleaved-rows : (pairs0 pairs1 : List ℕ) (rows : List (List ℕ)) (bits : List ℕ) → Held (reorderedRow pairs0 pairs1) 84 rows
+    → bits ≡ pack 21504 (outputBit rows) → bits ≡ interleaved pairs0 pairs1
 unfolding interleaved
-interleaved-blocks pairs0 pairs1 blocks bits h e =
-    e ∙ pack-ext 21504 (outputBit blocks) (interleavedBit pairs0 pairs1) (λ n l. output-bit pairs0 pairs1 blocks h n (omega arith))
+interleaved-rows pairs0 pairs1 rows bits h e =
+    e ∙ pack-ext 21504 (outputBit rows) (interleavedBit pairs0 pairs1) (λ n l. output-bit pairs0 pairs1 rows h n (omega arith))
 
 -- ---- from bits to pairs, as code finds them
 
+-- The bit rows of a column of a block are two bytes, four apart.
+pub line-word : (bits : List ℕ) (k : BlockRow) (C j at x y : ℕ) → at * 8 ≡ outputAt k (record { 0 = 0 }) (16 * C + j) → x ≡ getD bits at 0
+    → y ≡ getD bits (at + 4) 0 → x < 256 → y < 256 → x * 256 + y ≡ rowWord (lineColumn bits k C) j
+unfolding rowWord lineColumn linePlace
+line-word bits k C j at x y e p q lx ly =
+    two-bytes bits at (at + 4) x y (lineColumn bits k C j) p q lx ly
+    (λ i l. ap (bit bits) (output-upper k (16 * C + j) at i e l)) (λ i l. ap (bit bits) (output-lower k (16 * C + j) at i e l))
+
+line-lt : (bits : List ℕ) (k : BlockRow) (C i j : ℕ) → linePlace bits k C i j < 2
+unfolding linePlace
+line-lt bits k C i j = bit-lt bits (outputAt k (record { 0 = i }) (16 * C + j))
+
+pub restored-block : (bits : List ℕ) (k : BlockRow) (C : ℕ) (b r : List ℕ) → b ≡ lineColumns bits k C → r ≡ restored (transposed b)
+    → r ≡ restoredBlock bits k C
+unfolding restoredBlock lineColumn transposed moved
+restored-block bits k C b r p q =
+    q ∙ ap (λ s. restored (transposed s)) p
+    ∙ ap restored
+    (block-ext (λ i j. bitAt (block (lineColumn bits k C)) j i) (linePlace bits k C)
+    (λ i j li lj. bitAt-block-of (lineColumn bits k C) (λ u v. line-lt bits k C v u) j i lj li))
+
+-- A word's bytes.
+row-half : (rows : List (List ℕ)) (k : BlockRow) (x h w : ℕ) → w ≡ heldWord rows k x → w < 2 ^ 16 → h < 2
+    → w / 2 ^ (8 - 8 * h) % 256 ≡ rowByte rows k (2 * x + h)
+unfolding rowByte
+row-half rows k x h w e l lh =
+    let word : (2 * x + h) / 2 ≡ x = omega arith in
+    let half : (2 * x + h) % 2 ≡ h = omega arith in
+    rw (word, half) (half-is w h l lh ∙ ap (λ v. fromBits 8 (λ c. bitOf 16 v (8 * h + c))) e)
+
+pub row-upper : (rows : List (List ℕ)) (k : BlockRow) (x w : ℕ) → w ≡ heldWord rows k x → w < 2 ^ 16
+    → w / 256 % 256 ≡ rowByte rows k (2 * x)
+row-upper rows k x w e l = let n : 2 * x + 0 ≡ 2 * x = omega arith in row-half rows k x 0 w e l (omega arith) ∙ ap (rowByte rows k) n
+
+pub row-lower : (rows : List (List ℕ)) (k : BlockRow) (x w : ℕ) → w ≡ heldWord rows k x → w < 2 ^ 16 → w % 256 ≡ rowByte rows k (2 * x + 1)
+row-lower rows k x w e l = omega (arith, row-half rows k x 1 w e l (omega arith))
+
+-- The invariant of the loop that writes them: none / more / done.
+pub record Twos (f : ℕ → ℕ) (x : ℕ) (d : List ℕ) : Type 0 where
+  pub filled : Filling f 256 (2 * x) d
+
+pub twos-none : (f : ℕ → ℕ) (d : List ℕ) → length d ≡ 256 → Twos f 0 d
+twos-none f d e = record { filled = fill-none f 256 d e }
+
+pub twos-room : {f : ℕ → ℕ} {x : ℕ} {d : List ℕ} (u : ℕ) → Twos f x d → x < 128 → 2 * x + 1 < length (set d (2 * x) u)
+twos-room {f} {x} {d} u h l = omega (arith, length-set d (2 * x) u, h .filled .long)
+
+pub twos-more : {f : ℕ → ℕ} {x : ℕ} {d : List ℕ} (u v : ℕ) → Twos f x d → x < 128 → u ≡ f (2 * x) → v ≡ f (2 * x + 1)
+    → Twos f (x + 1) (set (set d (2 * x) u) (2 * x + 1) v)
+twos-more {f} {x} {d} u v h l p q =
+    let e : 2 * x + 1 + 1 ≡ 2 * (x + 1) = omega arith in
+    record { filled = rw e at (fill-more v (fill-more u (h .filled) (omega arith) p) (omega arith) q) }
+
+pub twos-done : {f : ℕ → ℕ} {x : ℕ} {d : List ℕ} → Twos f x d → 128 ≤ x → d ≡ tabulate 256 f
+twos-done h l = fill-done (h .filled) (omega arith)
+
+pub ruleset twos = (twos-none, twos-room, twos-more, twos-done, row-upper, row-lower)
+
+-- The bytes of block row 2r+e are those of row r of encoder e's pairs.
+pairs-part : (rows : List (List ℕ)) (e r : ℕ) (ys : List ℕ) → ys ≡ tabulate 256 (rowByte rows (blockRow e r))
+    → ys ≡ tabulate 256 (λ y. byteOf (heldBit rows e) (r * 256 + y))
+unfolding byteOf rowByte heldBit
+pairs-part rows e r ys q =
+    q ∙ tabulate-ext 256 (rowByte rows (blockRow e r)) (λ y. byteOf (heldBit rows e) (r * 256 + y))
+    (λ y l. fromBits-ext 8 (λ c. bitOf 16 (heldWord rows (blockRow e r) (y / 2)) (8 * (y % 2) + c))
+    (λ c. heldBit rows e ((r * 256 + y) * 8 + c))
+    (λ c lc.
+    let number : ((r * 256 + y) * 8 + c) / 2048 ≡ r = omega arith in
+    let word : 8 * (((r * 256 + y) * 8 + c) % 2048 / 128) + ((r * 256 + y) * 8 + c) % 128 / 16 ≡ y / 2 = omega arith in
+    let column : ((r * 256 + y) * 8 + c) % 16 ≡ 8 * (y % 2) + c = omega arith in
+    rw (number, word, column)))
+
+pub pairs-next : {r : ℕ} {d : List ℕ} (rows : List (List ℕ)) (e a z : ℕ) (ys : List ℕ) → Blocks (byteOf (heldBit rows e)) 256 42 r d
+    → r < 42
+    → ys ≡ tabulate 256 (rowByte rows (blockRow e r)) → a ≡ r * 256 → z ≡ a + 256
+    → Blocks (byteOf (heldBit rows e)) 256 42 (r + 1) (putMid a (z - a) d ys)
+pairs-next {r} rows e a z ys h l q s t = blocks-next a z ys h l s t (pairs-part rows e r ys q)
+
+-- Of restored block rows the bits are the pairs'.
 from-at : (e m : ℕ)
     → outputAt (blockRow e (m / 2048)) (record { 0 = targetRow (m % 2048 / 128) (m % 16) }) (16 * (m % 128 / 16) + targetColumn (m % 2048 / 128) (m % 16)) ≡ outputFrom e m
 unfolding outputFrom outputFor
 from-at e m = refl
 
-pub line-bit : (bits : List ℕ) (first C j v : ℕ) → v ≡ bit bits (1344 * (16 * C + j) + first) → v ≡ lineColumn bits first C j
-unfolding lineColumn
-line-bit bits first C j v e = e
-
--- The first output bit of bit row i of block row k.
-pub line-row : (bits : List ℕ) (k : BlockRow) (i : BitRow) (C w : ℕ)
-    → w ≡ fromBits 16 (lineColumn bits (32 * ((k .0 % 42 / 2 * 16 + i .0) / 8) + 8 * (k .0 / 42 * 2 + k .0 % 2) + (k .0 % 42 / 2 * 16 + i .0) % 8) C)
-    → w ≡ rowWord (linePlace bits k C) (i .0)
-unfolding rowWord lineColumn linePlace outputAt
-line-row bits k i C w e =
-    e
-    ∙ fromBits-ext 16 (lineColumn bits (32 * (q / 8) + 8 * subset + q % 8) C) (linePlace bits k C (i .0))
-    (λ j l. ap (λ n. bit bits n % 2) (sum (1344 * (16 * C + j)) (32 * (q / 8)) (8 * subset) (q % 8)))
-  where
-    q : ℕ
-    q = k .0 % 42 / 2 * 16 + i .0
-
-    subset : ℕ
-    subset = k .0 / 42 * 2 + k .0 % 2
-
-    sum : (a b c d : ℕ) → a + (b + c + d) ≡ a + b + c + d
-    sum a b c d = omega arith
-
-pub restored-block : (bits : List ℕ) (x : ℕ) (b : List ℕ) → b ≡ restored (lineBlock bits (record { 0 = x / 8 }) (x % 8)) → b ≡ restoredBlock bits x
-unfolding restoredBlock
-restored-block bits x b e = e
-
-pub restored-of : (b a r : List ℕ) → a ≡ b → r ≡ restored a → r ≡ restored b
-restored-of b a r p q = q ∙ ap restored p
-
--- Byte m of an encoder's pairs is a half of a row.
-pub pairs-byte : (blocks : List (List ℕ)) (e m w : ℕ) (k : BlockRow) → k ≡ blockRow e (m / 256)
-    → w ≡ heldRow blocks k (m % 16 / 2) (record { 0 = m % 256 / 16 })
-    → w < 2 ^ 16 → w / 2 ^ (8 - 8 * (m % 2)) % 256 ≡ byteOf (heldBit blocks e) m
-unfolding byteOf heldBit
-pairs-byte blocks e m w k p q l =
-    half-is w (m % 2) l (omega arith)
-    ∙ fromBits-ext 8 (λ i. bitOf 16 w (8 * (m % 2) + i)) (λ i. heldBit blocks e (m * 8 + i))
-    (λ i l.
-    let row : (m * 8 + i) / 2048 ≡ m / 256 = omega arith in
-    let block : (m * 8 + i) % 128 / 16 ≡ m % 16 / 2 = omega arith in
-    let bit-row : (m * 8 + i) % 2048 / 128 ≡ m % 256 / 16 = omega arith in
-    let column : (m * 8 + i) % 16 ≡ 8 * (m % 2) + i = omega arith in
-    rw (row, block, bit-row, column, q, p))
-
--- Of restored blocks the bits are the pairs'.
-module _ (bits : List ℕ) (blocks : List (List ℕ)) (h : Held (restoredBlock bits) 672 blocks) where
+module _ (bits : List ℕ) (rows : List (List ℕ)) (h : Held (restoredRow bits) 84 rows) where
   restored-place : (k : BlockRow) (C r c : ℕ) → r < 16 → c < 16
-      → bitAt (restored (lineBlock bits k C)) r c ≡ bit bits (outputAt k (record { 0 = targetRow r c }) (16 * C + targetColumn r c))
-  unfolding linePlace
+      → bitAt (restoredBlock bits k C) r c ≡ bit bits (outputAt k (record { 0 = targetRow r c }) (16 * C + targetColumn r c))
+  unfolding restoredBlock linePlace
   restored-place k C r c lr lc =
       bitAt-restored (lineBlock bits k C) r c lr lc
       ∙ bitAt-block-of (linePlace bits k C) (λ i j. bit-lt bits (outputAt k (record { 0 = i }) (16 * C + j)))
       (targetRow r c) (targetColumn r c) (targetRow-lt r c) (targetColumn-lt r c)
 
-  held-bit : (e m : ℕ) → e < 2 → m < 86016 → heldBit blocks e m ≡ bit bits (outputOf e m)
-  unfolding heldBit restoredBlock
+  held-bit : (e m : ℕ) → e < 2 → m < 86016 → heldBit rows e m ≡ bit bits (outputOf e m)
+  unfolding heldBit restoredRow
   held-bit e m le lm =
-      held-is (restoredBlock bits) (λ k C. restored (lineBlock bits k C)) (λ x. refl) blocks h
-      (blockRow e (m / 2048)) (m % 128 / 16) (record { 0 = m % 2048 / 128 }) (m % 16) (omega arith) (omega arith)
+      held-is (restoredRow bits) (restoredBlock bits) (λ x. refl) rows h
+      (blockRow e (m / 2048)) (m % 128 / 16) (m % 2048 / 128) (m % 16) (omega arith) (omega arith) (omega arith)
       ∙ restored-place (blockRow e (m / 2048)) (m % 128 / 16) (m % 2048 / 128) (m % 16) (omega arith) (omega arith)
       ∙ ap (bit bits) (from-at e m ∙ sym (outputOf-is e m le lm))
 
-pub apart-blocks : (bits : List ℕ) (blocks : List (List ℕ)) (e : ℕ) (pairs : List ℕ) → e < 2 → Held (restoredBlock bits) 672 blocks
-    → pairs ≡ pack 10752 (heldBit blocks e) → pairs ≡ apart bits e
+pub apart-rows : (bits : List ℕ) (rows : List (List ℕ)) (e : ℕ) (pairs : List ℕ) → e < 2 → Held (restoredRow bits) 84 rows
+    → pairs ≡ pack 10752 (heldBit rows e) → pairs ≡ apart bits e
 unfolding apart
-apart-blocks bits blocks e pairs le h q =
-    q ∙ pack-ext 10752 (heldBit blocks e) (λ m. bit bits (outputOf e m)) (λ m l. held-bit bits blocks h e m le (omega arith))
+apart-rows bits rows e pairs le h q =
+    q ∙ pack-ext 10752 (heldBit rows e) (λ m. bit bits (outputOf e m)) (λ m l. held-bit bits rows h e m le (omega arith))

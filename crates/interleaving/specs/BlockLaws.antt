@@ -9,7 +9,7 @@ use lib.Seq.{ext-getD}
 use Rattle.bits.specs.ListLaws.{length-tabulate, getD-tabulate, tabulate-below, tabulate-ext}
 use Rattle.bits.specs.Bits.{bitOf}
 use Rattle.bits.specs.BitLaws.{bitOf-lt, bitOf-fromBits, bitOf-equal, fromBits-lt, fromBits-ext}
-use Rattle.bits.specs.Tests.{agree, grid}
+use Rattle.bits.specs.Tests.{grid}
 use Rattle.bits.specs.LeastLaws.{least-pair}
 use Rattle.interleaving.specs.Block.{bitAt, rowWord, block, shift, sourceRow, sourceColumn, reorderedBit, reordered, placeFrom, restoredBit, restored}
 
@@ -54,10 +54,6 @@ block-ext f g same =
     tabulate-ext 16 (rowWord f) (rowWord g) (λ i l. fromBits-ext 16 (f i) (g i) (λ j lj. ap (λ x. x % 2) (same i j l lj)))
 
 -- ---- the inverse of the reordering
-
-pub shift-is : (i : ℕ) → i < 16 → shift i ≡ i / 8
-unfolding shift
-shift-is = agree 16 shift (λ i. i / 8) tt
 
 -- (r, c) goes to place (i, j), i = (c−r) mod 16 and j = (c+i+d) mod 16.
 unfoldable pub targetRow : ℕ → ℕ → ℕ
@@ -151,15 +147,3 @@ reordered-restored b h =
     bitAt-reordered (restored b) i j li lj
     ∙ bitAt-restored b (sourceRow i j) (sourceColumn i j) (sourceRow-lt i j) (sourceColumn-lt i j)
     ∙ ap₂ (bitAt b) (target-source-row i j li lj) (target-source-column i j li lj))
-
--- ---- as code finds the bits
-
-pub reordered-bit : (b : List ℕ) (i j v : ℕ) → i < 16 → v ≡ bitAt b ((j + 32 - 2 * i - i / 8) % 16) ((j + 32 - i - i / 8) % 16) → v ≡ reorderedBit b i j
-unfolding reorderedBit sourceRow sourceColumn
-reordered-bit b i j v l e = e ∙ rw (shift-is i l)
-
-pub restored-bit : (b : List ℕ) (r c v : ℕ) → v ≡ bitAt b ((c + 16 - r) % 16) ((c + (c + 16 - r) % 16 + (c + 16 - r) % 16 / 8) % 16)
-    → r < 16 → c < 16 → v ≡ restoredBit b r c
-unfolding restoredBit targetRow targetColumn
-restored-bit b r c v e lr lc =
-    e ∙ rw (← shift-is ((c + 16 - r) % 16) (omega arith)) (sym (ap₂ (bitAt b) (placeFrom-row r c lr lc) (placeFrom-column r c lr lc)))

@@ -4,6 +4,8 @@ pub mod Rows
 pub mod SubsetLaws
 pub mod Block
 pub mod BlockLaws
+pub mod Moves
+pub mod MoveLaws
 pub mod Positions
 pub mod PositionLaws
 pub mod BenchValues
@@ -13,4 +15,5 @@ pub mod Calls
 pub mod CallLaws
 pub mod ResultLaws
 pub mod BlockBuffer
+pub mod Laying
 pub mod BlockBufferLaws

@@ -9,9 +9,6 @@ use lib.ListN.{getD}
 use Rattle.bits.specs.Bits.{bitOf, bit, fromBits, byteOf}
 use Rattle.bits.specs.BitLaws.{fromBits-lt, fromBits-ext, fromBits-bitOf}
 
-pub last-lt : (x : ℕ) → x % 2 < 2
-last-lt x = omega arith
-
 -- m + n bits are m bits and then n.
 pub fromBits-split : (m n : ℕ) (f : ℕ → ℕ) → fromBits (m + n) f ≡ fromBits m f * 2 ^ n + fromBits n (λ k. f (m + k))
 unfolding fromBits
@@ -37,16 +34,15 @@ byteOf-bit s j x e l =
     rw (h, m, e))
     ∙ fromBits-bitOf 8 x l
 
--- Sixteen bits of a buffer from the first bit of a byte on are two bytes.
-pub two-bytes : (s : List ℕ) (j x y : ℕ) (f : ℕ → ℕ) → x ≡ getD s j 0 → y ≡ getD s (j + 1) 0 → x < 256 → y < 256
-    → ((k : ℕ) → k < 16 → f k ≡ bit s (j * 8 + k)) → x * 256 + y ≡ fromBits 16 f
+-- Sixteen bits that are those of two bytes of a buffer, the upper and the lower.
+pub two-bytes : (s : List ℕ) (u v x y : ℕ) (f : ℕ → ℕ) → x ≡ getD s u 0 → y ≡ getD s v 0 → x < 256 → y < 256
+    → ((k : ℕ) → k < 8 → f k ≡ bit s (u * 8 + k)) → ((k : ℕ) → k < 8 → f (8 + k) ≡ bit s (v * 8 + k)) → x * 256 + y ≡ fromBits 16 f
 unfolding byteOf
-two-bytes s j x y f p q lx ly same =
-    ap₂ (λ a b. a * 256 + b) (sym (byteOf-bit s j x p lx)) (sym (byteOf-bit s (j + 1) y q ly))
+two-bytes s u v x y f p q lx ly upper lower =
+    ap₂ (λ a b. a * 256 + b) (sym (byteOf-bit s u x p lx)) (sym (byteOf-bit s v y q ly))
     ∙ ap₂ (λ a b. a * 256 + b)
-    (fromBits-ext 8 (λ k. bit s (j * 8 + k)) f (λ k l. ap (λ v. v % 2) (sym (same k (omega arith)))))
-    (fromBits-ext 8 (λ k. bit s ((j + 1) * 8 + k)) (λ k. f (8 + k))
-    (λ k l. ap (λ v. v % 2) (ap (bit s) (omega arith) ∙ sym (same (8 + k) (omega arith)))))
+    (fromBits-ext 8 (λ k. bit s (u * 8 + k)) f (λ k l. ap (λ z. z % 2) (sym (upper k l))))
+    (fromBits-ext 8 (λ k. bit s (v * 8 + k)) (λ k. f (8 + k)) (λ k l. ap (λ z. z % 2) (sym (lower k l))))
     ∙ sym (fromBits-split 8 8 f)
 
 -- Half h of sixteen bits.

@@ -5,6 +5,7 @@ use Prim.Native.Nat.{ℕ, _+_, _-_, _*_, _/_, _%_, _<_}
 use native.Mathlib.Omega.{arith}
 use Rattle.interleaving.specs.declared.BlockRow.{BlockRow}
 use Rattle.interleaving.specs.declared.BitRow.{BitRow}
+use Rattle.interleaving.specs.declared.SubsetBitRow.{SubsetBitRow}
 use Rattle.interleaving.specs.Rows.{blockRow, firstOf}
 use Rattle.interleaving.specs.SubsetLaws.{firstOf-is, subsetIn, bitRowIn}
 use Rattle.interleaving.specs.Block.{sourceRow, sourceColumn}
@@ -35,6 +36,29 @@ module _ (n A B D E : ℕ) (lB : B < 42) (lD : D < 4) (lE : E < 8) (is : n ≡ 1
 -- Of bit row i of a block row.
 unfoldable pub outputAt : BlockRow → BitRow → ℕ → ℕ
 outputAt k i column = 1344 * column + 32 * (bitRowIn k i .0 / 8) + 8 * subsetIn k + bitRowIn k i .0 % 8
+
+-- The byte in which those of bit rows 0 to 7 are, as code finds it from the bit row of the subset; those of 8 to 15 are four bytes on.
+pub output-begins : (k : BlockRow) (column : ℕ) (q : SubsetBitRow) (s : ℕ) → q ≡ bitRowIn k (record { 0 = 0 }) → s ≡ subsetIn k
+    → (168 * column + 4 * (q .0 / 8) + s) * 8 ≡ outputAt k (record { 0 = 0 }) column
+unfolding outputAt
+output-begins k column q s p e = rw (p, e) (omega arith)
+
+module _ (k : BlockRow) (column at i : ℕ) (is : at * 8 ≡ outputAt k (record { 0 = 0 }) column) (li : i < 8) where
+  pub output-upper : outputAt k (record { 0 = i }) column ≡ at * 8 + i
+  unfolding outputAt
+  output-upper = place (k .0 % 42 / 2) (subsetIn k) is
+    where
+      place : (x s : ℕ) → at * 8 ≡ 1344 * column + 32 * ((x * 16 + 0) / 8) + 8 * s + (x * 16 + 0) % 8
+          → 1344 * column + 32 * ((x * 16 + i) / 8) + 8 * s + (x * 16 + i) % 8 ≡ at * 8 + i
+      place x s e = omega arith
+
+  pub output-lower : outputAt k (record { 0 = 8 + i }) column ≡ (at + 4) * 8 + i
+  unfolding outputAt
+  output-lower = place (k .0 % 42 / 2) (subsetIn k) is
+    where
+      place : (x s : ℕ) → at * 8 ≡ 1344 * column + 32 * ((x * 16 + 0) / 8) + 8 * s + (x * 16 + 0) % 8
+          → 1344 * column + 32 * ((x * 16 + (8 + i)) / 8) + 8 * s + (x * 16 + (8 + i)) % 8 ≡ (at + 4) * 8 + i
+      place x s e = omega arith
 
 first-in : (k : ℕ) → k < 84 → firstOf (k / 42 * 2 + k % 2) ≡ k / 42 * 42 + k % 2
 first-in k l =

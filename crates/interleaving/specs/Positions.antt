@@ -4,6 +4,7 @@
 use Prim.Native.Nat.{ℕ, _+_, _*_, _/_, _%_}
 use Rattle.interleaving.specs.declared.BlockRow.{BlockRow}
 use Rattle.interleaving.specs.declared.BitRow.{BitRow}
+use Rattle.interleaving.specs.declared.SubsetBitRow.{SubsetBitRow}
 use Rattle.interleaving.specs.Rows.{encoderIn, rowIn, blockRowOf, within}
 use Rattle.interleaving.specs.Block.{sourceRow, sourceColumn}
 
@@ -21,7 +22,7 @@ abbrev pub bOf : ℕ → ℕ
 bOf n = n % 8
 
 -- "bit row 8t+b of that subset", and the block row in which it stands.
-abbrev pub outBitRow : ℕ → BitRow
+abbrev pub outBitRow : ℕ → SubsetBitRow
 outBitRow n = record { 0 = 8 * tOf n + bOf n }
 
 abbrev pub outBlockRow : ℕ → BlockRow

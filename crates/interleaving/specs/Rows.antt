@@ -6,6 +6,7 @@ use Prim.Native.Nat.{ℕ, _+_, _*_, _/_, _%_}
 use lib.Dec.{eqb}
 use Rattle.interleaving.specs.declared.BlockRow.{BlockRow}
 use Rattle.interleaving.specs.declared.BitRow.{BitRow}
+use Rattle.interleaving.specs.declared.SubsetBitRow.{SubsetBitRow}
 
 -- "Encoder e's row R, counted within the buffer, is block row 2R+e."
 abbrev pub blockRow : ℕ → ℕ → BlockRow
@@ -27,8 +28,8 @@ abbrev pub subsetRow : ℕ → ℕ → BlockRow
 subsetRow subset x = record { 0 = firstOf subset + 2 * x }
 
 -- "each block row has 16 bit rows": bit row q of a subset is in this block row, and there this bit row.
-abbrev pub blockRowOf : ℕ → BitRow → BlockRow
+abbrev pub blockRowOf : ℕ → SubsetBitRow → BlockRow
 blockRowOf subset q = subsetRow subset (q .0 / 16)
 
-abbrev pub within : BitRow → BitRow
+abbrev pub within : SubsetBitRow → BitRow
 within q = record { 0 = q .0 % 16 }

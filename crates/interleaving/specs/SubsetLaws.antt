@@ -6,6 +6,7 @@ use native.Mathlib.Omega.{arith}
 use Rattle.bits.specs.Tests.{agree}
 use Rattle.interleaving.specs.declared.BlockRow.{BlockRow}
 use Rattle.interleaving.specs.declared.BitRow.{BitRow}
+use Rattle.interleaving.specs.declared.SubsetBitRow.{SubsetBitRow}
 use Rattle.interleaving.specs.Rows.{blockRow, encoderIn, rowIn, firstOf, subsetRow, blockRowOf}
 
 -- ---- an encoder's row and its block row
@@ -34,9 +35,9 @@ firstOf-is = agree 4 firstOf (λ s. s / 2 * 42 + s % 2) tt
 abbrev pub subsetIn : BlockRow → ℕ
 subsetIn k = k .0 / 42 * 2 + k .0 % 2
 
-abbrev pub bitRowIn : BlockRow → BitRow → BitRow
+abbrev pub bitRowIn : BlockRow → BitRow → SubsetBitRow
 bitRowIn k i = record { 0 = k .0 % 42 / 2 * 16 + i .0 }
 
 -- The block row of a bit row of a subset, as code finds it.
-pub row-of : (s : ℕ) (q : BitRow) → s < 4 → record { 0 = s / 2 * 42 + s % 2 + 2 * (q .0 / 16) } ≡ blockRowOf s q
+pub row-of : (s : ℕ) (q : SubsetBitRow) → s < 4 → record { 0 = s / 2 * 42 + s % 2 + 2 * (q .0 / 16) } ≡ blockRowOf s q
 row-of s q l = rw (firstOf-is s l)

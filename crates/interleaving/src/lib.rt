@@ -4,5 +4,8 @@
 // A block row of the buffer, 0 to 83.
 pub struct BlockRow(pub usize);
 
-// A bit row: of a block row, 0 to 15, or of a subset, 0 to 335.
+// A bit row of a block row, 0 to 15.
 pub struct BitRow(pub usize);
+
+// A bit row of a subset, 0 to 335: 16 for each of its 21 block rows.
+pub struct SubsetBitRow(pub usize);

@@ -1,12 +1,12 @@
 -- `interleaver::deinterleave` meets its contract: one law for each case.
 -- Assumes nothing.
-use Rattle.interleaving.specs.BlockBufferLaws.{apart-blocks}
+use Rattle.interleaving.specs.BlockBufferLaws.{apart-rows}
 use Rattle.interleaving.specs.CallLaws.{parting}
 use borrow.Author.Needs.{needs}
 use Rattle.interleaver.proofs.deinterleave.Statement.{statement}
 use Rattle.interleaver.proofs.deinterleave.Tie as tie
 
-ruleset kit = (needs, parting, apart-blocks)
+ruleset kit = (needs, parting, apart-rows)
 
 pub deinterleave-spec : {M : Type 1} → statement M
 deinterleave-spec =
@@ -15,7 +15,7 @@ deinterleave-spec =
     (λ c. search kit)  -- returns
     (λ c. search kit)  -- returns-2
     (λ c. search kit)  -- returns-3
-    (λ c κs. search kit)  -- restored-blocks-requires
+    (λ c κs. search kit)  -- restored-rows-requires
     (λ c κs. search kit)  -- write-pairs-requires
     (λ c κs. search kit)  -- write-pairs-requires-2
     (λ c. search kit)  -- same-length

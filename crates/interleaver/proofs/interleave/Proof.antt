@@ -1,12 +1,12 @@
 -- `interleaver::interleave` meets its contract: one law for each case.
 -- Assumes nothing.
-use Rattle.interleaving.specs.BlockBufferLaws.{interleaved-blocks}
+use Rattle.interleaving.specs.BlockBufferLaws.{interleaved-rows}
 use Rattle.interleaving.specs.CallLaws.{joining}
 use borrow.Author.Needs.{needs}
 use Rattle.interleaver.proofs.interleave.Statement.{statement}
 use Rattle.interleaver.proofs.interleave.Tie as tie
 
-ruleset kit = (needs, joining, interleaved-blocks)
+ruleset kit = (needs, joining, interleaved-rows)
 
 pub interleave-spec : {M : Type 1} → statement M
 interleave-spec =
@@ -15,7 +15,7 @@ interleave-spec =
     (λ c. search kit)  -- returns
     (λ c. search kit)  -- returns-2
     (λ c. search kit)  -- returns-3
-    (λ c κs. search kit)  -- reordered-blocks-requires
+    (λ c κs. search kit)  -- reordered-rows-requires
     (λ c κs. search kit)  -- write-bits-requires
     (λ c. search kit)  -- same-length
     (λ c. search kit))  -- returns-4

@@ -8,8 +8,9 @@ use ofec_tests::interleaver::{self, BUFFER_BYTES, PAIRS_BYTES};
 use ofec_tests::outcome::Outcome;
 use ofec_tests::random::Random;
 
+use crate::for_speed::interleaver::{by_rows, packed};
 use crate::same_structure;
-use crate::table::{three, two};
+use crate::table::{for_speed, head_for_speed, three, two};
 
 pub fn run(random: &mut Random) {
     let pairs = [0; 2].map(|_| random.bytes(PAIRS_BYTES));
@@ -61,6 +62,44 @@ pub fn run(random: &mut Random) {
         |payload| unframe_all(LIBRARY.unframe, &received, &overhead, payload),
         |payload| unframe_all(frames::unframe, &received, &overhead, payload),
     );
+}
+
+/// The calls for which there is Rust code written for speed.
+pub fn beside_speed(random: &mut Random) {
+    head_for_speed();
+    let pairs = [0; 2].map(|_| random.bytes(PAIRS_BYTES));
+    let [pairs0, pairs1]: [&[u8; PAIRS_BYTES]; 2] = [sized(&pairs[0]), sized(&pairs[1])];
+    for_speed(
+        "interleave a buffer",
+        vec![0; BUFFER_BYTES],
+        [
+            &|bits| done(capi::interleave(pairs0, pairs1, bits)),
+            &|bits| done(same_structure::interleave(pairs0, pairs1, bits)),
+            &|bits| by_rows::interleave(pairs0, pairs1, sized_mut(bits)),
+            &|bits| packed::interleave(pairs0, pairs1, sized_mut(bits)),
+        ],
+    );
+
+    let bits = random.bytes(BUFFER_BYTES);
+    let bits: &[u8; BUFFER_BYTES] = sized(&bits);
+    for_speed(
+        "take a buffer apart",
+        [0; 2].map(|_| vec![0; PAIRS_BYTES]),
+        [
+            &|[pairs0, pairs1]| done(capi::deinterleave(bits, pairs0, pairs1)),
+            &|[pairs0, pairs1]| done(same_structure::deinterleave(bits, pairs0, pairs1)),
+            &|[pairs0, pairs1]| by_rows::deinterleave(bits, sized_mut(pairs0), sized_mut(pairs1)),
+            &|[pairs0, pairs1]| packed::deinterleave(bits, sized_mut(pairs0), sized_mut(pairs1)),
+        ],
+    );
+}
+
+fn sized<const N: usize>(bytes: &[u8]) -> &[u8; N] {
+    bytes.try_into().expect("of its length")
+}
+
+fn sized_mut<const N: usize>(bytes: &mut [u8]) -> &mut [u8; N] {
+    bytes.try_into().expect("of its length")
 }
 
 fn done(answer: impl Into<Outcome>) {

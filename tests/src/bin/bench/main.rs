@@ -5,6 +5,7 @@
 use ofec_tests::random::Random;
 
 mod files;
+mod for_speed;
 mod growth;
 mod line;
 mod memory;
@@ -22,6 +23,7 @@ fn main() {
     line::run(&mut Random::new(2));
     programs::run(&mut Random::new(3));
     println!("\n{damage}");
+    line::beside_speed(&mut Random::new(6));
     growth::run(&mut Random::new(4));
     memory::run(&mut Random::new(5));
 }

@@ -1,6 +1,6 @@
 //! The library's functions once more, in plain Rust with the same loops: what is left between the two
-//! when the structure is the same. It follows crates/codec, pairs, layout, checkword, gf256, interleaver
-//! and blocks function by function, and changes with them.
+//! when the structure is the same. It follows crates/codec, pairs, layout, checkword, gf256, interleaver,
+//! blockrows and blocks function by function, and changes with them.
 //!
 //! Lengths of buffers that contracts of the library require are in the types here, and no call is inlined
 //! into the code that times it.
@@ -72,8 +72,8 @@ pub fn interleave(pairs0: &[u8], pairs1: &[u8], bits: &mut [u8]) -> Outcome {
     else {
         return Outcome::refused(MISFIT);
     };
-    let blocks = blocks::reordered_blocks(pairs0, pairs1);
-    blocks::write_bits(&blocks, bits);
+    let rows = blocks::reordered_rows(pairs0, pairs1);
+    blocks::write_bits(&rows, bits);
     Outcome::accepted(0)
 }
 
@@ -84,8 +84,8 @@ pub fn deinterleave(bits: &[u8], pairs0: &mut [u8], pairs1: &mut [u8]) -> Outcom
     else {
         return Outcome::refused(MISFIT);
     };
-    let blocks = blocks::restored_blocks(bits);
-    blocks::write_pairs(&blocks, 0, pairs0);
-    blocks::write_pairs(&blocks, 1, pairs1);
+    let rows = blocks::restored_rows(bits);
+    blocks::write_pairs(&rows, 0, pairs0);
+    blocks::write_pairs(&rows, 1, pairs1);
     Outcome::accepted(0)
 }

@@ -4,6 +4,9 @@ use std::time::{Duration, Instant};
 
 const ROUNDS: usize = 15;
 
+/// Of works that take microseconds.
+const SHORT_ROUNDS: usize = 1001;
+
 /// Medians of so many runs of each of N works, which take turns; `run` is told which.
 pub fn medians<const N: usize>(rounds: usize, mut run: impl FnMut(usize)) -> [Duration; N] {
     let mut times = [const { Vec::new() }; N];
@@ -39,7 +42,7 @@ pub fn two<T: Clone + PartialEq>(
     library: impl Fn(&mut T),
     apart: impl Fn(&mut T),
 ) {
-    let ([library, apart], _) = agreed(name, out, [&library, &apart]);
+    let ([library, apart], _) = agreed(name, ROUNDS, out, [&library, &apart]);
     println!("| {name} | {} | | |", compared(library, apart));
 }
 
@@ -52,7 +55,7 @@ pub fn three<T: Clone + PartialEq>(
     same_structure: impl Fn(&mut T),
 ) -> T {
     let ([library, apart, same], [out, ..]) =
-        agreed(name, out, [&library, &apart, &same_structure]);
+        agreed(name, ROUNDS, out, [&library, &apart, &same_structure]);
     println!(
         "| {name} | {} | {} | {:.2} |",
         compared(library, apart),
@@ -65,6 +68,7 @@ pub fn three<T: Clone + PartialEq>(
 /// Times of works that are found to write the same before they are timed, and what they write.
 fn agreed<T: Clone + PartialEq, const N: usize>(
     name: &str,
+    rounds: usize,
     out: T,
     works: [&dyn Fn(&mut T); N],
 ) -> ([Duration; N], [T; N]) {
@@ -73,7 +77,24 @@ fn agreed<T: Clone + PartialEq, const N: usize>(
         work(out);
     }
     assert!(outs.iter().all(|out| *out == outs[0]), "{name}");
-    (medians(ROUNDS, |side| works[side](&mut outs[side])), outs)
+    (medians(rounds, |side| works[side](&mut outs[side])), outs)
+}
+
+/// The head of the table of short works beside Rust code of the library's structure and Rust code written for speed.
+pub fn head_for_speed() {
+    println!("\nBeside Rust code written for speed; medians of {SHORT_ROUNDS} runs, which take turns; a ratio is the library's time to that of the column before.\n");
+    println!("| work | library | same structure | ratio | by rows | ratio | packed | ratio |");
+    println!("|---|---:|---:|---:|---:|---:|---:|---:|");
+}
+
+/// The row of a work, by the library and then the others in the order of that table.
+pub fn for_speed<T: Clone + PartialEq>(name: &str, out: T, works: [&dyn Fn(&mut T); 4]) {
+    let ([library, others @ ..], _) = agreed(name, SHORT_ROUNDS, out, works);
+    print!("| {name} | {} ", microseconds(library));
+    for other in others {
+        print!("| {} | {:.2} ", microseconds(other), ratio(library, other));
+    }
+    println!("|");
 }
 
 fn compared(library: Duration, apart: Duration) -> String {
@@ -87,6 +108,10 @@ fn compared(library: Duration, apart: Duration) -> String {
 
 pub fn ratio(one: Duration, other: Duration) -> f64 {
     one.as_secs_f64() / other.as_secs_f64()
+}
+
+fn microseconds(time: Duration) -> String {
+    format!("{:.2} μs", time.as_secs_f64() * 1e6)
 }
 
 pub fn milliseconds(time: Duration) -> String {

@@ -1,32 +1,19 @@
--- `blocks::block::reorder` meets its contract: its sixteen rows are filled in.
+-- `blocks::block::reorder` meets its contract: where the moves take each of the 256 bits.
 -- Assumes nothing.
-use Prim.Native.Nat.{_-_}
-use Rattle.bits.specs.Filling.{Filling, fill}
-use Rattle.interleaving.specs.Block.{rowWord, block, reorderedBit}
+use Rattle.interleaving.specs.MoveLaws.{reorder-is}
 use borrow.Author.Needs.{needs}
 use Rattle.blocks.proofs.block.reorder.Statement.{statement}
 use Rattle.blocks.proofs.block.reorder.Tie as tie
 
-ruleset kit = (needs, fill)
-
-abbrev Inv-loop : tie.InvT-loop
-Inv-loop b out₀ i₀ out i = Filling (rowWord (reorderedBit b)) 16 i out
-
-abbrev μ-loop : tie.MeasureT-loop
-μ-loop b out₀ i₀ out i = 16 - i
+ruleset kit = (needs, reorder-is)
 
 pub reorder-spec : {M : Type 1} → statement M
-unfolding block
 reorder-spec =
     tie.close
     (tie.spec
-    Inv-loop
-    μ-loop
-    (λ c. search kit)  -- loop-holds
-    (λ c κs. search kit)  -- reordered-row-requires
-    (λ c. search kit)  -- mul-out
-    (λ c. search kit)  -- array-write-out
-    (λ c. search kit)  -- add-i
-    (λ c. search kit)  -- loop-less
-    (λ c. search kit)  -- loop-again
+    (λ c κs. search kit)  -- turn-rows-requires
+    (λ c κs. search kit)  -- move-columns-requires
+    (λ c κs. search kit)  -- move-columns-requires-2
+    (λ c κs. search kit)  -- move-columns-requires-3
+    (λ c κs. search kit)  -- move-columns-requires-4
     (λ c. search kit))  -- returns

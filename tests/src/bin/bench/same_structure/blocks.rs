@@ -1,104 +1,154 @@
-//! crates/blocks: the 672 blocks of a buffer, each reordered by itself.
-
-use super::bit;
+//! crates/blocks and blockrows: the 84 block rows of a buffer, each block reordered by itself.
 
 type Block = [u16; 16];
 
-fn bit_at(b: &Block, i: usize, j: usize) -> u16 {
-    (b[i] >> (15 - j)) % 2
+/// The eight blocks of a block row side by side: word i of block C is number 8i+C.
+pub type BlockRow = [u16; 128];
+
+const BY_8: u16 = 0x0F0F;
+const BY_4: u16 = 0x3333;
+const BY_2: u16 = 0x5555;
+const BY_1: u16 = 0x00FF;
+
+fn turn(x: u16, n: usize) -> u16 {
+    (x << n) | ((x >> 1) >> (15 - n))
 }
 
-/// Sixteen bits as a row.
-fn row(bit: impl Fn(usize) -> u16) -> u16 {
-    let mut row = 0;
-    for j in 0..16 {
-        row = row * 2 + bit(j);
+fn choose(m: u16, x: u16, y: u16) -> u16 {
+    y ^ ((x ^ y) & m)
+}
+
+fn turn_rows(b: Block, n: usize) -> Block {
+    let mut out = [0; 16];
+    for i in 0..16 {
+        out[i] = turn(b[i], n * i % 16);
     }
-    row
+    out
+}
+
+fn move_columns(b: Block, n: usize, m: u16) -> Block {
+    let mut out = [0; 16];
+    for i in 0..16 {
+        out[i] = choose(m, b[(i + n) % 16], b[i]);
+    }
+    out
 }
 
 fn reorder(b: Block) -> Block {
-    let mut out = [0; 16];
-    for i in 0..16 {
-        let d = i / 8;
-        out[i] = row(|j| bit_at(&b, (j + 32 - 2 * i - d) % 16, (j + 32 - i - d) % 16));
-    }
-    out
+    let t = turn_rows(b, 1);
+    let u = move_columns(t, 8, BY_8);
+    let v = move_columns(u, 12, BY_4);
+    let w = move_columns(v, 14, BY_2);
+    move_columns(w, 15, BY_1)
 }
 
 fn restore(b: Block) -> Block {
-    let mut out = [0; 16];
-    for r in 0..16 {
-        out[r] = row(|c| {
-            let i = (c + 16 - r) % 16;
-            bit_at(&b, i, (c + i + i / 8) % 16)
-        });
+    let t = move_columns(b, 8, BY_8);
+    let u = move_columns(t, 4, BY_4);
+    let v = move_columns(u, 2, BY_2);
+    let w = move_columns(v, 1, BY_1);
+    turn_rows(w, 15)
+}
+
+fn lay(row: &mut BlockRow, block: usize, b: Block) {
+    for i in 0..16 {
+        row[8 * i + block] = b[i];
     }
-    out
 }
 
-fn held_row(blocks: &[Block; 672], block_row: usize, block: usize, i: usize) -> u16 {
-    blocks[8 * block_row + block][i]
-}
-
-fn pairs_block(pairs: &[u8; 10752], row: usize, block: usize) -> Block {
+fn pairs_block(pairs: &[u8; 10752], block_row: usize, block: usize) -> Block {
     let mut b = [0; 16];
     for r in 0..16 {
-        let at = 256 * row + 16 * r + 2 * block;
+        let at = 256 * (block_row / 2) + 16 * r + 2 * block;
         b[r] = (usize::from(pairs[at]) * 256 + usize::from(pairs[at + 1])) as u16;
     }
     b
 }
 
-pub fn reordered_blocks(pairs0: &[u8; 10752], pairs1: &[u8; 10752]) -> [Block; 672] {
-    let mut blocks = [[0; 16]; 672];
-    for x in 0..672 {
-        let (block_row, block) = (x / 8, x % 8);
-        let pairs = if block_row % 2 == 0 { pairs0 } else { pairs1 };
-        blocks[x] = reorder(pairs_block(pairs, block_row / 2, block));
+fn sent_block(pairs0: &[u8; 10752], pairs1: &[u8; 10752], block_row: usize, block: usize) -> Block {
+    if block_row.is_multiple_of(2) {
+        return pairs_block(pairs0, block_row, block);
     }
-    blocks
+    pairs_block(pairs1, block_row, block)
 }
 
-fn output_byte(blocks: &[Block; 672], column: usize, t: usize, subset: usize) -> u8 {
-    let block_row = subset / 2 * 42 + subset % 2 + 2 * (8 * t / 16);
-    let mut acc = 0;
-    for b in 0..8 {
-        let w = held_row(blocks, block_row, column / 16, (8 * t + b) % 16);
-        acc = acc * 2 + ((w >> (15 - column % 16)) % 2) as u8;
+fn reordered_row(pairs0: &[u8; 10752], pairs1: &[u8; 10752], block_row: usize) -> BlockRow {
+    let mut row = [0; 128];
+    for block in 0..8 {
+        lay(
+            &mut row,
+            block,
+            reorder(sent_block(pairs0, pairs1, block_row, block)),
+        );
     }
-    acc
+    row
 }
 
-pub fn write_bits(blocks: &[Block; 672], bits: &mut [u8; 21504]) {
-    for j in 0..21504 {
-        bits[j] = output_byte(blocks, j / 168, j % 168 / 4, j % 4);
+pub fn reordered_rows(pairs0: &[u8; 10752], pairs1: &[u8; 10752]) -> [BlockRow; 84] {
+    let mut rows = [[0; 128]; 84];
+    for k in 0..84 {
+        rows[k] = reordered_row(pairs0, pairs1, k);
+    }
+    rows
+}
+
+fn write_eight(rows: &[BlockRow; 84], column: usize, x: usize, out: &mut [u8]) {
+    for y in 0..8 {
+        let block_row = y % 4 / 2 * 42 + y % 4 % 2 + 2 * (16 * x / 16);
+        let w = rows[block_row][8 * (column % 16) + column / 16];
+        out[y] = ((w >> (8 - 8 * (y / 4))) % 256) as u8;
     }
 }
 
-fn line_row(bits: &[u8; 21504], block_row: usize, block: usize, i: usize) -> u16 {
+fn write_column(rows: &[BlockRow; 84], column: usize, out: &mut [u8]) {
+    for x in 0..21 {
+        write_eight(rows, column, x, &mut out[x * 8..x * 8 + 8]);
+    }
+}
+
+pub fn write_bits(rows: &[BlockRow; 84], bits: &mut [u8; 21504]) {
+    for column in 0..128 {
+        write_column(rows, column, &mut bits[column * 168..column * 168 + 168]);
+    }
+}
+
+fn line_block(bits: &[u8; 21504], block_row: usize, block: usize) -> Block {
     let subset = block_row / 42 * 2 + block_row % 2;
-    let q = block_row % 42 / 2 * 16 + i;
-    let at = 32 * (q / 8) + 8 * subset + q % 8;
-    row(|j| u16::from(bit(bits, 1344 * (16 * block + j) + at)))
-}
-
-pub fn restored_blocks(bits: &[u8; 21504]) -> [Block; 672] {
-    let mut blocks = [[0; 16]; 672];
-    for x in 0..672 {
-        let mut b = [0; 16];
-        for i in 0..16 {
-            b[i] = line_row(bits, x / 8, x % 8, i);
-        }
-        blocks[x] = restore(b);
+    let q = block_row % 42 / 2 * 16;
+    let mut b = [0; 16];
+    for j in 0..16 {
+        let at = 168 * (16 * block + j) + 4 * (q / 8) + subset;
+        b[j] = (usize::from(bits[at]) * 256 + usize::from(bits[at + 4])) as u16;
     }
-    blocks
+    b
 }
 
-pub fn write_pairs(blocks: &[Block; 672], encoder: usize, pairs: &mut [u8; 10752]) {
-    for m in 0..10752 {
-        let block_row = 2 * (m / 256) + encoder;
-        let w = held_row(blocks, block_row, m % 16 / 2, m % 256 / 16);
-        pairs[m] = ((w >> (8 - 8 * (m % 2))) % 256) as u8;
+fn restored_row(bits: &[u8; 21504], block_row: usize) -> BlockRow {
+    let mut row = [0; 128];
+    for block in 0..8 {
+        lay(&mut row, block, restore(line_block(bits, block_row, block)));
+    }
+    row
+}
+
+pub fn restored_rows(bits: &[u8; 21504]) -> [BlockRow; 84] {
+    let mut rows = [[0; 128]; 84];
+    for k in 0..84 {
+        rows[k] = restored_row(bits, k);
+    }
+    rows
+}
+
+fn write_row(row: &BlockRow, out: &mut [u8]) {
+    for x in 0..128 {
+        let w = row[x];
+        out[2 * x] = (w / 256 % 256) as u8;
+        out[2 * x + 1] = (w % 256) as u8;
+    }
+}
+
+pub fn write_pairs(rows: &[BlockRow; 84], encoder: usize, pairs: &mut [u8; 10752]) {
+    for r in 0..42 {
+        write_row(&rows[2 * r + encoder], &mut pairs[r * 256..r * 256 + 256]);
     }
 }

@@ -1,0 +1,105 @@
+// From the pairs of two encoders to the bits of a buffer, block row by block row.
+ghost use mathlib.Core.Path.{_≡_};
+ghost use Prim.Native.Nat.{_+_, _*_, _<_};
+ghost use lib.ListN.{length};
+ghost use Rattle.bits.specs.Bits.{pack};
+ghost use Rattle.bits.specs.Lists.{tabulate};
+ghost use Rattle.interleaving.specs.BlockBuffer.{pairsBlock, sentBlock, reorderedRow, outputBit, columnByte};
+ghost use Rattle.interleaving.specs.Laying.{Held};
+use crate::buffer::held_word;
+use crate::buffer::lay;
+use crate::rows::block_row_of;
+use crate::rows::pairs_byte;
+use blocks::block::reorder;
+use interleaving::BitRow;
+use interleaving::BlockRow;
+use interleaving::SubsetBitRow;
+
+// Block C of a block row, from its encoder's pairs.
+fn pairs_block(pairs: &[u8], k: BlockRow, block: usize) -> [u16; 16]
+    requires { ⌜ (length (now pairs) ≡ 10752) × (k .0 < 84) × (block < 8) ⌝ }
+    ensures { λ b. ⌜ b ≡ pairsBlock (now (pairs .entry)) k block ⌝ }
+{
+    let mut b = [0u16; 16];
+    for r in 0..16 {
+        let at = pairs_byte(k, block, BitRow(r));
+        b[r] = (bits::widen(pairs[at]) * 256 + bits::widen(pairs[at + 1])) as u16;
+    }
+    b
+}
+
+// Block C of a block row.
+fn sent_block(pairs0: &[u8], pairs1: &[u8], k: BlockRow, block: usize) -> [u16; 16]
+    requires { ⌜ (length (now pairs0) ≡ 10752) × (length (now pairs1) ≡ 10752) × (k .0 < 84) × (block < 8) ⌝ }
+    ensures { λ b. ⌜ b ≡ sentBlock (now (pairs0 .entry)) (now (pairs1 .entry)) k block ⌝ }
+{
+    if k.0 % 2 == 0 {
+        return pairs_block(pairs0, k, block);
+    }
+    pairs_block(pairs1, k, block)
+}
+
+// The reordered blocks of a block row, by columns.
+fn reordered_row(pairs0: &[u8], pairs1: &[u8], k: BlockRow) -> [u16; 128]
+    requires { ⌜ (length (now pairs0) ≡ 10752) × (length (now pairs1) ≡ 10752) × (k .0 < 84) ⌝ }
+    ensures { λ r. ⌜ r ≡ reorderedRow (now (pairs0 .entry)) (now (pairs1 .entry)) (k .0) ⌝ }
+{
+    let mut row = [0u16; 128];
+    for block in 0..8 {
+        lay(
+            &mut row,
+            block,
+            reorder(sent_block(pairs0, pairs1, k, block)),
+        );
+    }
+    row
+}
+
+// All block rows, reordered.
+pub fn reordered_rows(pairs0: &[u8], pairs1: &[u8]) -> [[u16; 128]; 84]
+    requires { ⌜ (length (now pairs0) ≡ 10752) × (length (now pairs1) ≡ 10752) ⌝ }
+    ensures { λ r. ⌜ Held (reorderedRow (now (pairs0 .entry)) (now (pairs1 .entry))) 84 r ⌝ }
+{
+    let none = [0u16; 128];
+    let mut rows = [none; 84];
+    for k in 0..84 {
+        rows[k] = reordered_row(pairs0, pairs1, BlockRow(k));
+    }
+    rows
+}
+
+// Bit rows 16x to 16x+15 of each subset at a column: t = 2x of subsets 0 to 3, then t = 2x+1.
+fn write_eight(rows: &[[u16; 128]; 84], column: usize, x: usize, out: &mut [u8])
+    requires { ⌜ (column < 128) × (x < 21) × (length (now out) ≡ 8) ⌝ }
+    ensures { λ _. ⌜ now (out .exit) ≡ tabulate 8 (λ y. columnByte (now (rows .entry)) column (x * 8 + y)) ⌝ }
+{
+    for y in 0..8 {
+        let k = block_row_of(y % 4, SubsetBitRow(16 * x));
+        let w = held_word(rows, k, 8 * (column % 16) + column / 16);
+        out[y] = ((w >> (8 - 8 * (y / 4))) % 256) as u8;
+    }
+}
+
+// The output bits of a column.
+fn write_column(rows: &[[u16; 128]; 84], column: usize, out: &mut [u8])
+    requires { ⌜ (column < 128) × (length (now out) ≡ 168) ⌝ }
+    ensures { λ _. ⌜ now (out .exit) ≡ tabulate 168 (columnByte (now (rows .entry)) column) ⌝ }
+{
+    for x in 0..21 {
+        let a = x * 8;
+        let e = a + 8;
+        write_eight(rows, column, x, &mut out[a..e]);
+    }
+}
+
+// The bits of a buffer of reordered block rows.
+pub fn write_bits(rows: &[[u16; 128]; 84], bits: &mut [u8])
+    requires { ⌜ length (now bits) ≡ 21504 ⌝ }
+    ensures { λ _. ⌜ now (bits .exit) ≡ pack 21504 (outputBit (now (rows .entry))) ⌝ }
+{
+    for column in 0..128 {
+        let a = column * 168;
+        let e = a + 168;
+        write_column(rows, column, &mut bits[a..e]);
+    }
+}
