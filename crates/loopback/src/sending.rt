@@ -6,7 +6,7 @@ use crate::refusing::refuse_encodings;
 ghost use mathlib.Core.Path.{_≡_};
 ghost use Prim.Native.Nat.{_*_, _<_};
 ghost use lib.ListN.{length};
-ghost use Rattle.superframe.specs.Stream.{encoder as encoderOf, codedOf, historyOver};
+ghost use Rattle.superframes.specs.Stream.{encoder as encoderOf, codedOf, historyOver};
 ghost use Rattle.loopback.specs.Random.{payloadIn};
 
 // The payload of super-frame q of an encoder.

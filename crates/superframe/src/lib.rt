@@ -1,8 +1,6 @@
 // Super-frames of the line: payload encoded (`pairs`), the coded pairs of both encoders made into frames, by the calls of interleaving,
 // cells and framing for every buffer and sub-frame; and the way back, from frames to coded pairs and from these to payload and marks.
-mod buffers;
 pub mod pairs;
-mod subframes;
 
 use calls::Answer;
 use calls::Refusal;
@@ -12,8 +10,8 @@ ghost use lib.ListN.{length};
 ghost use Rattle.cells.specs.Cells.{overheadRule, Legal};
 ghost use Rattle.cells.specs.Profiles.{qam16};
 ghost use Rattle.interleaving.specs.Calls.{parted};
-ghost use Rattle.superframe.specs.Superframe.{superframe};
-ghost use Rattle.superframe.specs.Apart.{takenCells, takenPairs, differingAll, lineRule, takeApart};
+ghost use Rattle.superframes.specs.Superframe.{superframe};
+ghost use Rattle.superframes.specs.Apart.{takenCells, takenPairs, differingAll, lineRule, takeApart};
 
 // The payload of a super-frame.
 type Payload = [u8; 344064];
@@ -28,8 +26,8 @@ pub fn make(pairs0: &[u8], pairs1: &[u8], overhead: &[u8], line: &mut [u8])
     ensures { λ _. ⌜ now (line .exit) ≡ superframe qam16 (now (pairs0 .entry)) (now (pairs1 .entry)) (now (overhead .entry)) ⌝ }
 {
     let mut payload = blank();
-    buffers::join(pairs0, pairs1, &mut payload);
-    subframes::frame(&payload, overhead, line);
+    superparts::buffers::join(pairs0, pairs1, &mut payload);
+    superparts::subframes::frame(&payload, overhead, line);
 }
 
 // The coded pairs of both encoders from legal frames, and the number of overhead cells that differ from the list.
@@ -38,8 +36,8 @@ fn take(line: &[u8], overhead: &[u8], pairs0: &mut [u8], pairs1: &mut [u8]) -> u
     ensures { λ r. ⌜ (r ≡ differingAll (now (line .entry)) (now (overhead .entry))) × (now (pairs0 .exit) ≡ takenPairs qam16 (takenCells (now (line .entry))) 0) × (now (pairs1 .exit) ≡ takenPairs qam16 (takenCells (now (line .entry))) 1) ⌝ }
 {
     let mut payload = blank();
-    let differing = subframes::unframe(line, overhead, &mut payload);
-    buffers::part(&payload, pairs0, pairs1);
+    let differing = superparts::subframes::unframe(line, overhead, &mut payload);
+    superparts::buffers::part(&payload, pairs0, pairs1);
     differing
 }
 

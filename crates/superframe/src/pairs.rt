@@ -7,7 +7,7 @@ ghost use Rattle.bits.specs.Parts.{partOf};
 ghost use Rattle.ofec.specs.Encoding.{encoded};
 ghost use Rattle.ofec.specs.Receiving.{newestPair, payloadOut, marks as pairMarks};
 ghost use Rattle.ofec.specs.History.{depth, shift};
-ghost use Rattle.superframe.specs.Stream.{encoder, receiver, codedOf, payloadsOf, marksOf, historyOver};
+ghost use Rattle.superframes.specs.Stream.{encoder, receiver, codedOf, payloadsOf, marksOf, historyOver};
 
 // Encodes pair k.
 fn encode_next(

@@ -1,7 +1,7 @@
 -- `superframe::make` meets its contract.
 -- Assumes nothing.
 use borrow.Author.Needs.{needs}
-use Rattle.superframe.specs.SuperframeLaws.{payload-legal, superframe-is}
+use Rattle.superframes.specs.SuperframeLaws.{payload-legal, superframe-is}
 use Rattle.superframe.proofs.make.Statement.{statement}
 use Rattle.superframe.proofs.make.Tie as tie
 

@@ -1,6 +1,6 @@
 -- `superframe::take` meets its contract.
 -- Assumes nothing.
-use Rattle.superframe.specs.ApartLaws.{taken-legal, pairs-of-line}
+use Rattle.superframes.specs.ApartLaws.{taken-legal, pairs-of-line}
 use borrow.Author.Needs.{needs}
 use Rattle.superframe.proofs.take.Statement.{statement}
 use Rattle.superframe.proofs.take.Tie as tie

@@ -1,7 +1,7 @@
 -- `superframe::take_apart` meets its contract.
 -- Assumes nothing.
 use Rattle.cells.specs.CallLaws.{demap-legal}
-use Rattle.superframe.specs.ApartLaws.{line-flat, line-legal, apart-cases}
+use Rattle.superframes.specs.ApartLaws.{line-flat, line-legal, apart-cases}
 use borrow.Author.Needs.{needs}
 use Rattle.superframe.proofs.take_apart.Statement.{statement}
 use Rattle.superframe.proofs.take_apart.Tie as tie

@@ -6,8 +6,8 @@ use Rattle.bits.specs.Filling.{Blocks, by-blocks, blocks-next}
 use Rattle.bits.specs.Parts.{partOf, byteOfEach}
 use Rattle.ofec.specs.History.{depth}
 use Rattle.ofec.specs.Encoding.{encoded}
-use Rattle.superframe.specs.Stream.{encoder, givenAt}
-use Rattle.superframe.specs.StreamLaws.{Streaming, streaming, coded-block}
+use Rattle.superframes.specs.Stream.{encoder, givenAt}
+use Rattle.superframes.specs.StreamLaws.{Streaming, streaming, coded-block}
 use borrow.Author.Needs.{needs}
 use Rattle.superframe.proofs.pairs.encode.Statement.{statement}
 use Rattle.superframe.proofs.pairs.encode.Tie as tie

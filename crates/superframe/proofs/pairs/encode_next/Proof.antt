@@ -1,7 +1,7 @@
 -- `superframe::pairs::encode_next` meets its contract.
 -- Assumes nothing.
 use borrow.Author.Needs.{needs}
-use Rattle.superframe.specs.StreamLaws.{pairing}
+use Rattle.superframes.specs.StreamLaws.{pairing}
 use Rattle.superframe.proofs.pairs.encode_next.Statement.{statement}
 use Rattle.superframe.proofs.pairs.encode_next.Tie as tie
 

@@ -6,8 +6,8 @@ use Rattle.bits.specs.Filling.{Blocks, by-blocks, blocks-next}
 use Rattle.bits.specs.Parts.{partOf, byteOfEach}
 use Rattle.ofec.specs.History.{depth}
 use Rattle.ofec.specs.Receiving.{payloadOut, marks as pairMarks}
-use Rattle.superframe.specs.Stream.{receiver, givenAt}
-use Rattle.superframe.specs.StreamLaws.{Streaming, streaming, stream-more, payload-block, marks-block}
+use Rattle.superframes.specs.Stream.{receiver, givenAt}
+use Rattle.superframes.specs.StreamLaws.{Streaming, streaming, stream-more, payload-block, marks-block}
 use borrow.Author.Needs.{needs}
 use Rattle.superframe.proofs.pairs.receive.Statement.{statement}
 use Rattle.superframe.proofs.pairs.receive.Tie as tie

@@ -1,6 +1,6 @@
 -- `superframe::pairs::receive_next` meets its contract.
 -- Assumes nothing.
-use Rattle.superframe.specs.StreamLaws.{pairing}
+use Rattle.superframes.specs.StreamLaws.{pairing}
 use borrow.Author.Needs.{needs}
 use Rattle.superframe.proofs.pairs.receive_next.Statement.{statement}
 use Rattle.superframe.proofs.pairs.receive_next.Tie as tie
