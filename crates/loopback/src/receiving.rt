@@ -14,12 +14,13 @@ ghost use Prim.Native.Nat.{_<_};
 ghost use lib.ListN.{length};
 ghost use Rattle.bits.specs.Bits.{pack};
 ghost use Rattle.bits.specs.Parts.{part};
+ghost use Rattle.ofec.specs.History.{depth};
 ghost use Rattle.ofec.specs.Receiving.{heldWord};
 
 // Word w of the last of eleven pairs.
 fn word(pairs: &[u8], pair: u32, w: usize) -> [u8; 32]
     requires { ⌜ (length (now pairs) ≡ 5632) × (w < 32) ⌝ }
-    ensures { λ r. ⌜ r ≡ pack 32 (heldWord (part 0 5120 (now (pairs .entry))) pair (part 5120 512 (now (pairs .entry))) w) ⌝ }
+    ensures { λ r. ⌜ r ≡ pack 32 (heldWord depth (part 0 5120 (now (pairs .entry))) pair (part 5120 512 (now (pairs .entry))) w) ⌝ }
 {
     held_word(&pairs[0..5120], &pairs[5120..5632], pair, w)
 }
@@ -27,7 +28,7 @@ fn word(pairs: &[u8], pair: u32, w: usize) -> [u8; 32]
 // Word w of the newest pair of a history, as far as that pair has it: its back half.
 fn kept_word(history: &[u8], pair: u32, w: usize) -> [u8; 32]
     requires { ⌜ (length (now history) ≡ 5120) × (w < 32) ⌝ }
-    ensures { λ r. ⌜ r ≡ pack 32 (heldWord (now (history .entry)) pair (part 4608 512 (now (history .entry))) w) ⌝ }
+    ensures { λ r. ⌜ r ≡ pack 32 (heldWord depth (now (history .entry)) pair (part 4608 512 (now (history .entry))) w) ⌝ }
 {
     held_word(history, &history[4608..5120], pair, w)
 }
