@@ -30,6 +30,16 @@ pub fn gap(number: u32) -> usize
     10
 }
 
+// The first of its groups of 32 cells that stands past the edge.
+pub fn first_whole(number: u32) -> usize
+    ensures { λ r. ⌜ (r + gap number ≡ edge number) × (edge number ≤ r * 32) × (r ≤ 4) ⌝ }
+{
+    if number == 0 {
+        return 4;
+    }
+    1
+}
+
 // The overhead cells of a sub-frame.
 fn overhead_cells(number: u32) -> usize
     ensures { λ r. ⌜ r ≡ overheadCells number ⌝ }
