@@ -12,7 +12,7 @@ const FIRST_OVERHEAD: usize = 110;
 
 // All cells of a sub-frame below this one are overhead, and of the others the pilots alone.
 pub fn edge(number: u32) -> usize
-    ensures { λ r. ⌜ (r ≡ edge number) × (r ≤ overheadCells number) ⌝ }
+    ensures { λ r. ⌜ (r ≡ edge number) × (r ≤ overheadCells number) × (r ≤ 110) ⌝ }
 {
     if number == 0 {
         return FIRST_OVERHEAD;
