@@ -4,6 +4,7 @@ pub mod Profile
 pub mod ProfileLaws
 pub mod Cells
 pub mod CellLaws
+pub mod Highest
 pub mod Calls
 pub mod CallLaws
 pub mod ResultLaws
@@ -14,3 +15,4 @@ pub mod Qam16Laws
 pub mod Profiles
 pub mod BenchValues
 pub mod Qam16Bytes
+pub mod Qam16Tables

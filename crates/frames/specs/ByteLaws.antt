@@ -7,13 +7,9 @@ use Prim.Native.Nat.{ℕ, _+_, _-_, _*_, _/_, _%_, _<_, _≤_}
 use native.Mathlib.Omega.{arith}
 use borrow.Author.Tests.{eq-eqb, ne-eqb}
 use lib.ListN.{length, getD, take, drop}
-use mir.Syntax.{w32}
-use mir.Val.{Fits}
-use Rattle.bits.specs.Lists.{tabulate}
-use Rattle.bits.specs.CountLaws.{count-le, differs-same, differs-other}
-use Rattle.bits.specs.Folding.{Counting}
+use Rattle.bits.specs.CountLaws.{differs-same, differs-other}
 use Rattle.bits.specs.TestLaws.{either, cond-yes, cond-no}
-use Rattle.frames.specs.Frames.{isOverhead, overheadBefore, overheadCells, payloadCells, overheadStart, ownOverhead, frameByte, payloadAt, unframed, cellDiffers, overheadDiffers}
+use Rattle.frames.specs.Frames.{isOverhead, overheadBefore, overheadCells, payloadCells, overheadStart, ownOverhead, frameByte, payloadAt, cellDiffers, overheadDiffers}
 use Rattle.frames.specs.Layout.{edge, gap, spot}
 use Rattle.frames.specs.LayoutLaws.{which, low-is, pilot-is, rest-is, overhead-low, overhead-pilot, payload-rest}
 use Rattle.frames.specs.PlaceLaws.{payload-index-lt, payloadCell-spot}
@@ -56,10 +52,6 @@ pub payload-read : (s : ℕ) (frame : List ℕ) (j g : ℕ) → j < payloadCells
     → getD frame (((j / 2 + g) / 31 * 32 + 1 + (j / 2 + g) % 31) * 2 + j % 2) 0 ≡ payloadAt s frame j
 unfolding payloadAt spot
 payload-read s frame j g l e = rw e (ap (λ k. getD frame (k * 2 + j % 2) 0) (sym (payloadCell-spot s (j / 2) (omega arith))))
-
-pub payload-filled : (s : ℕ) (frame d : List ℕ) (n : ℕ) → n ≡ payloadCells s * 2 → d ≡ tabulate n (payloadAt s frame) → d ≡ unframed s frame
-unfolding unframed
-payload-filled s frame d n e f = f ∙ ap (λ k. tabulate k (payloadAt s frame)) e
 
 -- ---- a sub-frame's part of the overhead list
 
@@ -105,15 +97,7 @@ module _ (s : ℕ) (frame own : List ℕ) (m e : ℕ) (is : e ≡ edge s) where
   differs-pilot r g gis l z d =
       d ∙ ap (cellDiffers frame m own) (omega (arith, overhead-pilot s m (omega arith) z)) ∙ sym (cond-yes (isOverhead s m) _ _ (pilot-is s m z))
 
-pub ruleset overhead-differs = (differs-low, differs-rest, differs-pilot)
-
--- ---- counting them
-
-overheadDiffers-le : (s : ℕ) (frame own : List ℕ) (m : ℕ) → overheadDiffers s frame own m ≤ 1
+pub overheadDiffers-le : (s : ℕ) (frame own : List ℕ) (m : ℕ) → overheadDiffers s frame own m ≤ 1
 unfolding overheadDiffers
 overheadDiffers-le s frame own m =
     either (λ v. v ≤ 1) (isOverhead s m) (cellDiffers frame m own (overheadBefore s m)) 0 (cellDiffers-le frame m own (overheadBefore s m)) (omega arith)
-
-pub tally-fits : (s : ℕ) (frame own : List ℕ) (n m v : ℕ) → Counting (overheadDiffers s frame own) 3712 m n → v ≡ overheadDiffers s frame own m → Fits w32 (n + v)
-tally-fits s frame own n m v c e =
-    record { fits = omega (arith, c .upto, c .is, count-le m (overheadDiffers s frame own) (overheadDiffers-le s frame own), overheadDiffers-le s frame own m) }

@@ -5,6 +5,8 @@ pub mod LayoutLaws
 pub mod PlaceLaws
 pub mod FrameLaws
 pub mod ByteLaws
+pub mod RunLaws
+pub mod PilotLaws
 pub mod Calls
 pub mod CallLaws
 pub mod ResultLaws

@@ -9,6 +9,7 @@ ghost use Rattle.cells.specs.Levels.{level, rails};
 ghost use Rattle.cells.specs.Cells.{payloadRule, Legal, toCells, toBits};
 ghost use Rattle.cells.specs.Qam16.{cellByte};
 ghost use Rattle.cells.specs.Qam16Inverse.{levelAt, firstBit, secondBit, byteOfCell};
+ghost use Rattle.cells.specs.Qam16Tables.{cellPair, symbolCells, cellSymbols};
 ghost use Rattle.cells.specs.Profiles.{qam16};
 
 // The byte 4×(I+3)/2 + (Q+3)/2 of the bit pairs (a, b) of I and (c, d) of Q.
@@ -49,14 +50,64 @@ fn byte_of(x: u8, y: u8) -> u8
     weave(x / 4, y / 4) * 16 + weave(x % 4, y % 4)
 }
 
+// X and Y of a symbol's cell as one number, X in the lower half.
+fn cell_pair(b: u8) -> u16
+    ensures { λ r. ⌜ r ≡ cellPair b ⌝ }
+{
+    let x = cell_byte(b, 0);
+    let y = cell_byte(b, 1);
+    x as u16 + y as u16 * 256
+}
+
+// The cell of every symbol.
+fn symbol_cells() -> [u16; 256]
+    ensures { λ r. ⌜ r ≡ symbolCells ⌝ }
+{
+    let mut table = [0u16; 256];
+    for b in 0..256 {
+        table[b] = cell_pair(b as u8);
+    }
+    table
+}
+
+// A symbol's cell, from the table.
+fn cell_in(table: &[u16; 256], b: u8) -> u16
+    requires { ⌜ now table ≡ symbolCells ⌝ }
+    ensures { λ r. ⌜ (r ≡ cellPair b) × (r < 4096) ⌝ }
+{
+    table[b as usize]
+}
+
 // The cells of a buffer of symbols.
 pub fn map(bits: &[u8], cells: &mut [u8])
     requires { ⌜ length (now cells) ≡ length (now bits) * 2 ⌝ }
     ensures { λ _. ⌜ now (cells .exit) ≡ toCells qam16 (now (bits .entry)) ⌝ }
 {
-    for j in 0..cells.len() {
-        cells[j] = cell_byte(bits[j / 2], j % 2);
+    let table = symbol_cells();
+    for i in 0..bits.len() {
+        let v = cell_in(&table, bits[i]);
+        cells[i * 2] = (v % 256) as u8;
+        cells[i * 2 + 1] = (v / 256) as u8;
     }
+}
+
+// The symbol of every legal cell, X before Y.
+fn cell_symbols() -> [u8; 256]
+    ensures { λ r. ⌜ r ≡ cellSymbols ⌝ }
+{
+    let mut table = [0u8; 256];
+    for k in 0..256 {
+        table[k] = byte_of((k / 16) as u8, (k % 16) as u8);
+    }
+    table
+}
+
+// The symbol of a legal cell, from the table.
+fn symbol_in(table: &[u8; 256], x: u8, y: u8) -> u8
+    requires { ⌜ (now table ≡ cellSymbols) × (x < 16) × (y < 16) ⌝ }
+    ensures { λ r. ⌜ r ≡ byteOfCell x y ⌝ }
+{
+    table[(x * 16 + y) as usize]
 }
 
 // The symbols of a buffer of legal cells.
@@ -64,7 +115,8 @@ pub fn demap(cells: &[u8], bits: &mut [u8])
     requires { ⌜ (length (now cells) ≡ length (now bits) * 2) × Legal (payloadRule qam16) (now cells) ⌝ }
     ensures { λ _. ⌜ now (bits .exit) ≡ toBits qam16 (now (cells .entry)) ⌝ }
 {
+    let table = cell_symbols();
     for i in 0..bits.len() {
-        bits[i] = byte_of(cells[i * 2], cells[i * 2 + 1]);
+        bits[i] = symbol_in(&table, cells[i * 2], cells[i * 2 + 1]);
     }
 }

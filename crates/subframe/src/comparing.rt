@@ -1,10 +1,13 @@
 // The overhead cells of a sub-frame that differ from the overhead list.
 use crate::layout::edge;
+use crate::layout::first_whole;
 use crate::layout::gap;
 ghost use mathlib.Core.Path.{_≡_};
 ghost use Prim.Native.Nat.{_+_, _*_, _<_};
 ghost use lib.ListN.{length};
+ghost use Rattle.bits.specs.Count.{count};
 ghost use Rattle.frames.specs.Frames.{overheadCells, cellDiffers, overheadDiffers, differing};
+ghost use Rattle.frames.specs.Layout.{edge};
 
 // 1 where cell i of one buffer and cell k of another differ, and 0 otherwise.
 fn cell_differs(a: &[u8], i: usize, b: &[u8], k: usize) -> u32
@@ -20,28 +23,29 @@ fn cell_differs(a: &[u8], i: usize, b: &[u8], k: usize) -> u32
     0
 }
 
-// 1 where cell m of the frame is overhead and differs from its cell of the overhead list, and 0 otherwise.
-fn overhead_differs(number: u32, frame: &[u8], own: &[u8], m: usize) -> u32
-    requires { ⌜ (length (now frame) ≡ 7424) × (length (now own) ≡ overheadCells number * 2) × (m < 3712) ⌝ }
-    ensures { λ r. ⌜ r ≡ overheadDiffers number (now (frame .entry)) (now (own .entry)) m ⌝ }
+// How many of the cells below the edge differ.
+fn differing_below(number: u32, frame: &[u8], own: &[u8]) -> u32
+    requires { ⌜ (length (now frame) ≡ 7424) × (length (now own) ≡ overheadCells number * 2) ⌝ }
+    ensures { λ r. ⌜ r ≡ count (edge number) (overheadDiffers number (now (frame .entry)) (now (own .entry))) ⌝ }
 {
-    if m < edge(number) {
-        return cell_differs(frame, m, own, m);
+    let e = edge(number);
+    let mut n: u32 = 0;
+    for m in 0..e {
+        n = n + cell_differs(frame, m, own, m);
     }
-    if m % 32 != 0 {
-        return 0;
-    }
-    cell_differs(frame, m, own, m / 32 + gap(number))
+    n
 }
 
-// How many overhead cells differ.
+// How many overhead cells differ: of those below the edge, and of the pilots past it.
 pub fn differing(number: u32, frame: &[u8], own: &[u8]) -> u32
     requires { ⌜ (length (now frame) ≡ 7424) × (length (now own) ≡ overheadCells number * 2) ⌝ }
     ensures { λ r. ⌜ r ≡ differing number (now (frame .entry)) (now (own .entry)) ⌝ }
 {
-    let mut n: u32 = 0;
-    for m in 0..3712 {
-        n = n + overhead_differs(number, frame, own, m);
+    let g = gap(number);
+    let w = first_whole(number);
+    let mut n = differing_below(number, frame, own);
+    for i in w..116 {
+        n = n + cell_differs(frame, i * 32, own, i + g);
     }
     n
 }

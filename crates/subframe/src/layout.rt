@@ -12,7 +12,7 @@ const FIRST_OVERHEAD: usize = 110;
 
 // All cells of a sub-frame below this one are overhead, and of the others the pilots alone.
 pub fn edge(number: u32) -> usize
-    ensures { λ r. ⌜ (r ≡ edge number) × (r ≤ overheadCells number) ⌝ }
+    ensures { λ r. ⌜ (r ≡ edge number) × (r ≤ overheadCells number) × (r ≤ 110) ⌝ }
 {
     if number == 0 {
         return FIRST_OVERHEAD;
@@ -28,6 +28,16 @@ pub fn gap(number: u32) -> usize
         return 106;
     }
     10
+}
+
+// The first of its groups of 32 cells that stands past the edge.
+pub fn first_whole(number: u32) -> usize
+    ensures { λ r. ⌜ (r + gap number ≡ edge number) × (edge number ≤ r * 32) × (r ≤ 4) ⌝ }
+{
+    if number == 0 {
+        return 4;
+    }
+    1
 }
 
 // The overhead cells of a sub-frame.

@@ -1,33 +1,17 @@
--- `mapper::legal::first_illegal` meets its contract: a search from the front.
+-- `mapper::legal::first_illegal` meets its contract: where the highest byte is legal, all are.
 -- Assumes nothing.
-use Prim.Native.Nat.{_-_}
-use lib.ListN.{length}
-use borrow.Author.Tests.{le-leb, lt-leb}
-use Rattle.bits.specs.Seeking.{Seeking, seek}
-use Rattle.cells.specs.Cells.{overheadRule, firstIllegal}
+use Rattle.cells.specs.Highest.{all-low}
 use borrow.Author.Needs.{needs}
 use Rattle.mapper.proofs.legal.first_illegal.Statement.{statement}
 use Rattle.mapper.proofs.legal.first_illegal.Tie as tie
 
-ruleset kit = (needs, seek, le-leb, lt-leb)
-
-abbrev Inv-loop : tie.InvT-loop
-Inv-loop cells i₀ i-end i = Seeking overheadRule cells i
-
-abbrev μ-loop : tie.MeasureT-loop
-μ-loop cells i₀ i-end i = length cells - i
+ruleset kit = (needs, all-low)
 
 pub first-illegal-spec : {M : Type 1} → statement M
-unfolding firstIllegal overheadRule
 first-illegal-spec =
     tie.close
     (tie.spec
-    Inv-loop
-    μ-loop
-    (λ c. search kit)  -- loop-holds
-    (λ c. search kit)  -- shared-slice-read-if1
+    (λ c κs. search needs)  -- highest-requires
     (λ c. search kit)  -- returns
-    (λ c. search kit)  -- add-i
-    (λ c. search kit)  -- loop-less
-    (λ c. search kit)  -- loop-again
+    (λ c κs. search needs)  -- search-requires
     (λ c. search kit))  -- returns-2

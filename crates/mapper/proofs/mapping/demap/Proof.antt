@@ -11,10 +11,10 @@ use Rattle.mapper.proofs.mapping.demap.Tie as tie
 ruleset kit = (needs, fill, bits-filled, legal)
 
 abbrev Inv-loop : tie.InvT-loop
-Inv-loop cells bits₀ i₀ i-end bits i = Filling (byteAt cells) (length bits₀) i bits
+Inv-loop cells bits₀ table i₀ i-end bits i = Filling (byteAt cells) (length bits₀) i bits
 
 abbrev μ-loop : tie.MeasureT-loop
-μ-loop cells bits₀ i₀ i-end bits i = length bits₀ - i
+μ-loop cells bits₀ table i₀ i-end bits i = length bits₀ - i
 
 pub demap-spec : {M : Type 1} → statement M
 unfolding byteAt
@@ -23,13 +23,14 @@ demap-spec =
     (tie.spec
     Inv-loop
     μ-loop
+    (λ c κs. search kit)  -- cell-symbols-requires
     (λ c. search kit)  -- loop-holds
-    (λ c. search kit)  -- mul-byte-of
-    (λ c. search kit)  -- shared-slice-read-byte-of
-    (λ c. search kit)  -- mul-byte-of-2
-    (λ c. search kit)  -- add-byte-of
-    (λ c. search kit)  -- shared-slice-read-byte-of-2
-    (λ c κs. search kit)  -- byte-of-requires
+    (λ c. search kit)  -- mul-symbol-in
+    (λ c. search kit)  -- shared-slice-read-symbol-in
+    (λ c. search kit)  -- mul-symbol-in-2
+    (λ c. search kit)  -- add-symbol-in
+    (λ c. search kit)  -- shared-slice-read-symbol-in-2
+    (λ c κs. search kit)  -- symbol-in-requires
     (λ c. search kit)  -- slice-write-bits
     (λ c. search kit)  -- add-i
     (λ c. search kit)  -- loop-less

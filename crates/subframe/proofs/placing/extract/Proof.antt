@@ -1,21 +1,18 @@
--- `subframe::placing::extract` meets its contract: the payload is filled from the front.
+-- `subframe::placing::extract` meets its contract: the runs are taken one after the other.
 -- Assumes nothing.
 use Prim.Native.Nat.{_-_}
-use lib.ListN.{length}
-use Rattle.bits.specs.Filling.{Filling, fill}
-use Rattle.frames.specs.Frames.{payloadAt}
-use Rattle.frames.specs.ByteLaws.{payload-filled}
+use Rattle.frames.specs.RunLaws.{Runs, by-runs}
 use borrow.Author.Needs.{needs}
 use Rattle.subframe.proofs.placing.extract.Statement.{statement}
 use Rattle.subframe.proofs.placing.extract.Tie as tie
 
-ruleset kit = (needs, fill, payload-filled)
+ruleset kit = (needs, by-runs)
 
 abbrev Inv-loop : tie.InvT-loop
-Inv-loop number frame payload₀ j₀ j-end payload j = Filling (payloadAt number frame) (length payload₀) j payload
+Inv-loop number frame payload₀ g w i₀ payload i = Runs number frame i payload
 
 abbrev μ-loop : tie.MeasureT-loop
-μ-loop number frame payload₀ j₀ j-end payload j = length payload₀ - j
+μ-loop number frame payload₀ g w i₀ payload i = 116 - i
 
 pub extract-spec : {M : Type 1} → statement M
 extract-spec =
@@ -23,10 +20,20 @@ extract-spec =
     (tie.spec
     Inv-loop
     μ-loop
+    (λ c κs. search kit)  -- gap-requires
+    (λ c κs. search kit)  -- extract-rest-requires
     (λ c. search kit)  -- loop-holds
-    (λ c κs. search kit)  -- payload-byte-requires
-    (λ c. search kit)  -- slice-write-payload
-    (λ c. search kit)  -- add-j
+    (λ c. search kit)  -- mul-a
+    (λ c. search kit)  -- mul-a-2
+    (λ c. search kit)  -- sub-a
+    (λ c. search kit)  -- add-e
+    (λ c. search kit)  -- mul-extract-run
+    (λ c. search kit)  -- add-extract-run
+    (λ c. search kit)  -- sub-extract-run
+    (λ c. search kit)  -- part-extract-run-start
+    (λ c. search kit)  -- part-extract-run-end
+    (λ c κs. search kit)  -- extract-run-requires
+    (λ c. search kit)  -- add-i
     (λ c. search kit)  -- loop-less
     (λ c. search kit)  -- loop-again
     (λ c. search kit)  -- same-length

@@ -1,31 +1,35 @@
--- `subframe::placing::place` meets its contract: the frame is filled from the front.
+-- `subframe::placing::place` meets its contract: the groups are put one after the other.
 -- Assumes nothing.
 use Prim.Native.Nat.{_-_}
-use Rattle.bits.specs.Filling.{Filling, fill}
+use Rattle.bits.specs.Filling.{Blocks, by-blocks}
 use Rattle.frames.specs.Frames.{frameAt, framed}
 use borrow.Author.Needs.{needs}
 use Rattle.subframe.proofs.placing.place.Statement.{statement}
 use Rattle.subframe.proofs.placing.place.Tie as tie
 
-ruleset kit = (needs, fill)
+ruleset kit = (needs, by-blocks)
 
 abbrev Inv-loop : tie.InvT-loop
-Inv-loop number payload own frame₀ j₀ frame j = Filling (frameAt number payload own) 7424 j frame
+Inv-loop number payload own frame₀ i₀ frame i = Blocks (frameAt number payload own) 64 116 i frame
 
 abbrev μ-loop : tie.MeasureT-loop
-μ-loop number payload own frame₀ j₀ frame j = 7424 - j
+μ-loop number payload own frame₀ i₀ frame i = 116 - i
 
 pub place-spec : {M : Type 1} → statement M
-unfolding frameAt framed
+unfolding framed
 place-spec =
     tie.close
     (tie.spec
     Inv-loop
     μ-loop
     (λ c. search kit)  -- loop-holds
-    (λ c κs. search kit)  -- frame-byte-requires
-    (λ c. search kit)  -- slice-write-frame
-    (λ c. search kit)  -- add-j
+    (λ c. search kit)  -- mul-a
+    (λ c. search kit)  -- add-e
+    (λ c. search kit)  -- sub-place-group
+    (λ c. search kit)  -- part-place-group-start
+    (λ c. search kit)  -- part-place-group-end
+    (λ c κs. search kit)  -- place-group-requires
+    (λ c. search kit)  -- add-i
     (λ c. search kit)  -- loop-less
     (λ c. search kit)  -- loop-again
     (λ c. search kit)  -- same-length

@@ -1,0 +1,16 @@
+-- `mapper::mapping::cell_in` meets its contract: the table's entry.
+-- Assumes nothing.
+use Rattle.cells.specs.Qam16Tables.{pair-entry, pair-below}
+use borrow.Author.Needs.{needs}
+use Rattle.mapper.proofs.mapping.cell_in.Statement.{statement}
+use Rattle.mapper.proofs.mapping.cell_in.Tie as tie
+
+ruleset kit = (needs, pair-entry, pair-below)
+
+pub cell-in-spec : {M : Type 1} → statement M
+cell-in-spec =
+    tie.close
+    (tie.spec
+    (λ c. search kit)  -- mul-result
+    (λ c. search kit)  -- element-copy-out-result
+    (λ c. search kit))  -- returns

@@ -1,0 +1,17 @@
+-- `subframe::placing::extract_run` meets its contract: what is put is what was read.
+-- Assumes nothing.
+use Rattle.frames.specs.RunLaws.{copied}
+use borrow.Author.Needs.{needs}
+use Rattle.subframe.proofs.placing.extract_run.Statement.{statement}
+use Rattle.subframe.proofs.placing.extract_run.Tie as tie
+
+ruleset kit = (needs, copied)
+
+pub extract-run-spec : {M : Type 1} → statement M
+extract-run-spec =
+    tie.close
+    (tie.spec
+    (λ c κs. search kit)  -- run-of-requires
+    (λ c κs. search kit)  -- put-run-requires
+    (λ c. search kit)  -- same-length
+    (λ c. search kit))  -- returns
