@@ -1,8 +1,11 @@
 -- An exported function that hands the library's call on, and its answer in numbers, gives what it should.
 -- Assumes nothing.
-use mathlib.Core.Path.{_≡_, ap, _∙_}
+use mathlib.Core.Path.{_≡_, sym, ap, _∙_}
 use mathlib.Core.List.{List, [], _∷_}
-use Prim.Native.Nat.{ℕ}
+use Prim.Native.Nat.{ℕ, _^_, _<_}
+use native.Mathlib.Omega.{arith}
+use borrow.Author.Tests.{eq-eqb, ne-eqb}
+use lib.ListN.{length}
 use Rattle.calls.specs.declared.Answer.{Answer}
 use Rattle.bch.specs.Calls.{Repaired, afterRepair}
 use Rattle.ofec.specs.Calls.{Encoded, afterEncode}
@@ -10,9 +13,11 @@ use Rattle.ofec.specs.Calls.{Received, afterReceive}
 use Rattle.interleaving.specs.Calls.{Interleaved, joined}
 use Rattle.interleaving.specs.Calls.{Apart, parted}
 use Rattle.cells.specs.Calls.{After, after}
+use Rattle.lineformat.specs.Reading.{readRefusal, startOf, readPart}
+use Rattle.lineformat.specs.ReadingLaws.{stretch-length}
 use Rattle.lineformat.specs.Writing.{Written, written}
 use Rattle.capi.specs.declared.Outcome.{Outcome}
-use Rattle.capi.specs.Outcomes.{outcomeOf}
+use Rattle.capi.specs.Outcomes.{outcome, outcomeOf, stretchOf}
 use Rattle.capi.specs.Exports.{exported, ofRepaired, ofEncoded, ofReceived, ofInterleaved, ofApart, ofAfter, ofWritten}
 
 module _ (a : Answer) (o : Outcome) (refused : ℕ) (e : o ≡ outcomeOf a refused) where
@@ -45,3 +50,24 @@ module _ (a : Answer) (o : Outcome) (refused : ℕ) (e : o ≡ outcomeOf a refus
   written-is x s g = ap (λ q. exported q (s ∷ [])) e ∙ ap (ofWritten refused) g
 
 pub ruleset exports = (repaired-is, encoded-is, received-is, interleaved-is, apart-is, after-is, written-is)
+
+-- ---- reading a line file: m is the number that the companion gave
+
+module _ (file : List ℕ) (n o f q s m : ℕ) (is : m ≡ readRefusal file n o f q s) where
+  pub stretch-refused : (m ≡ 0 → ⊥) → outcome m 0 0 ≡ stretchOf (readRefusal file n o f q s) f q s
+  unfolding stretchOf
+  stretch-refused h = rw is (simp (ne-eqb _ 0 (λ z. h (is ∙ z))))
+
+  -- Where it gave none, the reader hands back a part of 7,424 bytes.
+  module _ (part : List ℕ) (none : m ≡ 0) (handed : part ≡ readPart file n o f q s) where
+    pub part-length : length part ≡ 7424
+    part-length = ap length handed ∙ stretch-length file n o f q s (sym is ∙ none)
+
+    pub part-fits : length part < 2 ^ 32
+    part-fits = omega (arith, part-length)
+
+    pub stretch-done : (i : ℕ) → i ≡ startOf f q s → outcome 0 (length part) i ≡ stretchOf (readRefusal file n o f q s) f q s
+    unfolding stretchOf
+    stretch-done i e = rw (part-length, e) (simp (eq-eqb _ 0 (sym is ∙ none)))
+
+pub ruleset stretches = (stretch-refused, part-fits, stretch-done)

@@ -1,9 +1,8 @@
 -- What the exported functions answer: the answers of the library in numbers, by its own definitions.
 -- Assumes nothing.
-use mathlib.Core.Path.{_≡_, refl, sym, _∙_}
+use mathlib.Core.Path.{_≡_, refl}
 use mathlib.Core.Bool.{Bool, not, cond}
 use Prim.Native.Nat.{ℕ}
-use borrow.Author.Tests.{eq-eqb, ne-eqb}
 use lib.Dec.{eqb}
 use Rattle.calls.specs.declared.Answer.{Answer}
 use Rattle.calls.specs.Answers.{refusalOf, indexOf, valueOr}
@@ -37,14 +36,3 @@ line-is g h n e d = rw (d, e) refl
 -- Where a sub-frame stands, n being the companion's number: its 7,424 bytes from f + 356,352×q + 7,424×s on; zeros in a refusal.
 unfoldable pub stretchOf : ℕ → ℕ → ℕ → ℕ → Outcome
 stretchOf n f q s = cond (eqb n 0) (outcome 0 7424 (startOf f q s)) (outcome n 0 0)
-
--- In the form that `search` can use: m is the number that was found.
-pub stretch-refused : (n f q s m : ℕ) → m ≡ n → (m ≡ 0 → ⊥) → outcome m 0 0 ≡ stretchOf n f q s
-unfolding stretchOf
-stretch-refused n f q s m e d = rw e (simp (ne-eqb n 0 (λ z. d (e ∙ z))))
-
-pub stretch-done : (n f q s m i : ℕ) → m ≡ n → m ≡ 0 → i ≡ startOf f q s → outcome 0 7424 i ≡ stretchOf n f q s
-unfolding stretchOf
-stretch-done n f q s m i e z d = rw d (simp (eq-eqb n 0 (sym e ∙ z)))
-
-pub ruleset stretches = (stretch-refused, stretch-done)

@@ -153,7 +153,8 @@ pub extern "C" fn ofec_open_line(file: &[u8]) -> Line
     }
 }
 
-// Where a sub-frame of an open line file stands. index: where its stretch starts; value: 7,424 bytes; both 0 in a refusal.
+// Where a sub-frame of an open line file stands. index: where its stretch starts; value: the length of the part that the reader hands
+// back, 7,424 bytes; both 0 in a refusal.
 #[no_mangle]
 pub extern "C" fn ofec_read_line(
     file: &[u8],
@@ -173,9 +174,10 @@ pub extern "C" fn ofec_read_line(
             index: 0,
         };
     }
+    let part = linefile::read_at(file, superframes, overhead, frames, superframe, subframe);
     Outcome {
         refusal: 0,
-        value: 7424,
+        value: part.len() as u32,
         index: linefile::start(frames, superframe, subframe) as u64,
     }
 }

@@ -15,7 +15,8 @@ fn move_down(history: &mut [u8])
     }
 }
 
-fn copy(from: &[u8], to: &mut [u8])
+// Copies a buffer into one of the same length.
+pub fn copy(from: &[u8], to: &mut [u8])
     requires { ⌜ length (now to) ≡ length (now from) ⌝ }
     ensures { λ _. ⌜ now (to .exit) ≡ now (from .entry) ⌝ }
 {

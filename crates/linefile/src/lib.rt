@@ -5,9 +5,11 @@ mod reading;
 mod writing;
 
 pub use line_file::LineFile;
+pub use line_file::frame_of;
 pub use line_file::open;
 pub use line_file::read;
 pub use line_file::read_refusal;
+pub use line_file::refusal_of_frame;
 pub use opening::open_header;
 pub use opening::open_part;
 pub use opening::open_refusal;

@@ -55,3 +55,17 @@ pub fn read_refusal<'a>(line: LineFile<'a>, superframe: u32, subframe: u32) -> u
         subframe,
     )
 }
+
+// A lent file opened and read: the sub-frame's own stretch of it, or the empty part where either is refused.
+pub fn frame_of<'a>(file: &'a [u8], superframe: u32, subframe: u32) -> &'a [u8]
+    ensures { λ r. ⌜ now r ≡ readPartIn (openCall (now (file .entry))) superframe subframe ⌝ }
+{
+    read(open(file), superframe, subframe)
+}
+
+// Its companion: the refusal number, or 0.
+pub fn refusal_of_frame<'a>(file: &'a [u8], superframe: u32, subframe: u32) -> u32
+    ensures { λ r. ⌜ r ≡ readRefusalIn (openCall (now (file .entry))) superframe subframe ⌝ }
+{
+    read_refusal(open(file), superframe, subframe)
+}

@@ -10,7 +10,9 @@ use native.Mathlib.Omega.{arith}
 use borrow.Author.Tests.{lt-ltb, le-ltb, le-leb, lt-leb, eq-eqb, ne-eqb, ltb-true, leb-true, eqb-true}
 use lib.Dec.{leb, ltb, eqb}
 use lib.ListN.{length, getD, take, drop, length-drop}
-use lib.Seq.{length-take-le, getD-take, getD-drop}
+use lib.Seq.{ext-getD, length-take-le, getD-take, getD-drop}
+use Rattle.bits.specs.Parts.{part, endToEnd}
+use Rattle.bits.specs.PartLaws.{part-length, part-at, endToEnd-length, endToEnd-at}
 use Rattle.bits.specs.Tests.{both}
 use Rattle.calls.specs.declared.Answer.{Answer}
 use Rattle.calls.specs.declared.Answer.the-variants.{Done, Refused}
@@ -185,6 +187,30 @@ module _ (file : List ℕ) (n o f q s : ℕ) where
 
     pub stretch-byte : (i : ℕ) → i < 7424 → getD (readPart file n o f q s) i 0 ≡ getD file (startOf f q s + i) 0
     stretch-byte i l = ap (λ (p : List ℕ). getD p i 0) is-stretch ∙ getD-take 7424 (drop (startOf f q s) file) i 0 l ∙ getD-drop (startOf f q s) file i 0
+
+-- The 48 stretches of a super-frame, end to end, are its bytes of the file.
+pub stretches-whole : (file : List ℕ) (n o f q : ℕ) → ((s : ℕ) → s ≤ 47 → Accepted (readAnswer file n o f q s))
+    → endToEnd 48 7424 (readPart file n o f q) ≡ part (startOf f q 0) 356352 file
+stretches-whole file n o f q all =
+    ext-getD 0 whole (part (startOf f q 0) 356352 file) (long ∙ sym (part-length (startOf f q 0) 356352 file inside))
+    (λ y l. byte y (omega (arith, long)))
+  where
+    whole : List ℕ
+    whole = endToEnd 48 7424 (readPart file n o f q)
+
+    long : length whole ≡ 356352
+    long = endToEnd-length 48 7424 (readPart file n o f q)
+
+    inside : startOf f q 0 + 356352 ≤ length file
+    inside = omega (arith, within file n o f q 47 (accepted-reads file n o f q 47 (all 47 (omega arith))))
+
+    byte : (y : ℕ) → y < 356352 → getD whole y 0 ≡ getD (part (startOf f q 0) 356352 file) y 0
+    byte y l =
+        let e : startOf f q (y / 7424) + y % 7424 ≡ startOf f q 0 + y = omega arith in
+        endToEnd-at 48 7424 (readPart file n o f q) y l
+        ∙ stretch-byte file n o f q (y / 7424) (all (y / 7424) (omega arith)) (y % 7424) (omega arith)
+        ∙ ap (λ i. getD file i 0) e
+        ∙ sym (part-at (startOf f q 0) 356352 file inside y l)
 
 -- No byte of the file is in the stretches of two different sub-frames.
 pub apart : (f q s q′ s′ x : ℕ) → s ≤ 47 → s′ ≤ 47 → startOf f q s ≤ x → x < startOf f q s + 7424 → startOf f q′ s′ ≤ x → x < startOf f q′ s′ + 7424 → (q ≡ q′) × (s ≡ s′)

@@ -11,14 +11,18 @@ use lib.Dec.{leb, eqb}
 use lib.ListN.{length, getD, take}
 use lib.Seq.{take-all}
 use Rattle.bits.specs.ListLaws.{length-tabulate, getD-tabulate}
+use Rattle.bits.specs.Parts.{part, endToEnd}
 use Rattle.bits.specs.Tests.{both}
 use Rattle.calls.specs.declared.Answer.the-variants.{Done, Refused}
 use Rattle.calls.specs.declared.Refusal.the-variants.{Misfit, BadHeader}
 use Rattle.calls.specs.Answers.{refusalOf, Accepted, TurnedBack}
+use Rattle.lineformat.specs.declared.Header.{Header}
 use Rattle.lineformat.specs.Header.{number}
 use Rattle.lineformat.specs.HeaderLaws.{Sound, judged-good, number-first}
-use Rattle.lineformat.specs.Opening.{openFile, openCall}
+use Rattle.lineformat.specs.Opening.{OpenFile, openFile, openCall}
 use Rattle.lineformat.specs.OpeningLaws.{open-done}
+use Rattle.lineformat.specs.Reading.{readAnswerIn, readPartIn, startOf}
+use Rattle.lineformat.specs.ReadingLaws.{opened-done, stretches-whole}
 use Rattle.lineformat.specs.Writing.{byteOf, headerBytes, numbersFor, Written, written, writeCall}
 
 -- ---- a written number is read back
@@ -131,3 +135,12 @@ module _ (n : ℕ) (file : List ℕ) (one : 1 ≤ n) (most : n ≤ 64) (starts :
   pub written-opens : openCall file ≡ openFile file n 16 12304
   written-opens =
       open-done file written-sound ∙ rw (reads-back 0 (omega arith) (omega arith), reads-back 1 (omega arith) (omega arith), reads-back 2 (omega arith) (omega arith))
+
+  -- Each of its sub-frames can be read, and those of a super-frame make up its bytes.
+  pub written-reads : (q s : ℕ) → q < n → s ≤ 47 → Accepted (readAnswerIn (openCall file) q s)
+  written-reads q s lq ls = ap refusalOf (opened-done file (ap (λ (h : Header). refusalOf (h .answer)) (written-sound .is)) q s ls (omega (arith, ap (λ (d : OpenFile). d .superframes) written-opens)))
+
+  pub written-whole : (q : ℕ) → q < n → endToEnd 48 7424 (readPartIn (openCall file) q) ≡ part (startOf 12304 q 0) 356352 file
+  written-whole q l =
+      ap (λ d. endToEnd 48 7424 (readPartIn d q)) written-opens
+      ∙ stretches-whole file n 16 12304 q (λ s ls. ap (λ d. refusalOf (readAnswerIn d q s)) (sym written-opens) ∙ written-reads q s l ls)

@@ -1,20 +1,31 @@
-// The line: coded pairs to frames, which are damaged, and back.
+// The line: coded pairs to the frames of a line file, which are damaged, and back.
 use crate::counts::add;
 use crate::counts::print_line;
+use crate::file;
 use crate::noise::damage;
 use crate::random;
 use crate::refusing::refuse_framing;
 ghost use mathlib.Core.Path.{_≡_};
 ghost use Prim.Native.Nat.{_<_};
-ghost use lib.ListN.{length};
+ghost use lib.ListN.{length, take};
 ghost use Rattle.cells.specs.Cells.{overheadRule, Legal};
+ghost use Rattle.lineformat.specs.Writing.{numbersFor, headerBytes};
 
 // The frames of super-frame q, damaged.
-fn send(q: usize, coded0: &[u8], coded1: &[u8], list: &[u8], line: &mut [u8])
+fn frames(q: usize, coded0: &[u8], coded1: &[u8], list: &[u8], line: &mut [u8])
     requires { ⌜ (q < 2) × (length (now coded0) ≡ 86016) × (length (now coded1) ≡ 86016) × (length (now list) ≡ 12288) × Legal overheadRule (now list) × (length (now line) ≡ 356352) ⌝ }
 {
     superframe::make(coded0, coded1, list, line);
     damage(q, line);
+}
+
+// The line file of super-frame q.
+fn send(q: usize, coded0: &[u8], coded1: &[u8], list: &[u8], file: &mut [u8])
+    requires { ⌜ (q < 2) × (length (now coded0) ≡ 86016) × (length (now coded1) ≡ 86016) × (length (now list) ≡ 12288) × Legal overheadRule (now list) × (length (now file) ≡ 368656) ⌝ }
+    ensures { λ _. ⌜ take 16 (now (file .exit)) ≡ headerBytes (numbersFor 1) ⌝ }
+{
+    frames(q, coded0, coded1, list, &mut file[12304..368656]);
+    file::begin(list, file);
 }
 
 // Sends the pairs of super-frame q over the line and takes them off it: the number of overhead cells that differ.
@@ -28,9 +39,9 @@ fn carry_next(
 ) -> u32
     requires { ⌜ (q < 2) × (length (now coded0) ≡ 86016) × (length (now coded1) ≡ 86016) × (length (now list) ≡ 12288) × Legal overheadRule (now list) × (length (now got0) ≡ 86016) × (length (now got1) ≡ 86016) ⌝ }
 {
-    let mut line = [0u8; 356352];
-    send(q, coded0, coded1, list, &mut line);
-    calls::value_or(superframe::take_apart(&line, list, got0, got1), 0)
+    let mut file = [0u8; 368656];
+    send(q, coded0, coded1, list, &mut file);
+    file::take(&file, got0, got1)
 }
 
 // Carries two super-frames.

@@ -2,6 +2,7 @@
 // calls in between; what came of it, in counts.
 mod comparing;
 mod counts;
+mod file;
 mod line;
 mod noise;
 mod random;

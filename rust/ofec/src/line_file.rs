@@ -91,6 +91,7 @@ impl<'a> LineFile<'a> {
     /// Refusals: [`Refusal::NoSuchFrame`].
     pub fn subframe(&self, superframe: u32, subframe: u32) -> Result<&'a [u8], Refusal> {
         let done = capi::read_line(self.bytes, self.line, superframe, subframe).done()?;
+        // The start and the length are the proved reader's answer; the cut by them is plain Rust.
         Ok(&self.bytes[done.index as usize..][..done.value as usize])
     }
 }

@@ -1,6 +1,6 @@
 -- `capi::ofec_read_line` meets its contract: one law for each answer.
 -- Assumes nothing.
-use Rattle.capi.specs.Outcomes.{stretches}
+use Rattle.capi.specs.ExportLaws.{stretches}
 use borrow.Author.Needs.{needs}
 use Rattle.capi.proofs.ofec_read_line.Statement.{statement}
 use Rattle.capi.proofs.ofec_read_line.Tie as tie
@@ -13,5 +13,7 @@ ofec-read-line-spec =
     (tie.spec
     (λ c κs. search kit)  -- read-refusal-at-requires
     (λ c. search kit)  -- returns
+    (λ c κs. search kit)  -- read-at-requires
+    (λ c. search kit)  -- cast-t11
     (λ c κs. search kit)  -- start-requires
     (λ c. search kit))  -- returns-2
