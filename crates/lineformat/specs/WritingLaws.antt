@@ -19,7 +19,7 @@ use Rattle.calls.specs.Answers.{refusalOf, Accepted, TurnedBack}
 use Rattle.lineformat.specs.declared.Header.{Header}
 use Rattle.lineformat.specs.Header.{number}
 use Rattle.lineformat.specs.HeaderLaws.{Sound, judged-good, number-first}
-use Rattle.lineformat.specs.Opening.{OpenFile, openFile, openCall}
+use Rattle.lineformat.specs.Opening.{openAnswer, OpenFile, openFile, openCall}
 use Rattle.lineformat.specs.OpeningLaws.{open-done}
 use Rattle.lineformat.specs.Reading.{readAnswerIn, readPartIn, startOf}
 use Rattle.lineformat.specs.ReadingLaws.{opened-done, stretches-whole}
@@ -138,7 +138,10 @@ module _ (n : ℕ) (file : List ℕ) (one : 1 ≤ n) (most : n ≤ 64) (starts :
 
   -- Each of its sub-frames can be read, and those of a super-frame make up its bytes.
   pub written-reads : (q s : ℕ) → q < n → s ≤ 47 → Accepted (readAnswerIn (openCall file) q s)
-  written-reads q s lq ls = ap refusalOf (opened-done file (ap (λ (h : Header). refusalOf (h .answer)) (written-sound .is)) q s ls (omega (arith, ap (λ (d : OpenFile). d .superframes) written-opens)))
+  written-reads q s lq ls = ap refusalOf (opened-done file opens q s ls (omega (arith, ap (λ (d : OpenFile). d .superframes) written-opens)))
+    where
+      opens : Accepted (openAnswer file)
+      opens = ap (λ (h : Header). refusalOf (h .answer)) (written-sound .is)
 
   pub written-whole : (q : ℕ) → q < n → endToEnd 48 7424 (readPartIn (openCall file) q) ≡ part (startOf 12304 q 0) 356352 file
   written-whole q l =

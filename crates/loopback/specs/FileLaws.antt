@@ -21,11 +21,12 @@ use Rattle.lineformat.specs.WritingLaws.{headerBytes-length, write-done, writte
 use Rattle.loopback.specs.File.{takenWhen}
 
 -- The header that was written in front stands there.
-pub header-first : (d ys lent : List ℕ) (r : Answer) → written r ys ≡ writeCall 1 lent → length lent ≡ 16 → take 16 (putMid 0 16 d ys) ≡ headerBytes (numbersFor 1)
-header-first d ys lent r w l =
-    let is : ys ≡ headerBytes (numbersFor 1) =
-    ap (λ (x : Written). x .header) (w ∙ sym (write-done 1 lent (headerBytes (numbersFor 1)) l (omega arith) (omega arith) refl)) in
-    take-at ys (drop 16 d) 16 (ap length is ∙ headerBytes-length (numbersFor 1)) ∙ is
+pub header-first : (d ys lent : List ℕ) (r : Answer) → written r ys ≡ writeCall 1 lent → length lent ≡ 16
+    → take 16 (putMid 0 16 d ys) ≡ headerBytes (numbersFor 1)
+header-first d ys lent r w l = take-at ys (drop 16 d) 16 (ap length is ∙ headerBytes-length (numbersFor 1)) ∙ is
+  where
+    is : ys ≡ headerBytes (numbersFor 1)
+    is = ap (λ (x : Written). x .header) (w ∙ sym (write-done 1 lent (headerBytes (numbersFor 1)) l (omega arith) (omega arith) refl))
 
 -- ---- a sub-frame: m is the number that the companion gave, and got the part that was handed back
 

@@ -1,4 +1,5 @@
-// The line file of one super-frame: header at byte 0, overhead list at 16, frames at 12,304, 368,656 bytes; what its receiver reads of it.
+// The line file of one super-frame, 368,656 bytes: header at byte 0, overhead list at 16, frames at 12,304. How it is begun, and what its
+// receiver reads of it.
 use layout::history::copy;
 ghost use mathlib.Core.Path.{_≡_};
 ghost use lib.ListN.{length, take};
@@ -7,6 +8,20 @@ ghost use Rattle.lineformat.specs.Opening.{openCall};
 ghost use Rattle.lineformat.specs.Reading.{readRefusalIn, readPartIn};
 ghost use Rattle.lineformat.specs.Writing.{numbersFor, headerBytes};
 ghost use Rattle.loopback.specs.File.{takenWhen};
+
+// The whole file.
+type File = [u8; 368656];
+
+pub fn blank() -> File {
+    [0u8; 368656]
+}
+
+// Its frames.
+type Frames = [u8; 356352];
+
+fn blank_frames() -> Frames {
+    [0u8; 356352]
+}
 
 // Writes header and overhead list.
 pub fn begin(list: &[u8], file: &mut [u8])
@@ -51,7 +66,7 @@ fn list_of(file: &[u8]) -> &[u8]
 pub fn take(file: &[u8], pairs0: &mut [u8], pairs1: &mut [u8]) -> u32
     requires { ⌜ (take 16 (now file) ≡ headerBytes (numbersFor 1)) × (length (now file) ≡ 368656) × (length (now pairs0) ≡ 86016) × (length (now pairs1) ≡ 86016) ⌝ }
 {
-    let mut frames = [0u8; 356352];
+    let mut frames = blank_frames();
     read_frames(file, &mut frames);
     calls::value_or(
         superframe::take_apart(&frames, list_of(file), pairs0, pairs1),

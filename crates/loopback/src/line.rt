@@ -39,7 +39,7 @@ fn carry_next(
 ) -> u32
     requires { ⌜ (q < 2) × (length (now coded0) ≡ 86016) × (length (now coded1) ≡ 86016) × (length (now list) ≡ 12288) × Legal overheadRule (now list) × (length (now got0) ≡ 86016) × (length (now got1) ≡ 86016) ⌝ }
 {
-    let mut file = [0u8; 368656];
+    let mut file = file::blank();
     send(q, coded0, coded1, list, &mut file);
     file::take(&file, got0, got1)
 }

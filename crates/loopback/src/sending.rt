@@ -9,7 +9,14 @@ ghost use lib.ListN.{length};
 ghost use Rattle.superframes.specs.Stream.{encoder as encoderOf, codedOf, historyOver};
 ghost use Rattle.loopback.specs.Random.{payloadIn};
 
-// The payload of super-frame q of an encoder.
+// The payload of an encoder in a super-frame.
+type Payload = [u8; 74592];
+
+fn blank() -> Payload {
+    [0u8; 74592]
+}
+
+// That of super-frame q.
 fn draw(encoder: u32, q: u32, payload: &mut [u8])
     requires { ⌜ (encoder < 2) × (q < 2) × (length (now payload) ≡ 74592) ⌝ }
     ensures { λ _. ⌜ now (payload .exit) ≡ payloadIn encoder q ⌝ }
@@ -26,7 +33,7 @@ fn encode_next(encoder: u32, q: u32, history: &mut [u8], coded: &mut [u8], count
     requires { ⌜ (encoder < 2) × (q < 2) × (length (now history) ≡ 5120) × (length (now coded) ≡ 86016) × (length (now counts) ≡ 40) ⌝ }
     ensures { λ _. ⌜ (now (coded .exit) ≡ codedOf 168 (now (history .entry)) (q * 168) (payloadIn encoder q)) × (now (history .exit) ≡ historyOver encoderOf 168 (now (history .entry)) (q * 168) (payloadIn encoder q)) ⌝ }
 {
-    let mut payload = [0u8; 74592];
+    let mut payload = blank();
     draw(encoder, q, &mut payload);
     refuse_encodings(history, counts);
     superframe::pairs::encode(168, &payload, q * 168, history, coded);

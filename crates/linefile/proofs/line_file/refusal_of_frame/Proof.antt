@@ -1,5 +1,5 @@
--- `linefile::refusal_of_frame` meets its contract: a walk of its MIR, by hand, after the kit's `reader::first`. The open file that `open` gives is
--- held in a local and passed on as it is. All that the proof knows of the two calls is their contracts.
+-- `linefile::refusal_of_frame` meets its contract: a walk of its MIR, by hand, after the kit's `reader::first`. The open file that
+-- `open` gives is held in a local and passed on as it is. All that the proof knows of the two calls is their contracts.
 -- Assumes nothing.
 use mathlib.Core.Path.{_≡_, refl, ap, _∙_}
 use Prim.Native.Nat.{ℕ, _<_, _^_}

@@ -8,6 +8,7 @@ pub take-spec : {M : Type 1} → statement M
 take-spec =
     tie.close
     (tie.spec
+    (λ c κs. search needs)  -- blank-frames-requires
     (λ c. search needs)  -- slice-aggregate-read-frames
     (λ c κs. search needs)  -- read-frames-requires
     (λ c. search needs)  -- slice-aggregate-take-apart

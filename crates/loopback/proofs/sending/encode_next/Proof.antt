@@ -9,6 +9,7 @@ pub encode-next-spec : {M : Type 1} → statement M
 encode-next-spec =
     tie.close
     (tie.spec
+    (λ c κs. search needs)  -- blank-requires
     (λ c. search needs)  -- slice-aggregate-draw
     (λ c κs. search needs)  -- draw-requires
     (λ c κs. search needs)  -- refuse-encodings-requires
