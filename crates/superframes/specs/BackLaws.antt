@@ -16,6 +16,7 @@ use Rattle.bits.specs.PartLaws.{partOf-length, partOf-at, endToEnd-length, endT
 use Rattle.calls.specs.declared.Answer.the-variants.{Done}
 use Rattle.calls.specs.Answers.{valueOr}
 use Rattle.calls.specs.Sequences.{At, Run, accepted}
+use Rattle.calls.specs.Calls.{After}
 use Rattle.ofec.specs.History.{depth}
 use Rattle.ofec.specs.Receiving.{payloadOut, marks}
 use Rattle.ofec.specs.ReceivingLaws.{length-payloadOut, length-marks, receiverHistory}
@@ -27,7 +28,6 @@ use Rattle.cells.specs.Profile.{Profile, cellsPerBuffer, buffersIn}
 use Rattle.cells.specs.Cells.{overheadRule, Legal, toBits}
 use Rattle.cells.specs.ProfileLaws.{buffer-whole, cells-pos, width-pos}
 use Rattle.cells.specs.CellLaws.{none-illegal}
-use Rattle.cells.specs.Calls.{After}
 use Rattle.frames.specs.Frames.{payloadStart, ownOverhead, frameRule, unframed, differing, subFrameOf}
 use Rattle.frames.specs.PlaceLaws.{located}
 use Rattle.line.specs.Sides.{Side, side0, side1, encoder}
@@ -87,7 +87,7 @@ module _ (p : Profile) (n : ℕ) (h : Heard p n) where
         (λ s ls.
         ap (λ f. differing s f (ownOverhead s (h .overhead))) (frame-is s ls)
         ∙ ap (λ t. differing t (getD (h .frames) (48 * q + s) []) (ownOverhead t (h .overhead))) (sym (sub s ls))
-        ∙ sym (ap (λ (a : After). valueOr (a .answer) 0) (unframing-is p n h (48 * q + s) (frame-lt s ls))))
+        ∙ sym (ap (λ (a : After (List ℕ)). valueOr (a .answer) 0) (unframing-is p n h (48 * q + s) (frame-lt s ls))))
 
     byte-is : (x k : ℕ) → x < 172032 → takenByte (heardLine q) x k ≡ heardByte p n h q x k
     unfolding takenByte heardByte
@@ -96,7 +96,7 @@ module _ (p : Profile) (n : ℕ) (h : Heard p n) where
         let ls : s < 48 = located x lx .sub-frame in
         ap (λ f. getD (unframed s f) ((x - payloadStart s) * 2 + k) 0) (frame-is s ls)
         ∙ ap (λ t. getD (unframed t (getD (h .frames) (48 * q + s) [])) ((x - payloadStart s) * 2 + k) 0) (sym (sub s ls))
-        ∙ sym (ap (λ (a : After). getD (a .written) ((x - payloadStart s) * 2 + k) 0) (unframing-is p n h (48 * q + s) (frame-lt s ls)))
+        ∙ sym (ap (λ (a : After (List ℕ)). getD (a .written) ((x - payloadStart s) * 2 + k) 0) (unframing-is p n h (48 * q + s) (frame-lt s ls)))
 
     -- Buffer b of the super-frame is buffer q w + b of the line.
     buffer-of : (b : ℕ) → b < p .bits → (buffersIn p q + b) / p .bits ≡ q
@@ -192,20 +192,20 @@ module _ (p : Profile) (n : ℕ) (h : Heard p n) where
 
     module _ (q k : ℕ) (lq : q < n) (lk : k < pairs p) (c : Receiving) (a : At (accepted Receivings cs) (pairs p * q + k) c) where
       -- Accepted call k of super-frame q gives pair k's part of what `receive` gives for it, from fresh on super-frame by super-frame;
-      pub receive-payload : receive c .payload ≡ partOf 444 (payloadsOf (pairs p) (before q) (pairs p * q) (heardPairs q e)) k
+      pub receive-payload : receive c .written .payload ≡ partOf 444 (payloadsOf (pairs p) (before q) (pairs p * q) (heardPairs q e)) k
       unfolding givenOver receiverHistory
       receive-payload =
-          ap (λ (x : Received). x .payload) (received-made cs (receivedPair p n h e) in-order run (pairs p * q + k) c a)
+          ap (λ (x : Received). x .written .payload) (received-made cs (receivedPair p n h e) in-order run (pairs p * q + k) c a)
           ∙ sym (part-endToEnd (pairs p) 444 (givenAt receiver (before q) (pairs p * q) (partOf 512 (heardPairs q e)) (payloadOut depth)) k (lit< tt) lk (ap length is ∙ length-payloadOut depth _ _ _) ∙ is)
         where
           is : givenAt receiver (before q) (pairs p * q) (partOf 512 (heardPairs q e)) (payloadOut depth) k
               ≡ payloadOut depth (receiverHistory depth (receivedPair p n h e) (pairs p * q + k)) (pairs p * q + k) (receivedPair p n h e (pairs p * q + k))
           is = given-in receiver (pairs p) n (receivedPair p n h e) (λ r. heardPairs r e) (pair-of e) (payloadOut depth) q k lq lk
 
-      pub receive-marks : receive c .marks ≡ partOf 32 (marksOf (pairs p) (before q) (pairs p * q) (heardPairs q e)) k
+      pub receive-marks : receive c .written .marks ≡ partOf 32 (marksOf (pairs p) (before q) (pairs p * q) (heardPairs q e)) k
       unfolding givenOver receiverHistory
       receive-marks =
-          ap (λ (x : Received). x .marks) (received-made cs (receivedPair p n h e) in-order run (pairs p * q + k) c a)
+          ap (λ (x : Received). x .written .marks) (received-made cs (receivedPair p n h e) in-order run (pairs p * q + k) c a)
           ∙ sym (part-endToEnd (pairs p) 32 (givenAt receiver (before q) (pairs p * q) (partOf 512 (heardPairs q e)) (marks depth)) k (lit< tt) lk (ap length is ∙ length-marks depth _ _ _) ∙ is)
         where
           is : givenAt receiver (before q) (pairs p * q) (partOf 512 (heardPairs q e)) (marks depth) k
@@ -213,10 +213,10 @@ module _ (p : Profile) (n : ℕ) (h : Heard p n) where
           is = given-in receiver (pairs p) n (receivedPair p n h e) (λ r. heardPairs r e) (pair-of e) (marks depth) q k lq lk
 
       -- and leaves the history that the stream has after it: after the last pair, that before the next super-frame.
-      pub receive-history : receive c .history ≡ historyAt receiver (before q) (pairs p * q) (partOf 512 (heardPairs q e)) (suc k)
+      pub receive-history : receive c .written .history ≡ historyAt receiver (before q) (pairs p * q) (partOf 512 (heardPairs q e)) (suc k)
       unfolding receiverHistory
       receive-history =
-          ap (λ (x : Received). x .history) (received-made cs (receivedPair p n h e) in-order run (pairs p * q + k) c a)
+          ap (λ (x : Received). x .written .history) (received-made cs (receivedPair p n h e) in-order run (pairs p * q + k) c a)
           ∙ ap (receiverHistory depth (receivedPair p n h e)) next
           ∙ sym (history-in receiver (pairs p) n (receivedPair p n h e) (λ r. heardPairs r e) (pair-of e) q (suc k) lq lk)
         where
@@ -226,10 +226,10 @@ module _ (p : Profile) (n : ℕ) (h : Heard p n) where
 -- Demand 3's receivers are such lists.
 module _ (p : Profile) (o : Outward p) (i : Inward p o) (e : Side) (q k : ℕ) (lq : q < o .superframes) (lk : k < pairs p) (c : Receiving)
     (a : At (accepted Receivings (i .calls e)) (pairs p * q + k) c) where
-  pub inward-payload : receive c .payload
+  pub inward-payload : receive c .written .payload
       ≡ partOf 444 (payloadsOf (pairs p) (historyBefore receiver (pairs p) (λ r. heardPairs p (o .superframes) (i .heard) r e) q) (pairs p * q) (heardPairs p (o .superframes) (i .heard) q e)) k
   inward-payload = receive-payload p (o .superframes) (i .heard) e (i .calls e) (i .runs e) (i .in-order e) q k lq lk c a
 
-  pub inward-marks : receive c .marks
+  pub inward-marks : receive c .written .marks
       ≡ partOf 32 (marksOf (pairs p) (historyBefore receiver (pairs p) (λ r. heardPairs p (o .superframes) (i .heard) r e) q) (pairs p * q) (heardPairs p (o .superframes) (i .heard) q e)) k
   inward-marks = receive-marks p (o .superframes) (i .heard) e (i .calls e) (i .runs e) (i .in-order e) q k lq lk c a
