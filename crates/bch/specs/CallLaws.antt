@@ -1,24 +1,23 @@
--- The cases of the call that repairs a word, one law each.
+-- Laws of the call that repairs a word.
 -- Assumes nothing.
 use mathlib.Core.Path.{_≡_, refl, sym, ap, _∙_}
 use mathlib.Core.Bool.{Bool}
 use mathlib.Core.List.{List}
 use Prim.Native.Nat.{ℕ, _<_}
 use native.Mathlib.Omega.{arith}
-use native.Mathlib.Decide.{ℕ-discrete}
-use borrow.Author.Tests.{eq-eqb, ne-eqb}
 use lib.ListN.{length, getD}
 use Rattle.bits.specs.Bits.{bit, pack}
 use Rattle.bits.specs.BitLaws.{pack-bit, pack-ext}
-use Rattle.calls.specs.Answers.{refusalOf, TurnedBack}
-use Rattle.calls.specs.declared.Answer.the-variants.{Done, Refused}
-use Rattle.calls.specs.declared.Refusal.the-variants.{Misfit}
+use Rattle.calls.specs.Answers.{TurnedBack}
+use Rattle.calls.specs.declared.Answer.the-variants.{Done}
+use Rattle.calls.specs.Calls.{After, after}
+use Rattle.calls.specs.CallLaws.{cases, call-keeps}
 use Rattle.bch.specs.CodeWord.{Word, parity}
 use Rattle.bch.specs.Syndromes.{syndromesOf}
 use Rattle.bch.specs.Repair.{repair, repaired, mark}
 use Rattle.bch.specs.Marks.{lost, fate}
 use Rattle.bch.specs.RepairLaws.{lost-unaltered}
-use Rattle.bch.specs.Calls.{afterRepair, repairCall}
+use Rattle.bch.specs.Calls.{repairCall}
 use Rattle.bch.specs.declared.Repair.{Repair}
 use Rattle.bch.specs.declared.Repair.the-variants.{Sound, One, Two, Lost}
 use Rattle.bch.specs.declared.Syndromes.{Syndromes}
@@ -50,32 +49,18 @@ pub ruleset marking = (mark-sound, mark-one, mark-two, mark-three)
 -- ---- the call
 
 module _ (word : List ℕ) (front : Bool) where
-  pub repair-misfit : (length word ≡ 32 → ⊥) → afterRepair (Refused Misfit) word ≡ repairCall word front
-  unfolding repairCall
-  repair-misfit n = simp (ne-eqb _ _ n)
-
-  pub repair-done : (r : Repair) (m : ℕ) (d : List ℕ) → length word ≡ 32 → r ≡ repair front (bit word) → m ≡ mark r
-      → d ≡ pack 32 (repaired (repair front (bit word)) (bit word)) → afterRepair (Done m) d ≡ repairCall word front
-  unfolding repairCall
-  repair-done r m d l e f g = rw (g, f, e) (simp (eq-eqb _ _ l))
-
   -- Every word of 32 bytes is accepted.
-  pub repair-accepted : length word ≡ 32 → repairCall word front ≡ afterRepair (Done (mark (repair front (bit word)))) (pack 32 (repaired (repair front (bit word)) (bit word)))
-  repair-accepted l = sym (repair-done (repair front (bit word)) (mark (repair front (bit word))) (pack 32 (repaired (repair front (bit word)) (bit word))) l refl refl refl)
+  pub repair-done : (r : Repair) (m : ℕ) (d : List ℕ) → length word ≡ 32 → r ≡ repair front (bit word) → m ≡ mark r
+      → d ≡ pack 32 (repaired (repair front (bit word)) (bit word)) → after (Done m) d ≡ repairCall word front
+  repair-done r m d l e f g = rw (g, f, e) (search cases)
 
   -- A refused call leaves the word as it was.
-  pub refused-keeps : TurnedBack (repairCall word front .answer) → repairCall word front .word ≡ word
-  refused-keeps n = go (ℕ-discrete (length word) 32)
-    where
-      go : Dec (length word ≡ 32) → repairCall word front .word ≡ word
-      go (yes l) = absurd (n (ap (λ a. refusalOf (a .answer)) (repair-accepted l)))
-      go (no d) = sym (ap (λ a. a .word) (repair-misfit d))
+  pub refused-keeps : TurnedBack (repairCall word front .answer) → repairCall word front .written ≡ word
+  refused-keeps = call-keeps _ _ _ refl
 
   -- "the word is lost and unaltered"
-  pub lost-keeps : length word ≡ 32 → ((j : ℕ) → getD word j 0 < 256) → fate (mark (repair front (bit word))) ≡ lost → repairCall word front .word ≡ word
+  pub lost-keeps : length word ≡ 32 → ((j : ℕ) → getD word j 0 < 256) → fate (mark (repair front (bit word))) ≡ lost → repairCall word front .written ≡ word
   lost-keeps l b e =
-      ap (λ a. a .word) (repair-accepted l)
+      sym (ap (λ (a : After (List ℕ)). a .written) (repair-done (repair front (bit word)) _ _ l refl refl refl))
       ∙ pack-ext 32 (repaired (repair front (bit word)) (bit word)) (bit word) (λ k h. lost-unaltered (repair front (bit word)) e (bit word) k)
       ∙ pack-bit word 32 l b
-
-pub ruleset repairing = (repair-misfit, repair-done)

@@ -7,7 +7,7 @@ use Rattle.calls.specs.declared.Refusal.{Refusal}
 use Rattle.calls.specs.declared.Refusal.the-variants.{Misfit, BadHeader, CountSpent, NoSuchFrame, OffGrid}
 use Rattle.calls.specs.declared.Answer.{Answer}
 use Rattle.calls.specs.declared.Answer.the-variants.{Done, Refused}
-use Rattle.calls.specs.Answers.{refusalOf, Accepted, TurnedBack}
+use Rattle.calls.specs.Answers.{refusalOf, valueOr, Accepted, TurnedBack}
 
 -- No refusal has number 0.
 pub refused-turned : (r : Refusal) → TurnedBack (Refused r)
@@ -25,3 +25,8 @@ accepted-done (Refused r) e = absurd (refused-turned r e)
 -- The number of an answer that is known to be another.
 pub refusal-eq : (a b : Answer) (n : ℕ) → n ≡ refusalOf a → a ≡ b → n ≡ refusalOf b
 refusal-eq a b n e f = e ∙ ap refusalOf f
+
+-- A call that was turned back gives the number that was lent.
+pub turned-value : (a : Answer) (lent : ℕ) → TurnedBack a → valueOr a lent ≡ lent
+turned-value (Done v) lent bad = absurd (bad refl)
+turned-value (Refused r) lent bad = refl

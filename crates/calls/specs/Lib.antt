@@ -1,7 +1,8 @@
 pub mod Answers
 pub mod AnswerLaws
+pub mod Calls
+pub mod CallLaws
 pub mod Results
 pub mod ResultLaws
-pub mod Cases
 pub mod Sequences
 pub mod SequenceLaws

@@ -1,10 +1,9 @@
 // The library for C and Rust: one exported function for each entry point, buffers as pointer and length. See include/ofec.h.
 use calls::Answer;
 ghost use mathlib.Core.Path.{_≡_};
-ghost use mathlib.Core.List.{[], _∷_};
 ghost use Rattle.bch.specs.Calls.{repairCall};
-ghost use Rattle.ofec.specs.Calls.{encodeCall, receiveCall};
-ghost use Rattle.interleaving.specs.Calls.{interleave, deinterleave};
+ghost use Rattle.ofec.specs.Calls.{encodeBuffers, encodeCall, receiveBuffers, receiveCall};
+ghost use Rattle.interleaving.specs.Calls.{interleave, pairBuffers, deinterleave};
 ghost use Rattle.cells.specs.Calls.{bitsToCells, cellsToBits};
 ghost use Rattle.cells.specs.Profiles.{qam16};
 ghost use Rattle.frames.specs.Calls.{frameCall, unframeCall};
@@ -12,7 +11,7 @@ ghost use Rattle.lineformat.specs.Opening.{headerOf};
 ghost use Rattle.lineformat.specs.Reading.{readRefusal};
 ghost use Rattle.lineformat.specs.Writing.{writeCall};
 ghost use Rattle.capi.specs.Outcomes.{outcomeOf, flag, lineOf, stretchOf};
-ghost use Rattle.capi.specs.Exports.{exported, ofRepaired, ofEncoded, ofReceived, ofInterleaved, ofApart, ofAfter, ofWritten};
+ghost use Rattle.capi.specs.Exports.{exported, inNumbers};
 
 // What an exported call answers: the refusal's number or 0, the call's own number, and the index of refusal 5.
 #[repr(C)]
@@ -45,7 +44,7 @@ fn outcome_of(a: Answer, refused: u32) -> Outcome
 // Repairs a word of 32 bytes in place; front 0: flips may fall in the back half only. value: flips 0 to 2, or 3 for lost.
 #[no_mangle]
 pub extern "C" fn ofec_repair_word(word: &mut [u8], front: u32) -> Outcome
-    ensures { λ r. ⌜ exported r (now (word .exit) ∷ []) ≡ ofRepaired 0 (repairCall (now (word .entry)) (flag front)) ⌝ }
+    ensures { λ r. ⌜ exported r (now (word .exit)) ≡ inNumbers 0 (repairCall (now (word .entry)) (flag front)) ⌝ }
 {
     outcome_of(checkword::repair_word(word, front != 0), 0)
 }
@@ -58,7 +57,7 @@ pub extern "C" fn ofec_encode_pair(
     history: &mut [u8],
     pair: u32,
 ) -> Outcome
-    ensures { λ r. ⌜ exported r (now (coded .exit) ∷ now (history .exit) ∷ []) ≡ ofEncoded pair (encodeCall (now (payload .entry)) (now (coded .entry)) (now (history .entry)) pair) ⌝ }
+    ensures { λ r. ⌜ exported r (encodeBuffers (now (coded .exit)) (now (history .exit))) ≡ inNumbers pair (encodeCall (now (payload .entry)) (now (coded .entry)) (now (history .entry)) pair) ⌝ }
 {
     outcome_of(codec::encode_pair(payload, coded, history, pair), pair)
 }
@@ -72,7 +71,7 @@ pub extern "C" fn ofec_receive_pair(
     history: &mut [u8],
     pair: u32,
 ) -> Outcome
-    ensures { λ r. ⌜ exported r (now (payload .exit) ∷ now (marks .exit) ∷ now (history .exit) ∷ []) ≡ ofReceived pair (receiveCall (now (coded .entry)) (now (payload .entry)) (now (marks .entry)) (now (history .entry)) pair) ⌝ }
+    ensures { λ r. ⌜ exported r (receiveBuffers (now (payload .exit)) (now (marks .exit)) (now (history .exit))) ≡ inNumbers pair (receiveCall (now (coded .entry)) (now (payload .entry)) (now (marks .entry)) (now (history .entry)) pair) ⌝ }
 {
     outcome_of(
         codec::receive_pair(coded, payload, marks, history, pair),
@@ -83,7 +82,7 @@ pub extern "C" fn ofec_receive_pair(
 // Interleaves a buffer: 21 pairs of each encoder.
 #[no_mangle]
 pub extern "C" fn ofec_interleave(pairs0: &[u8], pairs1: &[u8], bits: &mut [u8]) -> Outcome
-    ensures { λ r. ⌜ exported r (now (bits .exit) ∷ []) ≡ ofInterleaved 0 (interleave (now (pairs0 .entry)) (now (pairs1 .entry)) (now (bits .entry))) ⌝ }
+    ensures { λ r. ⌜ exported r (now (bits .exit)) ≡ inNumbers 0 (interleave (now (pairs0 .entry)) (now (pairs1 .entry)) (now (bits .entry))) ⌝ }
 {
     outcome_of(interleaver::interleave(pairs0, pairs1, bits), 0)
 }
@@ -91,7 +90,7 @@ pub extern "C" fn ofec_interleave(pairs0: &[u8], pairs1: &[u8], bits: &mut [u8])
 // Takes a buffer apart.
 #[no_mangle]
 pub extern "C" fn ofec_deinterleave(bits: &[u8], pairs0: &mut [u8], pairs1: &mut [u8]) -> Outcome
-    ensures { λ r. ⌜ exported r (now (pairs0 .exit) ∷ now (pairs1 .exit) ∷ []) ≡ ofApart 0 (deinterleave (now (bits .entry)) (now (pairs0 .entry)) (now (pairs1 .entry))) ⌝ }
+    ensures { λ r. ⌜ exported r (pairBuffers (now (pairs0 .exit)) (now (pairs1 .exit))) ≡ inNumbers 0 (deinterleave (now (bits .entry)) (now (pairs0 .entry)) (now (pairs1 .entry))) ⌝ }
 {
     outcome_of(interleaver::deinterleave(bits, pairs0, pairs1), 0)
 }
@@ -99,7 +98,7 @@ pub extern "C" fn ofec_deinterleave(bits: &[u8], pairs0: &mut [u8], pairs1: &mut
 // Maps a buffer's bits to cells.
 #[no_mangle]
 pub extern "C" fn ofec_bits_to_cells(bits: &[u8], cells: &mut [u8]) -> Outcome
-    ensures { λ r. ⌜ exported r (now (cells .exit) ∷ []) ≡ ofAfter 0 (bitsToCells qam16 (now (bits .entry)) (now (cells .entry))) ⌝ }
+    ensures { λ r. ⌜ exported r (now (cells .exit)) ≡ inNumbers 0 (bitsToCells qam16 (now (bits .entry)) (now (cells .entry))) ⌝ }
 {
     outcome_of(symbols::bits_to_cells(bits, cells), 0)
 }
@@ -107,7 +106,7 @@ pub extern "C" fn ofec_bits_to_cells(bits: &[u8], cells: &mut [u8]) -> Outcome
 // Maps a buffer's cells back to bits.
 #[no_mangle]
 pub extern "C" fn ofec_cells_to_bits(cells: &[u8], bits: &mut [u8]) -> Outcome
-    ensures { λ r. ⌜ exported r (now (bits .exit) ∷ []) ≡ ofAfter 0 (cellsToBits qam16 (now (cells .entry)) (now (bits .entry))) ⌝ }
+    ensures { λ r. ⌜ exported r (now (bits .exit)) ≡ inNumbers 0 (cellsToBits qam16 (now (cells .entry)) (now (bits .entry))) ⌝ }
 {
     outcome_of(symbols::cells_to_bits(cells, bits), 0)
 }
@@ -120,7 +119,7 @@ pub extern "C" fn ofec_frame(
     overhead: &[u8],
     frame: &mut [u8],
 ) -> Outcome
-    ensures { λ r. ⌜ exported r (now (frame .exit) ∷ []) ≡ ofAfter 0 (frameCall qam16 number (now (payload .entry)) (now (overhead .entry)) (now (frame .entry))) ⌝ }
+    ensures { λ r. ⌜ exported r (now (frame .exit)) ≡ inNumbers 0 (frameCall qam16 number (now (payload .entry)) (now (overhead .entry)) (now (frame .entry))) ⌝ }
 {
     outcome_of(framing::frame(number, payload, overhead, frame), 0)
 }
@@ -133,7 +132,7 @@ pub extern "C" fn ofec_unframe(
     overhead: &[u8],
     payload: &mut [u8],
 ) -> Outcome
-    ensures { λ r. ⌜ exported r (now (payload .exit) ∷ []) ≡ ofAfter 0 (unframeCall qam16 number (now (frame .entry)) (now (overhead .entry)) (now (payload .entry))) ⌝ }
+    ensures { λ r. ⌜ exported r (now (payload .exit)) ≡ inNumbers 0 (unframeCall qam16 number (now (frame .entry)) (now (overhead .entry)) (now (payload .entry))) ⌝ }
 {
     outcome_of(framing::unframe(number, frame, overhead, payload), 0)
 }
@@ -185,7 +184,7 @@ pub extern "C" fn ofec_read_line(
 // Writes a line file's header of 16 bytes.
 #[no_mangle]
 pub extern "C" fn ofec_write_header(superframes: u32, header: &mut [u8]) -> Outcome
-    ensures { λ r. ⌜ exported r (now (header .exit) ∷ []) ≡ ofWritten 0 (writeCall superframes (now (header .entry))) ⌝ }
+    ensures { λ r. ⌜ exported r (now (header .exit)) ≡ inNumbers 0 (writeCall superframes (now (header .entry))) ⌝ }
 {
     outcome_of(linefile::write_header(superframes, header), 0)
 }

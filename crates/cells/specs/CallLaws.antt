@@ -1,92 +1,55 @@
--- Laws of the calls: what each answers and leaves in every case, one law a case; a refused call leaves the buffer as it was.
+-- Laws of the calls: what an accepted one gives, what a refused one leaves, and each undoing the other.
 -- Assumes nothing.
 use mathlib.Core.Path.{_≡_, refl, ap, sym, _∙_}
-use mathlib.Core.Bool.{Bool, not}
-use mathlib.Core.Logic.{_≢_}
-use mathlib.Core.List.{List}
+use mathlib.Core.Bool.{Bool}
+use mathlib.Core.List.{List, _∷_}
 use Prim.Native.Nat.{ℕ, _*_, _<_, _≤_}
-use borrow.Author.Tests.{eq-eqb, ne-eqb, lt-ltb, le-ltb}
-use lib.Dec.{eqb, ltb}
 use lib.ListN.{length, getD}
+use Rattle.calls.specs.declared.Answer.{Answer}
 use Rattle.calls.specs.declared.Answer.the-variants.{Done, Refused}
-use Rattle.calls.specs.declared.Refusal.{Refusal}
-use Rattle.calls.specs.declared.Refusal.the-variants.{Misfit, OffGrid}
+use Rattle.calls.specs.declared.Refusal.the-variants.{OffGrid}
 use Rattle.calls.specs.Answers.{TurnedBack}
-use Rattle.bits.specs.TestLaws.{either}
+use Rattle.calls.specs.Calls.{after, Test, verdict}
+use Rattle.calls.specs.CallLaws.{cases, is-off-grid, on-grid, call-keeps}
 use Rattle.cells.specs.Profile.{Profile, cellsPerBuffer}
 use Rattle.cells.specs.Cells.{payloadRule, firstIllegal, Legal, toCells, toBits}
 use Rattle.cells.specs.CellLaws.{all-legal, none-illegal, toCells-legal, buffer-cells, buffer-bits, buffer-back, buffer-cells-back}
-use Rattle.cells.specs.Calls.{After, after, bitsToCells, cellsToBits}
+use Rattle.cells.specs.Calls.{illegal, bitsToCells, cellsToBits}
 
--- ---- bits to cells
+-- ---- a buffer with an illegal byte, and one without
 
-module _ (p : Profile) (bits cells : List ℕ) where
-  pub map-bits-misfit : length bits ≢ 21504 → after (Refused Misfit) cells ≡ bitsToCells p bits cells
-  unfolding bitsToCells
-  map-bits-misfit h = simp (ne-eqb _ _ h)
+module _ (rule : ℕ → ℕ → Bool) (cells : List ℕ) (at : ℕ) (e : at ≡ firstIllegal rule cells) where
+  pub is-illegal : (ts : List Test) → at < length cells → Refused (OffGrid at) ≡ verdict (illegal rule cells ∷ ts)
+  unfolding illegal
+  is-illegal ts h = is-off-grid ts _ _ _ at e (rw e at h)
 
-  pub map-cells-misfit : length bits ≡ 21504 → length cells ≢ cellsPerBuffer p * 2 → after (Refused Misfit) cells ≡ bitsToCells p bits cells
-  unfolding bitsToCells
-  map-cells-misfit hb h = simp (eq-eqb _ _ hb, ne-eqb _ _ h)
+  pub is-legal : (ts : List Test) (a : Answer) → length cells ≤ at → a ≡ verdict ts → a ≡ verdict (illegal rule cells ∷ ts)
+  unfolding illegal
+  is-legal ts a h = on-grid ts _ _ _ a (rw e at h)
 
-  pub map-done : (d : List ℕ) → length bits ≡ 21504 → length cells ≡ cellsPerBuffer p * 2 → d ≡ toCells p bits → after (Done 0) d ≡ bitsToCells p bits cells
-  unfolding bitsToCells
-  map-done d hb hc e = rw e (simp (eq-eqb _ _ hb, eq-eqb _ _ hc))
+  -- What the workers ask.
+  pub demap-legal : length cells ≤ at → Legal rule cells
+  demap-legal h = all-legal rule cells (rw e at h)
 
-pub ruleset map-cases = (map-bits-misfit, map-cells-misfit, map-done)
+pub ruleset legality = (is-illegal, is-legal)
 
--- ---- cells to bits
+-- ---- calls that no test refuses
 
-module _ (p : Profile) (cells bits : List ℕ) where
-  pub demap-cells-misfit : length cells ≢ cellsPerBuffer p * 2 → after (Refused Misfit) bits ≡ cellsToBits p cells bits
-  unfolding cellsToBits
-  demap-cells-misfit h = simp (ne-eqb _ _ h)
+pub map-done : (p : Profile) (bits cells d : List ℕ) → length bits ≡ 21504 → length cells ≡ cellsPerBuffer p * 2 → d ≡ toCells p bits
+    → after (Done 0) d ≡ bitsToCells p bits cells
+map-done p bits cells d hb hc e = rw e (search cases depth 6)
 
-  pub demap-bits-misfit : length cells ≡ cellsPerBuffer p * 2 → length bits ≢ 21504 → after (Refused Misfit) bits ≡ cellsToBits p cells bits
-  unfolding cellsToBits
-  demap-bits-misfit hc h = simp (eq-eqb _ _ hc, ne-eqb _ _ h)
-
-  module _ (at : ℕ) (hc : length cells ≡ cellsPerBuffer p * 2) (hb : length bits ≡ 21504) (ha : at ≡ firstIllegal (payloadRule p) cells) where
-    pub demap-off-grid : at < length cells → after (Refused (OffGrid at)) bits ≡ cellsToBits p cells bits
-    unfolding cellsToBits
-    demap-off-grid h = rw ha (simp (eq-eqb _ _ hc, eq-eqb _ _ hb, lt-ltb _ _ (rw ha at h)))
-
-    pub demap-done : (d : List ℕ) → length cells ≤ at → d ≡ toBits p cells → after (Done 0) d ≡ cellsToBits p cells bits
-    unfolding cellsToBits
-    demap-done d h e = rw e (simp (eq-eqb _ _ hc, eq-eqb _ _ hb, le-ltb _ _ (rw ha at h)))
-
--- What the worker asks.
-pub demap-legal : (rule : ℕ → ℕ → Bool) (cells : List ℕ) (at : ℕ) → at ≡ firstIllegal rule cells → length cells ≤ at → Legal rule cells
-demap-legal rule cells at e h = all-legal rule cells (rw e at h)
-
-pub ruleset demap-cases = (demap-cells-misfit, demap-bits-misfit, demap-off-grid, demap-done, demap-legal)
+pub demap-done : (p : Profile) (cells bits : List ℕ) (at : ℕ) → length cells ≡ cellsPerBuffer p * 2 → length bits ≡ 21504 → at ≡ firstIllegal (payloadRule p) cells
+    → (d : List ℕ) → length cells ≤ at → d ≡ toBits p cells → after (Done 0) d ≡ cellsToBits p cells bits
+demap-done p cells bits at hc hb ha d h e = rw e (search (cases, legality) depth 7)
 
 -- ---- refused calls leave the buffer as it was
 
--- Where the call was refused, the buffer holds what was lent.
-abbrev pub Kept : List ℕ → After → Type 0
-Kept lent a = TurnedBack (a .answer) → a .written ≡ lent
-
-pub done-kept : (lent d : List ℕ) (v : ℕ) → Kept lent (after (Done v) d)
-done-kept lent d v t = absurd (t refl)
-
-pub refused-kept : (lent : List ℕ) (r : Refusal) → Kept lent (after (Refused r) lent)
-refused-kept lent r t = refl
-
 pub map-keeps : (p : Profile) (bits cells : List ℕ) → TurnedBack (bitsToCells p bits cells .answer) → bitsToCells p bits cells .written ≡ cells
-unfolding bitsToCells
-map-keeps p bits cells =
-    either (Kept cells) (not (eqb (length bits) 21504)) _ _ (refused-kept cells Misfit)
-    (either (Kept cells) (not (eqb (length cells) (cellsPerBuffer p * 2))) _ _ (refused-kept cells Misfit)
-    (done-kept cells (toCells p bits) 0))
+map-keeps p bits cells = call-keeps _ _ _ refl
 
 pub demap-keeps : (p : Profile) (cells bits : List ℕ) → TurnedBack (cellsToBits p cells bits .answer) → cellsToBits p cells bits .written ≡ bits
-unfolding cellsToBits
-demap-keeps p cells bits =
-    either (Kept bits) (not (eqb (length cells) (cellsPerBuffer p * 2))) _ _ (refused-kept bits Misfit)
-    (either (Kept bits) (not (eqb (length bits) 21504)) _ _ (refused-kept bits Misfit)
-    (either (Kept bits) (ltb (firstIllegal (payloadRule p) cells) (length cells)) _ _ (refused-kept bits (OffGrid (firstIllegal (payloadRule p) cells)))
-    (done-kept bits (toBits p cells) 0)))
+demap-keeps p cells bits = call-keeps _ _ _ refl
 
 -- ---- calls that are accepted
 

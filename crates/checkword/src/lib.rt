@@ -15,7 +15,8 @@ ghost use Rattle.bits.specs.Bits.{bit, pack};
 ghost use Rattle.bch.specs.Repair.{repair, repaired, mark};
 ghost use Rattle.bch.specs.Locating.{confined};
 ghost use Rattle.checkword.specs.Applying.{Inside};
-ghost use Rattle.bch.specs.Calls.{afterRepair, repairCall};
+ghost use Rattle.bch.specs.Calls.{repairCall};
+ghost use Rattle.calls.specs.Calls.{after};
 
 // Lost where a place falls in the front half and may not.
 fn confine(r: Repair, front: bool) -> Repair
@@ -85,7 +86,7 @@ pub fn mark_of(r: Repair) -> u8
 
 // Repairs a lent word in place: the number of flips, 0 to 2; or 3, and the word is lost and unaltered.
 pub fn repair_word(word: &mut [u8], front: bool) -> Answer
-    ensures { λ r. ⌜ afterRepair r (now (word .exit)) ≡ repairCall (now (word .entry)) front ⌝ }
+    ensures { λ r. ⌜ after r (now (word .exit)) ≡ repairCall (now (word .entry)) front ⌝ }
 {
     if word.len() != 32 {
         return Answer::Refused(Refusal::Misfit);

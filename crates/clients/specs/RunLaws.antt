@@ -4,11 +4,11 @@
 use mathlib.Core.Path.{_≡_, refl, sym, ap, ap₂, subst, _∙_}
 use mathlib.Core.List.{List, [], _∷_, map}
 use Prim.Native.Nat.{ℕ, suc, _≤_}
-use lib.ListN.{length, getD}
+use lib.ListN.{length}
 use Rattle.calls.specs.Sequences.{At, here, later, Part, accepted}
 use Rattle.calls.specs.SequenceLaws.{Mirrors, mirror-run, mirror-accepted}
 use Rattle.ofec.specs.SentLaws.{madeBits, sent-exists}
-use Rattle.ofec.specs.Calls.{state, Encoding, encode, Encodings, Receiving, receive, Receivings, payloads}
+use Rattle.ofec.specs.Calls.{EncodeBuffers, ReceiveBuffers, state, Encoding, encode, Encodings, Receiving, receive, Receivings, payloads}
 use Rattle.ofec.specs.Rows.{RowBits}
 use Rattle.ofec.specs.Promise.{Limit}
 use Rattle.cells.specs.Profile.{pairsIn}
@@ -19,7 +19,7 @@ use Rattle.line.specs.Outward.{Outward, codedPairs}
 use Rattle.line.specs.Inward.{Inward}
 use Rattle.capi.specs.declared.Outcome.{Outcome}
 use Rattle.capi.specs.Outcomes.{outcomeOf}
-use Rattle.capi.specs.Exports.{Exported, ofEncoded, ofReceived}
+use Rattle.capi.specs.Exports.{Exported, inNumbers}
 use Rattle.clients.specs.Runs.{EncodeCall, EncodeCalls, ReceiveCall, ReceiveCalls, Sends, Receives}
 
 -- ---- lists
@@ -45,33 +45,33 @@ map-map f g h e (x ∷ xs) = ap₂ _∷_ (e x) (map-map f g h e xs)
 
 module _ (c : EncodeCall) where
   pub encode-outcome : c .outcome ≡ outcomeOf (encode (c .lent) .answer) (c .lent .pair)
-  unfolding ofEncoded encode
-  encode-outcome = ap (λ (x : Exported). x .outcome) (c .meets)
+  unfolding inNumbers encode
+  encode-outcome = ap (λ (x : Exported EncodeBuffers). x .outcome) (c .meets)
 
-  pub encode-coded : c .coded ≡ encode (c .lent) .coded
-  unfolding ofEncoded encode
-  encode-coded = ap (λ (x : Exported). getD (x .buffers) 0 []) (c .meets)
+  pub encode-coded : c .coded ≡ encode (c .lent) .written .coded
+  unfolding inNumbers encode
+  encode-coded = ap (λ (x : Exported EncodeBuffers). x .written .coded) (c .meets)
 
-  pub encode-history : c .history ≡ encode (c .lent) .history
-  unfolding ofEncoded encode
-  encode-history = ap (λ (x : Exported). getD (x .buffers) 1 []) (c .meets)
+  pub encode-history : c .history ≡ encode (c .lent) .written .history
+  unfolding inNumbers encode
+  encode-history = ap (λ (x : Exported EncodeBuffers). x .written .history) (c .meets)
 
 module _ (c : ReceiveCall) where
   pub receive-outcome : c .outcome ≡ outcomeOf (receive (c .lent) .answer) (c .lent .pair)
-  unfolding ofReceived receive
-  receive-outcome = ap (λ (x : Exported). x .outcome) (c .meets)
+  unfolding inNumbers receive
+  receive-outcome = ap (λ (x : Exported ReceiveBuffers). x .outcome) (c .meets)
 
-  pub receive-payload : c .payload ≡ receive (c .lent) .payload
-  unfolding ofReceived receive
-  receive-payload = ap (λ (x : Exported). getD (x .buffers) 0 []) (c .meets)
+  pub receive-payload : c .payload ≡ receive (c .lent) .written .payload
+  unfolding inNumbers receive
+  receive-payload = ap (λ (x : Exported ReceiveBuffers). x .written .payload) (c .meets)
 
-  pub receive-marks : c .marks ≡ receive (c .lent) .marks
-  unfolding ofReceived receive
-  receive-marks = ap (λ (x : Exported). getD (x .buffers) 1 []) (c .meets)
+  pub receive-marks : c .marks ≡ receive (c .lent) .written .marks
+  unfolding inNumbers receive
+  receive-marks = ap (λ (x : Exported ReceiveBuffers). x .written .marks) (c .meets)
 
-  pub receive-history : c .history ≡ receive (c .lent) .history
-  unfolding ofReceived receive
-  receive-history = ap (λ (x : Exported). getD (x .buffers) 2 []) (c .meets)
+  pub receive-history : c .history ≡ receive (c .lent) .written .history
+  unfolding inNumbers receive
+  receive-history = ap (λ (x : Exported ReceiveBuffers). x .written .history) (c .meets)
 
 -- Exported calls are the library's.
 abbrev pub encodingOf : EncodeCall → Encoding
@@ -129,8 +129,8 @@ outward s =
 pub coded-as-left : (s : Sends) (e : Side) → codedPairs (outward s .calls e) ≡ map (λ (c : EncodeCall). c .coded) (accepted EncodeCalls (s .calls e))
 unfolding codedPairs outward
 coded-as-left s e =
-    ap (map (λ (c : Encoding). encode c .coded)) (mirror-accepted encode-mirrors (s .calls e))
-    ∙ map-map encodingOf (λ (c : Encoding). encode c .coded) (λ (c : EncodeCall). c .coded) (λ c. sym (encode-coded c)) (accepted EncodeCalls (s .calls e))
+    ap (map (λ (c : Encoding). encode c .written .coded)) (mirror-accepted encode-mirrors (s .calls e))
+    ∙ map-map encodingOf (λ (c : Encoding). encode c .written .coded) (λ (c : EncodeCall). c .coded) (λ c. sym (encode-coded c)) (accepted EncodeCalls (s .calls e))
 
 -- The bits that an encoder sent.
 abbrev pub sentBits : Sends → Side → RowBits

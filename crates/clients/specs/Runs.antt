@@ -7,7 +7,7 @@ use Prim.Native.Nat.{ℕ, _≤_}
 use lib.ListN.{length}
 use Rattle.calls.specs.Sequences.{At, Part, Kind, Run, accepted}
 use Rattle.ofec.specs.Rows.{RowBits}
-use Rattle.ofec.specs.Calls.{State, state, start, Encoding, encodeCall, Receiving, receiveCall}
+use Rattle.ofec.specs.Calls.{encodeBuffers, encodeCall, receiveBuffers, receiveCall, State, state, start, Encoding, Receiving}
 use Rattle.ofec.specs.Promise.{Limit}
 use Rattle.cells.specs.Profile.{pairsIn}
 use Rattle.cells.specs.Profiles.{qam16}
@@ -17,7 +17,7 @@ use Rattle.line.specs.Line.{lineBit}
 use Rattle.line.specs.Outward.{LentOut}
 use Rattle.line.specs.Inward.{Heard, receivedPair}
 use Rattle.capi.specs.declared.Outcome.{Outcome}
-use Rattle.capi.specs.Exports.{exported, ofEncoded, ofReceived}
+use Rattle.capi.specs.Exports.{exported, inNumbers}
 
 -- ---- the calls
 
@@ -27,7 +27,7 @@ pub record EncodeCall : Type 0 where
   pub outcome : Outcome
   pub coded : List ℕ
   pub history : List ℕ
-  pub meets : exported outcome (coded ∷ history ∷ []) ≡ ofEncoded (lent .pair) (encodeCall (lent .payload) (lent .coded) (lent .history) (lent .pair))
+  pub meets : exported outcome (encodeBuffers coded history) ≡ inNumbers (lent .pair) (encodeCall (lent .payload) (lent .coded) (lent .history) (lent .pair))
 
 abbrev pub EncodeCalls : Kind
 EncodeCalls =
@@ -49,8 +49,8 @@ pub record ReceiveCall : Type 0 where
   pub payload : List ℕ
   pub marks : List ℕ
   pub history : List ℕ
-  pub meets : exported outcome (payload ∷ marks ∷ history ∷ [])
-      ≡ ofReceived (lent .pair) (receiveCall (lent .coded) (lent .payload) (lent .marks) (lent .history) (lent .pair))
+  pub meets : exported outcome (receiveBuffers payload marks history)
+      ≡ inNumbers (lent .pair) (receiveCall (lent .coded) (lent .payload) (lent .marks) (lent .history) (lent .pair))
 
 abbrev pub ReceiveCalls : Kind
 ReceiveCalls =

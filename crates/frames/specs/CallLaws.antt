@@ -1,236 +1,132 @@
--- Laws of the calls: what each answers and leaves in every case, one law a case for both calls; refused calls leave the buffer as it was.
+-- Laws of the calls: their tests, what an accepted call gives, what a refused one leaves, and each undoing the other.
 -- Assumes nothing.
 use mathlib.Core.Path.{_≡_, refl, ap, ap₂, sym, _∙_}
-use mathlib.Core.Bool.{Bool, true, false, not}
-use mathlib.Core.List.{List, []}
+use mathlib.Core.Bool.{true, false}
+use mathlib.Core.List.{List, _∷_}
 use mathlib.Core.Logic.{_≢_}
 use Prim.Native.Nat.{ℕ, _+_, _*_, _<_, _≤_}
 use native.Mathlib.Omega.{arith}
-use native.Mathlib.Decide.{ℕ-discrete, decLt}
-use borrow.Author.Tests.{eq-eqb, ne-eqb, lt-ltb, le-ltb}
-use lib.Dec.{eqb, ltb}
+use borrow.Author.Tests.{eq-eqb, ne-eqb, lt-ltb, le-ltb, eqb-true, not-false}
 use lib.ListN.{length, getD}
 use Rattle.calls.specs.declared.Answer.{Answer}
 use Rattle.calls.specs.declared.Answer.the-variants.{Done, Refused}
-use Rattle.calls.specs.declared.Refusal.{Refusal}
-use Rattle.calls.specs.declared.Refusal.the-variants.{Misfit, NoSuchFrame, OffGrid}
-use Rattle.calls.specs.Answers.{refusalOf, TurnedBack}
-use Rattle.calls.specs.AnswerLaws.{refused-turned}
+use Rattle.calls.specs.declared.Refusal.the-variants.{Misfit, OffGrid}
+use Rattle.calls.specs.Answers.{TurnedBack}
+use Rattle.calls.specs.Calls.{after, Test, verdict}
+use Rattle.calls.specs.CallLaws.{refuses, passes, is-off-grid, on-grid, none-left, no-misfit, sub-frame, first-passed, call-done, Passed, passed-all, told, call-keeps}
 use Rattle.cells.specs.Profile.{Profile}
 use Rattle.cells.specs.Cells.{overheadRule, payloadRule, firstIllegal, Legal}
 use Rattle.cells.specs.CellLaws.{none-illegal}
-use Rattle.cells.specs.Calls.{After, after}
-use Rattle.bits.specs.TestLaws.{either}
-use Rattle.cells.specs.CallLaws.{Kept, done-kept, refused-kept}
+use Rattle.cells.specs.CallLaws.{is-legal}
 use Rattle.frames.specs.Frames.{isOverhead, payloadCells, overheadStart, ownOverhead, framed, frameRule, unframed, differing}
 use Rattle.frames.specs.FrameLaws.{own-legal, framed-length, framed-legal, own-length, unframed-framed, unframed-length, differing-framed, unframed-legal, framed-unframed, overhead-never-payload}
-use Rattle.frames.specs.Calls.{payloadFits, offGrid, overheadIndex, tested, judged, frameCall, unframeCall}
+use Rattle.frames.specs.Calls.{payloadFits, payloadMisfit, overheadIndex, overheadIllegal, subFrameTests, frameCall, unframeCall}
 
--- ---- a buffer with an illegal byte, and one without
+-- ---- the tests
 
-off-yes : (rule : ℕ → ℕ → Bool) (cells : List ℕ) (at : ℕ) → at ≡ firstIllegal rule cells → at < length cells → offGrid rule cells ≡ true
-unfolding offGrid
-off-yes rule cells at e h = lt-ltb (firstIllegal rule cells) (length cells) (rw e at h)
+-- The payload: not measured, of another length, of its length n * 2.
+module _ (number : ℕ) (payload : List ℕ) (ts : List Test) where
+  pub payload-unmeasured : (a : Answer) → 47 < number → a ≡ verdict ts → a ≡ verdict (payloadMisfit number payload ∷ ts)
+  unfolding payloadMisfit payloadFits
+  payload-unmeasured a h = passes (payloadMisfit number payload) ts a (simp (lt-ltb _ _ h))
 
-off-no : (rule : ℕ → ℕ → Bool) (cells : List ℕ) (at : ℕ) → at ≡ firstIllegal rule cells → length cells ≤ at → offGrid rule cells ≡ false
-unfolding offGrid
-off-no rule cells at e h = le-ltb (firstIllegal rule cells) (length cells) (rw e at h)
+  module _ (n : ℕ) (e : n ≡ payloadCells number) (l : number ≤ 47) where
+    pub payload-misfit : length payload ≢ n * 2 → Refused Misfit ≡ verdict (payloadMisfit number payload ∷ ts)
+    unfolding payloadMisfit payloadFits
+    payload-misfit h =
+        let h′ : length payload ≢ payloadCells number * 2 = λ p. h (p ∙ omega arith) in
+        refuses (payloadMisfit number payload) ts (simp (le-ltb _ _ l, ne-eqb _ _ h′))
 
--- ---- the cases
+    pub payload-measured : (a : Answer) → length payload ≡ n * 2 → a ≡ verdict ts → a ≡ verdict (payloadMisfit number payload ∷ ts)
+    unfolding payloadMisfit payloadFits
+    payload-measured a h =
+        let h′ : length payload ≡ payloadCells number * 2 = h ∙ omega arith in
+        passes (payloadMisfit number payload) ts a (simp (le-ltb _ _ l, eq-eqb _ _ h′))
 
-module _ (number : ℕ) (overhead frame payload lent : List ℕ) (next : After) where
-  pub list-misfit : length overhead ≢ 12288 → after (Refused Misfit) lent ≡ tested number overhead frame payload lent next
-  unfolding tested
-  list-misfit h = simp (ne-eqb _ _ h)
+-- The sub-frame's cells of the overhead list.
+module _ (number : ℕ) (overhead own : List ℕ) (eo : own ≡ ownOverhead number overhead) (at : ℕ) (ea : at ≡ firstIllegal overheadRule own) (ts : List Test) where
+  pub overhead-illegal : (start : ℕ) → start ≡ overheadStart number → at < length own → Refused (OffGrid (start * 2 + at)) ≡ verdict (overheadIllegal number overhead ∷ ts)
+  unfolding overheadIllegal overheadIndex
+  overhead-illegal start es h = is-off-grid ts _ _ _ (start * 2 + at) (rw (es, ea, eo)) (rw (ea, eo) at h)
 
-  module _ (lo : length overhead ≡ 12288) where
-    pub frame-misfit : length frame ≢ 7424 → after (Refused Misfit) lent ≡ tested number overhead frame payload lent next
-    unfolding tested
-    frame-misfit h = simp (eq-eqb _ _ lo, ne-eqb _ _ h)
+  pub overhead-legal : (a : Answer) → length own ≤ at → a ≡ verdict ts → a ≡ verdict (overheadIllegal number overhead ∷ ts)
+  unfolding overheadIllegal
+  overhead-legal a h = on-grid ts _ _ _ a (rw (ea, eo) at h)
 
-    module _ (lf : length frame ≡ 7424) where
-      pub no-such-frame : 47 < number → after (Refused NoSuchFrame) lent ≡ tested number overhead frame payload lent next
-      unfolding tested payloadFits
-      no-such-frame h = simp (eq-eqb _ _ lo, eq-eqb _ _ lf, lt-ltb _ _ h)
+pub ruleset sub-frame-tests = (payload-unmeasured, payload-misfit, payload-measured, overhead-illegal, overhead-legal)
 
-      module _ (ln : number ≤ 47) where
-        pub payload-misfit : (n : ℕ) → n ≡ payloadCells number → length payload ≢ n * 2
-            → after (Refused Misfit) lent ≡ tested number overhead frame payload lent next
-        unfolding tested payloadFits
-        payload-misfit n e h =
-            let h′ : length payload ≢ payloadCells number * 2 = λ p. h (p ∙ omega arith) in
-            simp (eq-eqb _ _ lo, eq-eqb _ _ lf, le-ltb _ _ ln, ne-eqb _ _ h′)
+-- ---- where the first tests pass, with answer a
 
-        module _ (n : ℕ) (en : n ≡ payloadCells number) (lp : length payload ≡ n * 2) (own : List ℕ) (eo : own ≡ ownOverhead number overhead) (at : ℕ)
-            (ea : at ≡ firstIllegal overheadRule own) where
-          fits : length payload ≡ payloadCells number * 2
-          fits = lp ∙ omega arith
+pub payload-told : (number : ℕ) (payload : List ℕ) → number ≤ 47 → payloadMisfit number payload .refuses ≡ false → length payload ≡ payloadCells number * 2
+unfolding payloadMisfit payloadFits
+payload-told number payload l e = eqb-true _ _ (not-false _ (simp (le-ltb 47 number l) at e))
 
-          pub overhead-off-grid : (start : ℕ) → start ≡ overheadStart number → at < length own
-              → after (Refused (OffGrid (start * 2 + at))) lent ≡ tested number overhead frame payload lent next
-          unfolding tested payloadFits overheadIndex
-          overhead-off-grid start es h =
-              let o : offGrid overheadRule (ownOverhead number overhead) ≡ true = ap (offGrid overheadRule) (sym eo) ∙ off-yes overheadRule own at ea h in
-              let i : firstIllegal overheadRule (ownOverhead number overhead) ≡ at = ap (firstIllegal overheadRule) (sym eo) ∙ sym ea in
-              simp (eq-eqb _ _ lo, eq-eqb _ _ lf, le-ltb _ _ ln, eq-eqb _ _ fits, o, i, es)
+module _ (number : ℕ) (overhead frame payload : List ℕ) (a : Answer) (v : ℕ) (is : a ≡ verdict (subFrameTests number overhead frame payload)) (ea : a ≡ Done v) where
+  passed : Passed (subFrameTests number overhead frame payload)
+  passed = passed-all (subFrameTests number overhead frame payload) v (sym is ∙ ea)
 
-          pub passes : (a : After) → length own ≤ at → a ≡ next → a ≡ tested number overhead frame payload lent next
-          unfolding tested payloadFits
-          passes a ok e =
-              let o : offGrid overheadRule (ownOverhead number overhead) ≡ false = ap (offGrid overheadRule) (sym eo) ∙ off-no overheadRule own at ea ok in
-              e ∙ sym (simp (eq-eqb _ _ lo, eq-eqb _ _ lf, le-ltb _ _ ln, eq-eqb _ _ fits, o))
+  pub judged-fits : number ≤ 47
+  unfolding subFrameTests
+  judged-fits = let p = passed in search (told, p)
 
-pub ruleset sub-frame-cases = (list-misfit, frame-misfit, no-such-frame, payload-misfit, overhead-off-grid, passes)
+  pub judged-overhead : length overhead ≡ 12288
+  unfolding subFrameTests
+  judged-overhead = let p = passed in search (told, p)
 
-module _ (rule : ℕ → ℕ → Bool) (read lent : List ℕ) (done : After) (to : ℕ) (et : to ≡ firstIllegal rule read) where
-  read-off-grid : to < length read → judged rule read lent done ≡ after (Refused (OffGrid to)) lent
-  unfolding judged
-  read-off-grid h = simp (off-yes rule read to et h, et)
+  pub judged-frame : length frame ≡ 7424
+  unfolding subFrameTests
+  judged-frame = let p = passed in search (told, p)
 
-  read-passes : length read ≤ to → judged rule read lent done ≡ done
-  unfolding judged
-  read-passes h = simp (off-no rule read to et h)
+  pub judged-payload : length payload ≡ payloadCells number * 2
+  unfolding subFrameTests
+  judged-payload = let p = passed in search (told, payload-told, p)
 
--- ---- what the tests come to
-
-module _ (number : ℕ) (overhead frame payload : List ℕ) where
-  -- Where all tests pass, a call leaves what comes next.
-  record Passed : Type 0 where
-    pub fits : number ≤ 47
-    pub overhead-long : length overhead ≡ 12288
-    pub frame-long : length frame ≡ 7424
-    pub payload-long : length payload ≡ payloadCells number * 2
-    pub does : (lent : List ℕ) (next : After) → tested number overhead frame payload lent next ≡ next
-
-  -- Refused, whatever is lent and would come next, or passed.
-  data Verdict : Type 0 where
-    turned : (r : Refusal) → ((lent : List ℕ) (next : After) → after (Refused r) lent ≡ tested number overhead frame payload lent next) → Verdict
-    passed : Passed → Verdict
-
-  verdict : Verdict
-  verdict = go (ℕ-discrete (length overhead) 12288) (ℕ-discrete (length frame) 7424) (decLt 47 number) (ℕ-discrete (length payload) (payloadCells number * 2))
-      (decLt (firstIllegal overheadRule (ownOverhead number overhead)) (length (ownOverhead number overhead)))
-    where
-      go : Dec (length overhead ≡ 12288) → Dec (length frame ≡ 7424) → Dec (47 < number) → Dec (length payload ≡ payloadCells number * 2)
-          → Dec (firstIllegal overheadRule (ownOverhead number overhead) < length (ownOverhead number overhead)) → Verdict
-      go (no o) f n p w = turned Misfit (λ lent next. list-misfit number overhead frame payload lent next o)
-      go (yes o) (no f) n p w = turned Misfit (λ lent next. frame-misfit number overhead frame payload lent next o f)
-      go (yes o) (yes f) (yes n) p w = turned NoSuchFrame (λ lent next. no-such-frame number overhead frame payload lent next o f n)
-      go (yes o) (yes f) (no n) (no p) w =
-          turned Misfit (λ lent next. payload-misfit number overhead frame payload lent next o f (omega arith) (payloadCells number) refl p)
-      go (yes o) (yes f) (no n) (yes p) (yes w) =
-          turned (OffGrid _) (λ lent next. overhead-off-grid number overhead frame payload lent next o f (omega arith) (payloadCells number) refl p
-          (ownOverhead number overhead) refl _ refl (overheadStart number) refl w)
-      go (yes o) (yes f) (no n) (yes p) (no w) =
-          passed
-          (record {
-            fits = omega arith;
-            overhead-long = o;
-            frame-long = f;
-            payload-long = p;
-            does = λ lent next. sym
-                (passes number overhead frame payload lent next o f (omega arith) (payloadCells number) refl p (ownOverhead number overhead) refl _ refl next
-                (omega arith) refl);
-          })
-
-  -- From the answer of a call that is lent nothing and does nothing: what a refused one leaves,
-  pub judged-refused : (a : Answer) (r : Refusal) → after a [] ≡ tested number overhead frame payload [] (after (Done 0) []) → a ≡ Refused r
-      → (lent : List ℕ) (next : After) → after (Refused r) lent ≡ tested number overhead frame payload lent next
-  judged-refused a r is ea lent next = go verdict
-    where
-      e : after (Refused r) [] ≡ tested number overhead frame payload [] (after (Done 0) [])
-      e = ap (λ x. after x []) (sym ea) ∙ is
-
-      go : Verdict → after (Refused r) lent ≡ tested number overhead frame payload lent next
-      go (turned q f) = ap (λ (x : After). after (x .answer) lent) (e ∙ sym (f [] (after (Done 0) []))) ∙ f lent next
-      go (passed p) = absurd (refused-turned r (ap (λ (x : After). refusalOf (x .answer)) (e ∙ p .does [] (after (Done 0) []))))
-
-  -- and that one that passes fits.
-  module _ (a : Answer) (v : ℕ) (is : after a [] ≡ tested number overhead frame payload [] (after (Done 0) [])) (ea : a ≡ Done v) where
-    passed-all : Passed
-    passed-all = go verdict
-      where
-        e : after (Done v) [] ≡ tested number overhead frame payload [] (after (Done 0) [])
-        e = ap (λ x. after x []) (sym ea) ∙ is
-
-        go : Verdict → Passed
-        go (turned q f) = absurd (refused-turned q (sym (ap (λ (x : After). refusalOf (x .answer)) (e ∙ sym (f [] (after (Done 0) []))))))
-        go (passed p) = p
-
-    pub judged-fits : number ≤ 47
-    judged-fits = passed-all .fits
-
-    pub judged-overhead : length overhead ≡ 12288
-    judged-overhead = passed-all .overhead-long
-
-    pub judged-frame : length frame ≡ 7424
-    judged-frame = passed-all .frame-long
-
-    pub judged-payload : length payload ≡ payloadCells number * 2
-    judged-payload = passed-all .payload-long
-
-    -- Then the other buffer is tested, and the call does what it does.
-    module _ (rule : ℕ → ℕ → Bool) (read : List ℕ) (to : ℕ) (et : to ≡ firstIllegal rule read) (lent : List ℕ) (done : After) where
-      pub judged-off-grid : to < length read → after (Refused (OffGrid to)) lent ≡ tested number overhead frame payload lent (judged rule read lent done)
-      judged-off-grid h = sym (passed-all .does lent (judged rule read lent done) ∙ read-off-grid rule read lent done to et h)
-
-      pub judged-done : (x : After) → length read ≤ to → x ≡ done → x ≡ tested number overhead frame payload lent (judged rule read lent done)
-      judged-done x h e = e ∙ sym (passed-all .does lent (judged rule read lent done) ∙ read-passes rule read lent done to et h)
-
-pub ruleset judging = (judged-refused, judged-fits, judged-overhead, judged-frame, judged-payload, judged-off-grid)
-
--- ---- calls that pass
+pub ruleset judging = (judged-fits, judged-overhead, judged-frame, judged-payload)
 
 module _ (p : Profile) (number v : ℕ) (a : Answer) (ea : a ≡ Done v) (overhead frame payload own : List ℕ) (eo : own ≡ ownOverhead number overhead)
-    (is : after a [] ≡ tested number overhead frame payload [] (after (Done 0) [])) (to : ℕ) where
+    (is : a ≡ verdict (subFrameTests number overhead frame payload)) (to : ℕ) where
   pub frame-done : to ≡ firstIllegal (payloadRule p) payload → length payload ≤ to → (d : List ℕ) → d ≡ framed number payload own
       → after (Done 0) d ≡ frameCall p number payload overhead frame
-  frame-done et h d e = judged-done number overhead frame payload a v is ea (payloadRule p) payload to et frame _ _ h (ap (after (Done 0)) (e ∙ ap (framed number payload) eo))
+  frame-done et h d e =
+      call-done _ _ _ _ (first-passed _ _ a is v _ ea (is-legal (payloadRule p) payload to et _ _ h none-left)) (ap (after (Done 0)) (e ∙ ap (framed number payload) eo))
 
   pub unframe-done : to ≡ firstIllegal (frameRule p number) frame → length frame ≤ to → (d : List ℕ) (n : ℕ) → d ≡ unframed number frame
       → n ≡ differing number frame own → after (Done n) d ≡ unframeCall p number frame overhead payload
   unframe-done et h d n e en =
-      judged-done number overhead frame payload a v is ea (frameRule p number) frame to et payload _ _ h
+      call-done _ _ _ _ (first-passed _ _ a is v _ ea (is-legal (frameRule p number) frame to et _ _ h none-left))
       (ap₂ (λ x y. after (Done x) y) (en ∙ ap (differing number frame) eo) e)
 
 -- ---- refused calls leave the buffer as it was
 
-module _ (number : ℕ) (overhead frame payload : List ℕ) (rule : ℕ → ℕ → Bool) (read lent : List ℕ) (done : After) where
-  call-keeps : Kept lent done → Kept lent (tested number overhead frame payload lent (judged rule read lent done))
-  unfolding tested judged
-  call-keeps k =
-      either (Kept lent) (not (eqb (length overhead) 12288)) _ _ (refused-kept lent Misfit)
-      (either (Kept lent) (not (eqb (length frame) 7424)) _ _ (refused-kept lent Misfit)
-      (either (Kept lent) (not (payloadFits number payload)) _ _ (refused-kept lent Misfit)
-      (either (Kept lent) (ltb 47 number) _ _ (refused-kept lent NoSuchFrame)
-      (either (Kept lent) (offGrid overheadRule (ownOverhead number overhead)) _ _ (refused-kept lent (OffGrid (overheadIndex number overhead)))
-      (either (Kept lent) (offGrid rule read) _ _ (refused-kept lent (OffGrid (firstIllegal rule read))) k)))))
-
 pub frame-keeps : (p : Profile) (number : ℕ) (payload overhead frame : List ℕ) → TurnedBack (frameCall p number payload overhead frame .answer)
     → frameCall p number payload overhead frame .written ≡ frame
-frame-keeps p number payload overhead frame =
-    call-keeps number overhead frame payload (payloadRule p) payload frame _ (done-kept frame (framed number payload (ownOverhead number overhead)) 0)
+frame-keeps p number payload overhead frame = call-keeps _ _ _ refl
 
 pub unframe-keeps : (p : Profile) (number : ℕ) (frame overhead payload : List ℕ) → TurnedBack (unframeCall p number frame overhead payload .answer)
     → unframeCall p number frame overhead payload .written ≡ payload
-unframe-keeps p number frame overhead payload =
-    call-keeps number overhead frame payload (frameRule p number) frame payload _ (done-kept payload (unframed number frame) (differing number frame (ownOverhead number overhead)))
+unframe-keeps p number frame overhead payload = call-keeps _ _ _ refl
 
 -- ---- calls that are accepted
 
 module _ (p : Profile) (number : ℕ) (overhead frame payload : List ℕ) (ln : number ≤ 47) (lo : length overhead ≡ 12288) (lf : length frame ≡ 7424)
     (lp : length payload ≡ payloadCells number * 2) (own : Legal overheadRule (ownOverhead number overhead)) where
-  legal-passes : (rule : ℕ → ℕ → Bool) (read lent : List ℕ) (done : After) → Legal rule read → done ≡ tested number overhead frame payload lent (judged rule read lent done)
-  legal-passes rule read lent done legal =
-      passes number overhead frame payload lent (judged rule read lent done) lo lf ln (payloadCells number) refl lp (ownOverhead number overhead) refl _ refl done
-      (none-illegal overheadRule (ownOverhead number overhead) own) (sym (read-passes rule read lent done _ refl (none-illegal rule read legal)))
+  tests-pass : Done 0 ≡ verdict (subFrameTests number overhead frame payload)
+  unfolding subFrameTests
+  tests-pass =
+      no-misfit _ _ _ _ lo
+      (no-misfit _ _ _ _ lf
+      (payload-measured number payload _ _ refl ln _ lp
+      (sub-frame _ _ _ ln
+      (overhead-legal number overhead _ refl _ refl _ _ (none-illegal overheadRule (ownOverhead number overhead) own) none-left))))
 
   pub frame-accepts : Legal (payloadRule p) payload → frameCall p number payload overhead frame ≡ after (Done 0) (framed number payload (ownOverhead number overhead))
-  frame-accepts legal = sym (legal-passes (payloadRule p) payload frame _ legal)
+  frame-accepts legal =
+      sym (frame-done p number 0 (Done 0) refl overhead frame payload _ refl tests-pass _ refl (none-illegal (payloadRule p) payload legal) _ refl)
 
   pub unframe-accepts : Legal (frameRule p number) frame
       → unframeCall p number frame overhead payload ≡ after (Done (differing number frame (ownOverhead number overhead))) (unframed number frame)
-  unframe-accepts legal = sym (legal-passes (frameRule p number) frame payload _ legal)
+  unframe-accepts legal =
+      sym (unframe-done p number 0 (Done 0) refl overhead frame payload _ refl tests-pass _ refl (none-illegal (frameRule p number) frame legal) _ _ refl refl)
 
 -- ---- each call undoes the other
 

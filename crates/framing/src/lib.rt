@@ -6,11 +6,9 @@ use subframe::comparing;
 use subframe::layout;
 use subframe::placing;
 ghost use mathlib.Core.Path.{_≡_};
-ghost use mathlib.Core.List.{[]};
-ghost use Rattle.calls.specs.declared.Answer.the-variants.{Done};
-ghost use Rattle.cells.specs.Calls.{after};
+ghost use Rattle.calls.specs.Calls.{after, verdict};
 ghost use Rattle.cells.specs.Profiles.{qam16};
-ghost use Rattle.frames.specs.Calls.{tested, frameCall, unframeCall};
+ghost use Rattle.frames.specs.Calls.{subFrameTests, frameCall, unframeCall};
 
 // The bytes of the overhead list: 6,144 cells.
 const OVERHEAD: usize = 12288;
@@ -23,7 +21,7 @@ const LAST: u32 = 47;
 
 // What both calls test first, in the order of the table.
 fn judge(number: u32, overhead: &[u8], frame: &[u8], payload: &[u8]) -> Answer
-    ensures { λ r. ⌜ after r [] ≡ tested number (now (overhead .entry)) (now (frame .entry)) (now (payload .entry)) [] (after (Done 0) []) ⌝ }
+    ensures { λ r. ⌜ r ≡ verdict (subFrameTests number (now (overhead .entry)) (now (frame .entry)) (now (payload .entry))) ⌝ }
 {
     if overhead.len() != OVERHEAD {
         return Answer::Refused(Refusal::Misfit);

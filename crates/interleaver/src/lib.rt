@@ -1,6 +1,7 @@
 // The interleaver: 21 pairs of each encoder to the bits of a buffer, and back.
 ghost use mathlib.Core.Path.{_≡_};
-ghost use Rattle.interleaving.specs.Calls.{joined, interleave, parted, deinterleave};
+ghost use Rattle.calls.specs.Calls.{after};
+ghost use Rattle.interleaving.specs.Calls.{interleave, parted, deinterleave};
 use blockrows::joining::reordered_rows;
 use blockrows::joining::write_bits;
 use blockrows::taking_apart::restored_rows;
@@ -10,7 +11,7 @@ use calls::Refusal;
 
 // Interleaves 21 pairs of each encoder, 10,752 bytes each, to 21,504 bytes.
 pub fn interleave(pairs0: &[u8], pairs1: &[u8], bits: &mut [u8]) -> Answer
-    ensures { λ a. ⌜ joined a (now (bits .exit)) ≡ interleave (now (pairs0 .entry)) (now (pairs1 .entry)) (now (bits .entry)) ⌝ }
+    ensures { λ a. ⌜ after a (now (bits .exit)) ≡ interleave (now (pairs0 .entry)) (now (pairs1 .entry)) (now (bits .entry)) ⌝ }
 {
     if pairs0.len() != 10752 {
         return Answer::Refused(Refusal::Misfit);

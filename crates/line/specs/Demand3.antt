@@ -5,7 +5,7 @@ use Prim.Native.Nat.{ℕ, _*_, _/_, _<_}
 use Rattle.calls.specs.Answers.{Accepted, TurnedBack}
 use Rattle.calls.specs.Sequences.{At, Run, accepted}
 use Rattle.ofec.specs.History.{depth}
-use Rattle.ofec.specs.Calls.{Encoding, encode, Encodings, Receiving, receive, Receivings, start}
+use Rattle.ofec.specs.Calls.{encodeBuffers, receiveBuffers, Encoding, encode, Encodings, Receiving, receive, Receivings, start}
 use Rattle.ofec.specs.Promise.{Promise}
 use Rattle.cells.specs.Profile.{Profile, buffersIn, rowsIn}
 use Rattle.line.specs.Sides.{Side}
@@ -24,8 +24,7 @@ pub record Goes (p : Profile) (o : Outward p) : Type 0 where
   -- "Refused calls, whatever they are lent, may stand anywhere in a list and leave both as they were": history and pair number go on as if only
   -- the accepted calls had been made; and the buffers that a refused call may write are as they were lent.
   pub states : (e : Side) → Run Encodings start (accepted Encodings (o .calls e)) (o .last e)
-  pub refused : (e : Side) (i : ℕ) (c : Encoding) → At (o .calls e) i c → TurnedBack (encode c .answer)
-      → (encode c .history ≡ c .history) × (encode c .coded ≡ c .coded)
+  pub refused : (e : Side) (i : ℕ) (c : Encoding) → At (o .calls e) i c → TurnedBack (encode c .answer) → encode c .written ≡ encodeBuffers (c .coded) (c .history)
 
 -- What comes in.
 pub record Comes (p : Profile) (o : Outward p) (i : Inward p o) : Type 0 where
@@ -37,7 +36,7 @@ pub record Comes (p : Profile) (o : Outward p) (i : Inward p o) : Type 0 where
       → Promise depth (o .sent e) (lineBit p (i .heard .frames) e) c (receive c) R r
   pub states : (e : Side) → Run Receivings start (accepted Receivings (i .calls e)) (i .last e)
   pub refused : (e : Side) (j : ℕ) (c : Receiving) → At (i .calls e) j c → TurnedBack (receive c .answer)
-      → (receive c .history ≡ c .history) × (receive c .payload ≡ c .payload) × (receive c .marks ≡ c .marks)
+      → receive c .written ≡ receiveBuffers (c .payload) (c .marks) (c .history)
 
 -- "This is a single claim about the four lists together, and not one for each call."
 pub record Demand3 (p : Profile) (o : Outward p) (i : Inward p o) : Type 0 where

@@ -7,12 +7,13 @@ use Prim.Native.Nat.{ℕ, _+_, _-_, _*_, _/_, _%_, _<_, _≤_}
 use lib.ListN.{length, getD}
 use Rattle.bits.specs.Lists.{tabulate}
 use Rattle.calls.specs.Sequences.{At, Run, accepted}
+use Rattle.calls.specs.Calls.{After}
 use Rattle.ofec.specs.Calls.{Receiving, Receivings, State, start}
 use Rattle.ofec.specs.Promise.{Limit}
 use Rattle.interleaving.specs.Calls.{Apart, deinterleave}
 use Rattle.cells.specs.Profile.{Profile, cellsPerBuffer, pairsIn}
 use Rattle.cells.specs.Cells.{overheadRule, Legal}
-use Rattle.cells.specs.Calls.{After, cellsToBits}
+use Rattle.cells.specs.Calls.{cellsToBits}
 use Rattle.frames.specs.Frames.{payloadCells, payloadStart, frameRule, subFrameOf}
 use Rattle.frames.specs.Calls.{unframeCall}
 use Rattle.line.specs.Sides.{Side, side0, side1}
@@ -42,7 +43,7 @@ pub record Heard (p : Profile) (n : ℕ) : Type 0 where
 
 -- The calls, "each is made for every buffer or sub-frame".
 module _ (p : Profile) (n : ℕ) (h : Heard p n) where
-  unfoldable pub unframing : ℕ → After
+  unfoldable pub unframing : ℕ → After (List ℕ)
   unframing f = unframeCall p (f % 48) (getD (h .frames) f []) (h .overhead) (h .lent .payload f)
 
   -- "Payload runs on from buffer to buffer and sub-frame to sub-frame": byte k of payload cell x of super-frame q, and the cells of buffer b.
@@ -52,15 +53,15 @@ module _ (p : Profile) (n : ℕ) (h : Heard p n) where
   unfoldable pub bufferCells : ℕ → List ℕ
   bufferCells b = tabulate (cellsPerBuffer p * 2) (λ i. heardByte (b / p .bits) (b % p .bits * cellsPerBuffer p + i / 2) (i % 2))
 
-  unfoldable pub demapping : ℕ → After
+  unfoldable pub demapping : ℕ → After (List ℕ)
   demapping b = cellsToBits p (bufferCells b) (h .lent .bits b)
 
   unfoldable pub parting : ℕ → Apart
   parting b = deinterleave (demapping b .written) (h .lent .pairs side0 b) (h .lent .pairs side1 b)
 
   unfoldable pub pairsBack : Side → ℕ → List ℕ
-  pairsBack side0 b = parting b .pairs0
-  pairsBack side1 b = parting b .pairs1
+  pairsBack side0 b = parting b .written .pairs0
+  pairsBack side1 b = parting b .written .pairs1
 
   -- Received pair P of an encoder.
   unfoldable pub receivedPair : Side → ℕ → List ℕ

@@ -14,6 +14,7 @@ use Rattle.calls.specs.declared.Answer.the-variants.{Done}
 use Rattle.calls.specs.Answers.{refusalOf}
 use Rattle.calls.specs.Sequences.{At, accepted}
 use Rattle.calls.specs.SequenceLaws.{At-lt, without-refused}
+use Rattle.calls.specs.Calls.{After, after}
 use Rattle.ofec.specs.Pairs.{pairBit}
 use Rattle.ofec.specs.Calls.{Encoding, Encodings, payloads, Receivings}
 use Rattle.ofec.specs.CallLaws.{receive-refused, receive-keeps}
@@ -26,7 +27,6 @@ use Rattle.interleaving.specs.CallLaws.{part-done}
 use Rattle.cells.specs.Profile.{Profile, cellsPerBuffer, buffersIn, pairsIn, rowsIn}
 use Rattle.cells.specs.Cells.{payloadRule, Legal, toBits}
 use Rattle.cells.specs.CellLaws.{buffer-bits}
-use Rattle.cells.specs.Calls.{After, after}
 use Rattle.cells.specs.CallLaws.{demap-accepts}
 use Rattle.frames.specs.Frames.{payloadBefore, payloadStart, ownOverhead, unframed, differing, subFrameOf, cellOf}
 use Rattle.frames.specs.FrameLaws.{own-legal, unframed-at, payload-cell-legal}
@@ -54,7 +54,7 @@ module _ (p : Profile) (n : ℕ) (h : Heard p n) where
   heard-byte : (q x k : ℕ) → q < n → x < 172032 → k < 2 → heardByte p n h q x k ≡ lineByte (h .frames) q x k
   unfolding heardByte lineByte
   heard-byte q x k lq lx lk =
-      ap (λ (a : After). getD (a .written) ((x - payloadStart s) * 2 + k) 0) (unframing-is (48 * q + s) (omega (arith, at .sub-frame)))
+      ap (λ (a : After (List ℕ)). getD (a .written) ((x - payloadStart s) * 2 + k) 0) (unframing-is (48 * q + s) (omega (arith, at .sub-frame)))
       ∙ ap₂ (λ t y. getD (unframed t (getD (h .frames) (48 * q + s) [])) (y * 2 + k) 0) sub (place (payloadStart s) (payloadBefore s m) (at .index))
       ∙ unframed-at s (getD (h .frames) (48 * q + s) []) m k (at .inside) lk (at .payload)
     where
@@ -112,7 +112,7 @@ module _ (p : Profile) (n : ℕ) (h : Heard p n) where
   demapping-is b lb = demap-accepts p (bufferCells p n h b) (h .lent .bits b) (cells-length b) (h .lent .bits-long b) (cells-legal b lb)
 
   bits-length : (b : ℕ) → b < buffersIn p n → length (demapping p n h b .written) ≡ 21504
-  bits-length b lb = ap (λ (a : After). length (a .written)) (demapping-is b lb) ∙ buffer-bits p (bufferCells p n h b) (cells-length b)
+  bits-length b lb = ap (λ (a : After (List ℕ)). length (a .written)) (demapping-is b lb) ∙ buffer-bits p (bufferCells p n h b) (cells-length b)
 
   parting-is : (b : ℕ) → b < buffersIn p n → parting p n h b ≡ parted (Done 0) (apart (demapping p n h b .written) 0) (apart (demapping p n h b .written) 1)
   unfolding parting
@@ -123,8 +123,8 @@ module _ (p : Profile) (n : ℕ) (h : Heard p n) where
 
   pub pairs-is : (e : Side) (b : ℕ) → b < buffersIn p n → pairsBack p n h e b ≡ apart (toBits p (bufferCells p n h b)) (encoder e)
   unfolding pairsBack
-  pairs-is side0 b lb = ap (λ (a : Apart). a .pairs0) (parting-is b lb) ∙ ap (λ (a : After). apart (a .written) 0) (demapping-is b lb)
-  pairs-is side1 b lb = ap (λ (a : Apart). a .pairs1) (parting-is b lb) ∙ ap (λ (a : After). apart (a .written) 1) (demapping-is b lb)
+  pairs-is side0 b lb = ap (λ (a : Apart). a .written .pairs0) (parting-is b lb) ∙ ap (λ (a : After (List ℕ)). apart (a .written) 0) (demapping-is b lb)
+  pairs-is side1 b lb = ap (λ (a : Apart). a .written .pairs1) (parting-is b lb) ∙ ap (λ (a : After (List ℕ)). apart (a .written) 1) (demapping-is b lb)
 
   -- ---- what a received pair holds
 
@@ -172,12 +172,12 @@ module _ (p : Profile) (o : Outward p) (i : Inward p o) where
   pub comes : Comes p o i
   comes =
       record {
-        unframed = λ f l. ap (λ (a : After). refusalOf (a .answer)) (unframing-is p (o .superframes) (i .heard) f l);
-        demapped = λ b l. ap (λ (a : After). refusalOf (a .answer)) (demapping-is p (o .superframes) (i .heard) b l);
+        unframed = λ f l. ap (λ (a : After (List ℕ)). refusalOf (a .answer)) (unframing-is p (o .superframes) (i .heard) f l);
+        demapped = λ b l. ap (λ (a : After (List ℕ)). refusalOf (a .answer)) (demapping-is p (o .superframes) (i .heard) b l);
         parted = λ b l. ap (λ (a : Apart). refusalOf (a .answer)) (parting-is p (o .superframes) (i .heard) b l);
         words = λ e P c a R r is lr.
             promise (o .sent e) (lineBit p (i .heard .frames) e) (payloads (o .calls e)) (o .formulas e) (i .calls e) (i .runs e) (enough e) (takes e)
             (i .limit e) R r c lr (subst (λ Q. At (accepted Receivings (i .calls e)) Q c) (sym is) a);
         states = λ e. without-refused Receivings receive-keeps (i .runs e);
-        refused = λ e j c a bad. let kept = receive-refused c bad in (kept .2, kept .0, kept .1);
+        refused = λ e j c a. receive-refused c;
       }

@@ -7,13 +7,14 @@ use Prim.Native.Nat.{ℕ, _+_, _*_, _/_, _%_}
 use lib.ListN.{length, getD}
 use Rattle.bits.specs.Lists.{tabulate}
 use Rattle.calls.specs.Sequences.{Run, accepted}
+use Rattle.calls.specs.Calls.{After}
 use Rattle.ofec.specs.Rows.{RowBits}
 use Rattle.ofec.specs.Sent.{Sent}
 use Rattle.ofec.specs.Calls.{Encoding, encode, Encodings, State, start, payloads}
-use Rattle.interleaving.specs.Calls.{Interleaved, interleave}
+use Rattle.interleaving.specs.Calls.{interleave}
 use Rattle.cells.specs.Profile.{Profile, cellsPerBuffer, buffersIn, pairsIn}
 use Rattle.cells.specs.Cells.{overheadRule, Legal}
-use Rattle.cells.specs.Calls.{After, bitsToCells}
+use Rattle.cells.specs.Calls.{bitsToCells}
 use Rattle.frames.specs.Frames.{payloadCells, payloadStart}
 use Rattle.frames.specs.Calls.{frameCall}
 use Rattle.line.specs.Sides.{Side, side0, side1, buffers}
@@ -45,7 +46,7 @@ pub record Outward (p : Profile) : Type 0 where
 
 -- The coded pairs of a list of calls, as its accepted calls left them.
 unfoldable pub codedPairs : List Encoding → List (List ℕ)
-codedPairs cs = map (λ (c : Encoding). encode c .coded) (accepted Encodings cs)
+codedPairs cs = map (λ (c : Encoding). encode c .written .coded) (accepted Encodings cs)
 
 -- The 21 pairs of buffer b, one after the other.
 unfoldable pub pairsOfBuffer : List (List ℕ) → ℕ → List ℕ
@@ -53,12 +54,12 @@ pairsOfBuffer pairs b = tabulate 10752 (λ i. getD (getD pairs (21 * b + i / 512
 
 -- The calls, "each is made for every buffer or sub-frame".
 module _ (p : Profile) (o : Outward p) where
-  unfoldable pub interleaving : ℕ → Interleaved
+  unfoldable pub interleaving : ℕ → After (List ℕ)
   interleaving b =
       interleave (pairsOfBuffer (codedPairs (o .calls side0)) b) (pairsOfBuffer (codedPairs (o .calls side1)) b) (o .lent .bits b)
 
-  unfoldable pub mapping : ℕ → After
-  mapping b = bitsToCells p (interleaving b .bits) (o .lent .cells b)
+  unfoldable pub mapping : ℕ → After (List ℕ)
+  mapping b = bitsToCells p (interleaving b .written) (o .lent .cells b)
 
   -- "Payload runs on from buffer to buffer and sub-frame to sub-frame": byte h of payload cell x of super-frame q; and the payload of
   -- sub-frame f of the line.
@@ -68,7 +69,7 @@ module _ (p : Profile) (o : Outward p) where
   unfoldable pub framePayload : ℕ → List ℕ
   framePayload f = tabulate (payloadCells (f % 48) * 2) (λ i. payloadByte (f / 48) (payloadStart (f % 48) + i / 2) (i % 2))
 
-  unfoldable pub framing : ℕ → After
+  unfoldable pub framing : ℕ → After (List ℕ)
   framing f = frameCall p (f % 48) (framePayload f) (o .overhead) (o .lent .frame f)
 
   -- The frames of the line.

@@ -10,18 +10,18 @@ use Rattle.calls.specs.declared.Answer.the-variants.{Done}
 use Rattle.calls.specs.Answers.{refusalOf}
 use Rattle.calls.specs.Sequences.{At, accepted}
 use Rattle.calls.specs.SequenceLaws.{At-find, At-map, without-refused}
+use Rattle.calls.specs.Calls.{After, after}
 use Rattle.ofec.specs.Pairs.{pairBit}
 use Rattle.ofec.specs.Calls.{Encoding, encode, Encodings}
 use Rattle.ofec.specs.CallLaws.{encode-refused, encode-keeps}
 use Rattle.ofec.specs.PromiseLaws.{coded-sent}
 use Rattle.interleaving.specs.Interleaving.{interleaved}
 use Rattle.interleaving.specs.InterleavingLaws.{length-interleaved}
-use Rattle.interleaving.specs.Calls.{Interleaved, joined}
 use Rattle.interleaving.specs.CallLaws.{join-done}
 use Rattle.cells.specs.Profile.{Profile, cellsPerBuffer, rowsIn}
 use Rattle.cells.specs.Cells.{payloadRule, Legal, toCells}
 use Rattle.cells.specs.CellLaws.{toCells-legal, buffer-cells}
-use Rattle.cells.specs.Calls.{After, after, bitsToCells}
+use Rattle.cells.specs.Calls.{bitsToCells}
 use Rattle.cells.specs.CallLaws.{map-accepts}
 use Rattle.frames.specs.Frames.{ownOverhead, framed, frameRule}
 use Rattle.frames.specs.FrameLaws.{own-legal}
@@ -34,9 +34,9 @@ use Rattle.line.specs.LineLaws.{length-buffers, getD-buffers, pairs-bit,
 use Rattle.line.specs.FramedLine as line
 
 -- The coded pair of an accepted call stands at its number.
-pub coded-at : (cs : List Encoding) {P : ℕ} {c : Encoding} → At (accepted Encodings cs) P c → getD (codedPairs cs) P [] ≡ encode c .coded
+pub coded-at : (cs : List Encoding) {P : ℕ} {c : Encoding} → At (accepted Encodings cs) P c → getD (codedPairs cs) P [] ≡ encode c .written .coded
 unfolding codedPairs
-coded-at cs a = At-map (λ (c : Encoding). encode c .coded) [] a
+coded-at cs a = At-map (λ (c : Encoding). encode c .written .coded) [] a
 
 length-pairs : (pairs : List (List ℕ)) (b : ℕ) → length (pairsOfBuffer pairs b) ≡ 10752
 unfolding pairsOfBuffer
@@ -52,7 +52,7 @@ module _ (p : Profile) (o : Outward p) where
   bits : ℕ → List ℕ
   bits b = interleaved (pairs b side0) (pairs b side1)
 
-  interleaving-is : (b : ℕ) → interleaving p o b ≡ joined (Done 0) (bits b)
+  interleaving-is : (b : ℕ) → interleaving p o b ≡ after (Done 0) (bits b)
   unfolding interleaving pairs bits
   interleaving-is b =
       sym
@@ -66,14 +66,14 @@ module _ (p : Profile) (o : Outward p) where
   mapping-is : (b : ℕ) → mapping p o b ≡ after (Done 0) (toCells p (bits b))
   unfolding mapping
   mapping-is b =
-      ap (λ (a : Interleaved). mapped (a .bits)) (interleaving-is b)
+      ap (λ (a : After (List ℕ)). mapped (a .written)) (interleaving-is b)
       ∙ map-accepts p (bits b) (o .lent .cells b) (length-bits b) (o .lent .cells-long b)
     where
-      mapped : List ℕ → After
+      mapped : List ℕ → After (List ℕ)
       mapped s = bitsToCells p s (o .lent .cells b)
 
   cells-is : (b : ℕ) → mapping p o b .written ≡ toCells p (bits b)
-  cells-is b = ap (λ (a : After). a .written) (mapping-is b)
+  cells-is b = ap (λ (a : After (List ℕ)). a .written) (mapping-is b)
 
   pub cells-are : (b : ℕ)
       → mapping p o b .written ≡ toCells p (interleaved (pairsOfBuffer (codedPairs (o .calls side0)) b) (pairsOfBuffer (codedPairs (o .calls side1)) b))
@@ -106,7 +106,7 @@ module _ (p : Profile) (o : Outward p) where
 
   pub frame-is : (f : ℕ) → f < 48 * o .superframes → getD (frames p o) f [] ≡ framed (f % 48) (framePayload p o f) (ownOverhead (f % 48) (o .overhead))
   unfolding frames
-  frame-is f l = getD-buffers (48 * o .superframes) (λ k. framing p o k .written) f l ∙ ap (λ (a : After). a .written) (framing-is f)
+  frame-is f l = getD-buffers (48 * o .superframes) (λ k. framing p o k .written) f l ∙ ap (λ (a : After (List ℕ)). a .written) (framing-is f)
 
   frame-of-cells : (f : ℕ) → f < 48 * o .superframes → getD (frames p o) f [] ≡ line.frame p cells (o .overhead) f
   unfolding line.frame
@@ -148,10 +148,10 @@ module _ (p : Profile) (o : Outward p) where
   pub goes : Goes p o
   goes =
       record {
-        interleaved = λ b l. ap (λ (a : Interleaved). refusalOf (a .answer)) (interleaving-is b);
-        mapped = λ b l. ap (λ (a : After). refusalOf (a .answer)) (mapping-is b);
-        framed = λ f l. ap (λ (a : After). refusalOf (a .answer)) (framing-is f);
+        interleaved = λ b l. ap (λ (a : After (List ℕ)). refusalOf (a .answer)) (interleaving-is b);
+        mapped = λ b l. ap (λ (a : After (List ℕ)). refusalOf (a .answer)) (mapping-is b);
+        framed = λ f l. ap (λ (a : After (List ℕ)). refusalOf (a .answer)) (framing-is f);
         holds = line-sent;
         states = λ e. without-refused Encodings encode-keeps (o .runs e);
-        refused = λ e i c a bad. let kept = encode-refused c bad in (kept .1, kept .0);
+        refused = λ e i c a. encode-refused c;
       }

@@ -73,9 +73,9 @@ emptyReceiving = record { coded = []; payload = []; marks = []; history = []; pa
 
 -- Of every pair taken, every mark is 0 and all payload comes back.
 pub record AllBack (p : Profile) (o : Outward p) (i : Inward p o) : Type 0 where
-  pub marks : (e : Side) (P : ℕ) (c : Receiving) → At (accepted Receivings (i .calls e)) P c → (w : ℕ) → w < 32 → getD (receive c .marks) w 0 ≡ 0
+  pub marks : (e : Side) (P : ℕ) (c : Receiving) → At (accepted Receivings (i .calls e)) P c → (w : ℕ) → w < 32 → getD (receive c .written .marks) w 0 ≡ 0
   pub payload : (e : Side) (P : ℕ) (c : Receiving) → At (accepted Receivings (i .calls e)) P c → (j : ℕ) → j < 3552
-      → bit (receive c .payload) j ≡ bit (getD (payloads (o .calls e)) P []) j
+      → bit (receive c .written .payload) j ≡ bit (getD (payloads (o .calls e)) P []) j
 
 -- ---- a line with errors in one word
 

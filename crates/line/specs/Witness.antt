@@ -172,11 +172,11 @@ module _ (p : Profile) (o : Outward p) (i : Inward p o) where
       kept : (e : Side) (R r : ℕ) (c : Receiving) → r < 16 → At (accepted Receivings (i .calls e)) (R / 2) c → NotLost (receive c) R r
       kept e R r c lr a = comes p o i .words e (R / 2) c a R r refl lr .spared (all-checked R) (omega (arith, sound e R r c lr a))
 
-      marks-back : (e : Side) (P : ℕ) (c : Receiving) → At (accepted Receivings (i .calls e)) P c → (w : ℕ) → w < 32 → getD (receive c .marks) w 0 ≡ 0
+      marks-back : (e : Side) (P : ℕ) (c : Receiving) → At (accepted Receivings (i .calls e)) P c → (w : ℕ) → w < 32 → getD (receive c .written .marks) w 0 ≡ 0
       marks-back e P c a w lw =
           let R = 2 * P + w / 16 in
           let b : At (accepted Receivings (i .calls e)) ((2 * P + w / 16) / 2) c = subst (λ Q. At (accepted Receivings (i .calls e)) Q c) (omega arith) a in
-          ap (λ k. getD (receive c .marks) k 0) (word w P lw)
+          ap (λ k. getD (receive c .written .marks) k 0) (word w P lw)
           ∙ exact e R (w % 16) c (omega arith) b
           (λ k l. same-words (o .sent e) (lineBit p (i .heard .frames) e) (rowsIn p (o .superframes)) (unaltered-bits p o (i .heard) same e) R (w % 16) k
           (taken-row e R c b) (omega arith) (omega arith))
@@ -186,14 +186,14 @@ module _ (p : Profile) (o : Outward p) (i : Inward p o) where
           word w P l = let m : (2 * P + w / 16) % 2 ≡ w / 16 = omega arith in rw m (omega arith)
 
       payload-back : (e : Side) (P : ℕ) (c : Receiving) → At (accepted Receivings (i .calls e)) P c → (j : ℕ) → j < 3552
-          → bit (receive c .payload) j ≡ bit (getD (payloads (o .calls e)) P []) j
+          → bit (receive c .written .payload) j ≡ bit (getD (payloads (o .calls e)) P []) j
       payload-back e P c a j lj =
           let own = own-from j lj in
           let w = ownWord j in
           let k = ownPlace j in
           at w k (own .word) (own .place) (own .is)
         where
-          at : (w k : ℕ) → w < 32 → k < 111 → payloadIndex (w / 16) (w % 16) k ≡ j → bit (receive c .payload) j ≡ bit (getD (payloads (o .calls e)) P []) j
+          at : (w k : ℕ) → w < 32 → k < 111 → payloadIndex (w / 16) (w % 16) k ≡ j → bit (receive c .written .payload) j ≡ bit (getD (payloads (o .calls e)) P []) j
           at w k lw lk is =
               let R = 2 * P + w / 16 in
               let pair : (2 * P + w / 16) / 2 ≡ P = omega arith in
@@ -201,7 +201,7 @@ module _ (p : Profile) (o : Outward p) (i : Inward p o) where
               let place : 128 + k - 128 ≡ k = omega arith in
               let b : At (accepted Receivings (i .calls e)) ((2 * P + w / 16) / 2) c = subst (λ Q. At (accepted Receivings (i .calls e)) Q c) (sym pair) a in
               let lr : w % 16 < 16 = omega arith in
-              ap (bit (receive c .payload)) (sym is ∙ ap₂ (λ s m. payloadIndex s (w % 16) m) (sym row) (sym place))
+              ap (bit (receive c .written .payload)) (sym is ∙ ap₂ (λ s m. payloadIndex s (w % 16) m) (sym row) (sym place))
               ∙ comes p o i .words e ((2 * P + w / 16) / 2) c b R (w % 16) refl lr .whole (kept e R (w % 16) c lr b) (128 + k) (omega arith) (omega arith) .paid (omega arith)
               ∙ o .formulas e .payload .placed R (w % 16) k (omega (arith, taken-row e R c b, rows e)) lr lk
               ∙ payloadBit-own (payloads (o .calls e)) R (w % 16) k lr lk
@@ -213,16 +213,16 @@ module _ (p : Profile) (o : Outward p) (i : Inward p o) where
 
 -- Where the payload is bytes, it comes back whole.
 pub payload-whole : (p : Profile) (o : Outward p) (i : Inward p o) → AllBack p o i → (e : Side) (P : ℕ) (c : Receiving) → At (accepted Receivings (i .calls e)) P c
-    → ((j : ℕ) → getD (getD (payloads (o .calls e)) P []) j 0 < 256) → receive c .payload ≡ getD (payloads (o .calls e)) P []
+    → ((j : ℕ) → getD (getD (payloads (o .calls e)) P []) j 0 < 256) → receive c .written .payload ≡ getD (payloads (o .calls e)) P []
 unfolding payloads
 payload-whole p o i back e P c a bytes =
-    bits-equal (receive c .payload) (getD (payloads (o .calls e)) P []) (long ∙ sym given-long) (payload-bytes c ok) bytes
+    bits-equal (receive c .written .payload) (getD (payloads (o .calls e)) P []) (long ∙ sym given-long) (payload-bytes c ok) bytes
     (λ j l. back .payload e P c a j (omega (arith, long)))
   where
     ok : Accepted (receive c .answer)
     ok = is-accepted Receivings (i .calls e) a
 
-    long : length (receive c .payload) ≡ 444
+    long : length (receive c .written .payload) ≡ 444
     long = payload-long c ok
 
     f : (d : Encoding) × At (accepted Encodings (o .calls e)) P d

@@ -3,11 +3,12 @@ use calls::Answer;
 use calls::Refusal;
 use lineheader::writing::put_numbers;
 ghost use mathlib.Core.Path.{_≡_};
-ghost use Rattle.lineformat.specs.Writing.{written, writeCall};
+ghost use Rattle.calls.specs.Calls.{after};
+ghost use Rattle.lineformat.specs.Writing.{writeCall};
 
 // Writes the header of a file of so many super-frames, with no gaps.
 pub fn write_header(superframes: u32, header: &mut [u8]) -> Answer
-    ensures { λ r. ⌜ written r (now (header .exit)) ≡ writeCall superframes (now (header .entry)) ⌝ }
+    ensures { λ r. ⌜ after r (now (header .exit)) ≡ writeCall superframes (now (header .entry)) ⌝ }
 {
     if header.len() != 16 {
         return Answer::Refused(Refusal::Misfit);

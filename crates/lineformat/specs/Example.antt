@@ -4,7 +4,8 @@ use mathlib.Core.Path.{_≡_, refl}
 use mathlib.Core.List.{List, [], _∷_}
 use Prim.Native.Nat.{ℕ}
 use Rattle.bits.specs.Lists.{tabulate}
-use Rattle.lineformat.specs.Header.{number, rulesHold, good, judged}
+use Rattle.calls.specs.Calls.{shortFile, badHeader, verdict}
+use Rattle.lineformat.specs.Header.{number, rulesHold, headerTests, good, judged}
 use Rattle.lineformat.specs.Writing.{byteOf, headerBytes, numbersFor}
 
 unfoldable pub example : List ℕ
@@ -17,5 +18,5 @@ example-written = refl
 
 -- It is judged to have these numbers.
 pub example-judged : judged example 368656 ≡ good 1 16 12304 368656
-unfolding example judged rulesHold number
+unfolding example judged verdict headerTests shortFile badHeader rulesHold number
 example-judged = refl

@@ -1,15 +1,16 @@
 -- The header of a line file. 01, "Line file": "Header, four 32-bit numbers, most significant byte first: super-frames n
 -- (1 to 64), offset o of the overhead list, offset f of the frames, total length."
 -- Assumes nothing.
-use mathlib.Core.List.{List}
-use mathlib.Core.Bool.{Bool, cond}
+use mathlib.Core.List.{List, [], _∷_}
+use mathlib.Core.Bool.{Bool}
 use Prim.Native.Nat.{ℕ, _+_, _*_}
-use lib.Dec.{ltb, leb, eqb}
+use lib.Dec.{leb, eqb}
 use lib.ListN.{getD}
 use Rattle.bits.specs.Tests.{both}
+use Rattle.calls.specs.declared.Answer.{Answer}
 use Rattle.calls.specs.declared.Answer.the-variants.{Done, Refused}
 use Rattle.calls.specs.declared.Refusal.{Refusal}
-use Rattle.calls.specs.declared.Refusal.the-variants.{Misfit, BadHeader}
+use Rattle.calls.specs.Calls.{Test, shortFile, badHeader, verdict}
 use Rattle.lineformat.specs.declared.Header.{Header}
 
 -- Number k of a header: 0 is n, 1 is o, 2 is f, 3 is the total length.
@@ -26,18 +27,24 @@ rulesHold n o f total size =
     (both (eqb total (f + 356352 * n))
     (eqb total size)))))
 
--- A header that keeps the rules has these numbers; a refused one has zeros.
+-- The tests of a file of so many bytes that begins with these.
+unfoldable pub headerTests : List ℕ → ℕ → List Test
+headerTests bytes size = shortFile size ∷ badHeader (rulesHold (number bytes 0) (number bytes 1) (number bytes 2) (number bytes 3) size) ∷ []
+
+-- The header by their answer: its numbers where it keeps the rules, and zeros where it is refused.
+abbrev pub numberWhen : Answer → ℕ → ℕ
+numberWhen (Done v) n = n
+numberWhen (Refused r) n = 0
+
+abbrev pub headerWhen : Answer → ℕ → ℕ → ℕ → ℕ → Header
+headerWhen a n o f total =
+    record { answer = a; superframes = numberWhen a n; overhead = numberWhen a o; frames = numberWhen a f; total = numberWhen a total }
+
 abbrev pub good : ℕ → ℕ → ℕ → ℕ → Header
-good n o f total = record { answer = Done 0; superframes = n; overhead = o; frames = f; total = total }
+good n o f total = headerWhen (Done 0) n o f total
 
 abbrev pub refused : Refusal → Header
-refused r = record { answer = Refused r; superframes = 0; overhead = 0; frames = 0; total = 0 }
+refused r = headerWhen (Refused r) 0 0 0 0
 
--- The header that these first bytes are in a file of so many bytes: No. 1, "a file: under 16 bytes"; No. 2, "a header rule
--- below fails".
 unfoldable pub judged : List ℕ → ℕ → Header
-judged bytes size =
-    cond (ltb size 16) (refused Misfit)
-    (cond (rulesHold (number bytes 0) (number bytes 1) (number bytes 2) (number bytes 3) size)
-    (good (number bytes 0) (number bytes 1) (number bytes 2) (number bytes 3))
-    (refused BadHeader))
+judged bytes size = headerWhen (verdict (headerTests bytes size)) (number bytes 0) (number bytes 1) (number bytes 2) (number bytes 3)

@@ -5,17 +5,19 @@ use mathlib.Core.List.{List}
 use mathlib.Core.Bool.{Bool, true, false}
 use Prim.Native.Nat.{ℕ, _+_, _*_, _^_, _<_, _≤_}
 use native.Mathlib.Omega.{arith}
-use borrow.Author.Tests.{lt-ltb, le-ltb, le-leb, eq-eqb, leb-true, eqb-true, ltb-true, ltb-false}
-use mathlib.Core.Logic.{_⊎_, inl, inr, ⊎-elim}
-use lib.Dec.{eqb, ltb}
+use borrow.Author.Tests.{le-leb, eq-eqb, leb-true, eqb-true}
+use lib.Dec.{eqb}
 use lib.ListN.{getD, take}
 use lib.Seq.{getD-take}
 use Rattle.bits.specs.Tests.{both}
+use Rattle.calls.specs.declared.Answer.{Answer}
 use Rattle.calls.specs.declared.Answer.the-variants.{Done, Refused}
 use Rattle.calls.specs.declared.Refusal.{Refusal}
 use Rattle.calls.specs.declared.Refusal.the-variants.{Misfit, BadHeader}
+use Rattle.calls.specs.Calls.{verdict}
+use Rattle.calls.specs.CallLaws.{none-left, is-short-file, no-short-file, is-bad-header, no-bad-header, passed-all, told}
 use Rattle.lineformat.specs.declared.Header.{Header}
-use Rattle.lineformat.specs.Header.{number, rulesHold, good, refused, judged}
+use Rattle.lineformat.specs.Header.{number, rulesHold, headerTests, headerWhen, good, refused, judged}
 
 -- ---- the numbers
 
@@ -118,42 +120,37 @@ pub record Sound (bytes : List ℕ) (size : ℕ) : Type 0 where
   pub is : judged bytes size ≡ good (number bytes 0) (number bytes 1) (number bytes 2) (number bytes 3)
 
 module _ (bytes : List ℕ) (size : ℕ) where
-  pub judged-short : size < 16 → judged bytes size ≡ refused Misfit
+  -- The header by the answer of its tests.
+  pub header-is : (a : Answer) → a ≡ verdict (headerTests bytes size) → headerWhen a (number bytes 0) (number bytes 1) (number bytes 2) (number bytes 3) ≡ judged bytes size
   unfolding judged
-  judged-short l = simp (lt-ltb _ _ l)
+  header-is a e = ap (λ x. headerWhen x (number bytes 0) (number bytes 1) (number bytes 2) (number bytes 3)) e
+
+  pub judged-short : size < 16 → judged bytes size ≡ refused Misfit
+  unfolding headerTests
+  judged-short l = sym (header-is (Refused Misfit) (is-short-file _ size l))
 
   pub judged-broken : 16 ≤ size → (RulesOf bytes size → ⊥) → judged bytes size ≡ refused BadHeader
-  unfolding judged
-  judged-broken l h = simp (le-ltb _ _ l, rules-false _ _ _ _ _ h)
+  unfolding headerTests
+  judged-broken l h = sym (header-is (Refused BadHeader) (no-short-file _ size _ l (is-bad-header _ _ (rules-false _ _ _ _ _ h))))
 
   pub judged-good : 16 ≤ size → RulesOf bytes size → Sound bytes size
-  unfolding judged
-  judged-good l r = record { long = l; rules = r; is = simp (le-ltb _ _ l, rules-true _ _ _ _ _ r) }
-
-  -- There is no fourth case.
-  pub verdict : ((r : Refusal) × (judged bytes size ≡ refused r)) ⊎ Sound bytes size
-  verdict = go (ltb size 16) refl (rulesHold (number bytes 0) (number bytes 1) (number bytes 2) (number bytes 3) size) refl
-    where
-      go : (b : Bool) → ltb size 16 ≡ b → (c : Bool) → rulesHold (number bytes 0) (number bytes 1) (number bytes 2) (number bytes 3) size ≡ c
-          → ((r : Refusal) × (judged bytes size ≡ refused r)) ⊎ Sound bytes size
-      go true p c q = inl (Misfit, judged-short (ltb-true _ _ p))
-      go false p true q = inr (judged-good (ltb-false _ _ p) (rules-are _ _ _ _ _ q))
-      go false p false q =
-          inl (BadHeader, judged-broken (ltb-false _ _ p) (λ r. let z : _≡_ {A = ℕ} 0 1 = cc (rules-true _ _ _ _ _ r) in omega arith))
+  unfolding headerTests
+  judged-good l r =
+      record {
+        long = l;
+        rules = r;
+        is = sym (header-is (Done 0) (no-short-file _ size _ l (no-bad-header _ _ _ (rules-true _ _ _ _ _ r) none-left)));
+      }
 
   -- A header that is not refused keeps the rules, and its numbers are those of the bytes.
   pub judged-done : (v : ℕ) → judged bytes size .answer ≡ Done v → Sound bytes size
-  judged-done v e =
-      ⊎-elim (λ w. let z : _≡_ {A = ℕ} 0 1 = cc (ap (λ (x : Header). x .answer) (w .1)) in absurd (omega arith)) (λ w. w) verdict
+  unfolding judged headerTests
+  judged-done v e = let p = passed-all (headerTests bytes size) v e in judged-good (search (told, p)) (rules-are _ _ _ _ _ (search (told, p)))
 
   -- A refused header has zeros.
   pub judged-refused : (r : Refusal) → judged bytes size .answer ≡ Refused r → judged bytes size ≡ refused r
-  judged-refused r e =
-      ⊎-elim (λ w. w .1 ∙ ap refused (inner (w .0) (sym (ap (λ (x : Header). x .answer) (w .1)) ∙ e)))
-      (λ w. let z : _≡_ {A = ℕ} 0 1 = cc (ap (λ (x : Header). x .answer) (w .is)) in absurd (omega arith)) verdict
-    where
-      inner : (a : Refusal) → Refused a ≡ Refused r → a ≡ r
-      inner a p = cc
+  unfolding judged
+  judged-refused r e = ap (λ x. headerWhen x (number bytes 0) (number bytes 1) (number bytes 2) (number bytes 3)) e
 
   -- The numbers are below 2^32, so a count of the file's bytes may stop there: a longer file is refused whatever follows.
   pub judged-long : ((i : ℕ) → getD bytes i 0 < 256) → 2 ^ 32 ≤ size → judged bytes size ≡ refused BadHeader
@@ -166,11 +163,14 @@ module _ (bytes : List ℕ) (size : ℕ) where
   module _ (n o f total : ℕ) (hold : Bool) (en : n ≡ number bytes 0) (eo : o ≡ number bytes 1) (ef : f ≡ number bytes 2) (et : total ≡ number bytes 3)
       (e : hold ≡ rulesHold n o f total size) (l : 16 ≤ size) where
     pub case-good : hold ≡ true → good n o f total ≡ judged bytes size
-    unfolding judged
-    case-good t = rw (en, eo, ef, et) (simp (le-ltb _ _ l, (rw (en, eo, ef, et) at (sym e ∙ t))))
+    unfolding headerTests
+    case-good t =
+        rw (en, eo, ef, et)
+        (header-is (Done 0) (no-short-file _ size _ l (no-bad-header _ _ _ (rw (en, eo, ef, et) at (sym e ∙ t)) none-left)))
 
     pub case-broken : (h : Header) → h ≡ refused BadHeader → hold ≡ false → h ≡ judged bytes size
-    unfolding judged
-    case-broken h q t = q ∙ simp (le-ltb _ _ l, (rw (en, eo, ef, et) at (sym e ∙ t)))
+    unfolding headerTests
+    case-broken h q t =
+        q ∙ header-is (Refused BadHeader) (no-short-file _ size _ l (is-bad-header _ _ (rw (en, eo, ef, et) at (sym e ∙ t))))
 
 pub ruleset judging = (case-short, case-good, case-broken)

@@ -6,8 +6,9 @@ use lib.ListN.{length}
 use Rattle.calls.specs.declared.Answer.{Answer}
 use Rattle.calls.specs.declared.Answer.the-variants.{Done, Refused}
 use Rattle.calls.specs.Answers.{refusalOf}
+use Rattle.calls.specs.Calls.{verdict}
 use Rattle.lineformat.specs.declared.Header.{Header}
-use Rattle.lineformat.specs.Header.{judged}
+use Rattle.lineformat.specs.Header.{headerTests, judged}
 
 -- The header of a file, judged by its bytes and its length.
 abbrev pub headerOf : List ℕ → Header
@@ -15,7 +16,7 @@ headerOf file = judged file (length file)
 
 -- What opening answers.
 abbrev pub openAnswer : List ℕ → Answer
-openAnswer file = headerOf file .answer
+openAnswer file = verdict (headerTests file (length file))
 
 -- "a companion call on the same arguments gives the refusal number, or 0"
 abbrev pub openRefusal : List ℕ → ℕ

@@ -10,7 +10,7 @@ use Rattle.calls.specs.declared.Refusal.{Refusal}
 use Rattle.calls.specs.declared.Refusal.the-variants.{Misfit, BadHeader}
 use Rattle.calls.specs.Answers.{refusalOf, Accepted}
 use Rattle.lineformat.specs.declared.Header.{Header}
-use Rattle.lineformat.specs.Header.{number}
+use Rattle.lineformat.specs.Header.{number, judged}
 use Rattle.lineformat.specs.HeaderLaws.{RulesOf, Sound, judged-short, judged-broken, judged-good, judged-refused}
 use Rattle.lineformat.specs.Opening.{headerOf, openAnswer, partWhen, openPart, openFile, openWith, openCall}
 
@@ -18,6 +18,7 @@ use Rattle.lineformat.specs.Opening.{headerOf, openAnswer, partWhen, ope
 
 module _ (file : List ℕ) (h : Header) (is : h ≡ headerOf file) where
   pub answer-of : h .answer ≡ openAnswer file
+  unfolding judged
   answer-of = ap (λ (x : Header). x .answer) is
 
   pub part-done : (v : ℕ) → h .answer ≡ Done v → file ≡ openPart file
@@ -33,7 +34,7 @@ pub ruleset parts = (part-done, part-refused)
 module _ (file : List ℕ) where
   -- Refused, whatever the refusal: the empty part and zeros.
   pub open-refused : (r : Refusal) → openAnswer file ≡ Refused r → openCall file ≡ openFile [] 0 0 0
-  unfolding openCall
+  unfolding openCall judged
   open-refused r e = ap (openWith file) (judged-refused file (length file) r e)
 
   -- Done: the file itself, with the numbers in its bytes.
@@ -43,12 +44,15 @@ module _ (file : List ℕ) where
 
   -- Which refusal it is, and when there is none.
   pub open-misfit : length file < 16 → openAnswer file ≡ Refused Misfit
+  unfolding judged
   open-misfit l = ap (λ (h : Header). h .answer) (judged-short file (length file) l)
 
   pub open-bad-header : 16 ≤ length file → (RulesOf file (length file) → ⊥) → openAnswer file ≡ Refused BadHeader
+  unfolding judged
   open-bad-header l h = ap (λ (h : Header). h .answer) (judged-broken file (length file) l h)
 
   pub open-accepted : 16 ≤ length file → RulesOf file (length file) → Accepted (openAnswer file)
+  unfolding judged
   open-accepted l r = ap (λ (h : Header). refusalOf (h .answer)) (judged-good file (length file) l r .is)
 
   -- Header, overhead list and frames follow each other, and the frames end with the file.
@@ -57,5 +61,5 @@ module _ (file : List ℕ) where
 
 -- The open file put together from the header and the part that it holds.
 pub put-together : (file part : List ℕ) (h : Header) → h ≡ headerOf file → part ≡ openPart file → openFile part (h .superframes) (h .overhead) (h .frames) ≡ openCall file
-unfolding openCall
+unfolding openCall judged
 put-together file part h eh ep = rw (ep, eh)

@@ -1,36 +1,23 @@
 -- Reading a sub-frame of a line file.
 -- Assumes nothing.
-use mathlib.Core.List.{List}
-use mathlib.Core.Bool.{cond}
+use mathlib.Core.List.{List, [], _∷_, _++_}
 use Prim.Native.Nat.{ℕ, _+_, _*_}
-use lib.Dec.{ltb, leb, eqb}
-use lib.ListN.{take, drop}
+use lib.Dec.{eqb}
+use lib.ListN.{length, take, drop}
 use Rattle.bits.specs.Tests.{both}
 use Rattle.calls.specs.declared.Answer.{Answer}
-use Rattle.calls.specs.declared.Answer.the-variants.{Done, Refused}
-use Rattle.calls.specs.declared.Refusal.the-variants.{BadHeader, NoSuchFrame}
 use Rattle.calls.specs.Answers.{refusalOf}
-use Rattle.lineformat.specs.Header.{number}
-use Rattle.lineformat.specs.Opening.{openAnswer, partWhen, OpenFile}
+use Rattle.calls.specs.Calls.{Test, badHeader, noSubFrame, noSuperFrame, verdict}
+use Rattle.lineformat.specs.Header.{number, headerTests}
+use Rattle.lineformat.specs.Opening.{partWhen, OpenFile}
 
 -- No. 2: "An open file whose numbers differ from those in its bytes".
-unfoldable pub sameAnswer : List ℕ → ℕ → ℕ → ℕ → Answer
-sameAnswer file n o f =
-    cond (both (eqb n (number file 0)) (both (eqb o (number file 1)) (eqb f (number file 2)))) (Done 0) (Refused BadHeader)
+unfoldable pub otherNumbers : List ℕ → ℕ → ℕ → ℕ → Test
+otherNumbers file n o f = badHeader (both (eqb n (number file 0)) (both (eqb o (number file 1)) (eqb f (number file 2))))
 
--- No. 4: "sub-frame above 47, or super-frame not below n".
-unfoldable pub frameAnswer : ℕ → ℕ → ℕ → Answer
-frameAnswer n q s = cond (both (leb s 47) (ltb q n)) (Done 0) (Refused NoSuchFrame)
-
--- A refusal stands; where there is none, what follows decides.
-abbrev pub andThen : Answer → Answer → Answer
-andThen (Done v) next = next
-andThen (Refused r) next = Refused r
-
--- What the reader answers, in the order of 01's table: the bytes are refused as the opening of them would be, then the numbers, then
--- the frame.
+-- What the reader answers: the bytes are refused as the opening of them would be, then the numbers, then the frame.
 unfoldable pub readAnswer : List ℕ → ℕ → ℕ → ℕ → ℕ → ℕ → Answer
-readAnswer file n o f q s = andThen (openAnswer file) (andThen (sameAnswer file n o f) (frameAnswer n q s))
+readAnswer file n o f q s = verdict (headerTests file (length file) ++ otherNumbers file n o f ∷ noSubFrame s ∷ noSuperFrame q n ∷ [])
 
 -- "a companion call on the same arguments gives the refusal number, or 0"
 abbrev pub readRefusal : List ℕ → ℕ → ℕ → ℕ → ℕ → ℕ → ℕ

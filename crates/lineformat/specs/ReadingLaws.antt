@@ -1,64 +1,60 @@
 -- Laws of reading.
 -- Assumes nothing.
 use mathlib.Core.Path.{_≡_, refl, sym, ap, _∙_}
-use mathlib.Core.List.{List, []}
-use mathlib.Core.Bool.{Bool, true, false}
+use mathlib.Core.List.{List, [], _∷_, _++_}
 use mathlib.Core.Logic.{_⊎_, inl, inr, ⊎-elim}
 use Prim.Native.Nat.{ℕ, _+_, _-_, _*_, _/_, _%_, _<_, _≤_}
 use native.Mathlib.Nat.{add-sub-cancel-left, eq-zero-or-pos}
 use native.Mathlib.Omega.{arith}
-use borrow.Author.Tests.{lt-ltb, le-ltb, le-leb, lt-leb, eq-eqb, ne-eqb, ltb-true, leb-true, eqb-true}
-use lib.Dec.{leb, ltb, eqb}
+use borrow.Author.Tests.{eq-eqb, ne-eqb, eqb-true}
 use lib.ListN.{length, getD, take, drop, length-drop}
 use lib.Seq.{ext-getD, length-take-le, getD-take, getD-drop}
 use Rattle.bits.specs.Parts.{part, endToEnd}
 use Rattle.bits.specs.PartLaws.{part-length, part-at, endToEnd-length, endToEnd-at}
-use Rattle.bits.specs.Tests.{both}
 use Rattle.calls.specs.declared.Answer.{Answer}
 use Rattle.calls.specs.declared.Answer.the-variants.{Done, Refused}
 use Rattle.calls.specs.declared.Refusal.{Refusal}
 use Rattle.calls.specs.declared.Refusal.the-variants.{Misfit, BadHeader, NoSuchFrame}
 use Rattle.calls.specs.Answers.{refusalOf, Accepted, TurnedBack}
 use Rattle.calls.specs.AnswerLaws.{accepted-done}
+use Rattle.calls.specs.Calls.{Test, noSubFrame, noSuperFrame, verdict}
+use Rattle.calls.specs.CallLaws.{none-left, is-bad-header, no-bad-header, no-sub-frame, sub-frame, no-super-frame, super-frame, first-refused, first-passed, passed-all, rules-kept, told}
 use Rattle.lineformat.specs.declared.Header.{Header}
-use Rattle.lineformat.specs.Header.{number}
-use Rattle.lineformat.specs.HeaderLaws.{Sound, both-true, judged-done}
-use Rattle.lineformat.specs.Opening.{headerOf, openAnswer, partWhen, openFile, openCall}
+use Rattle.lineformat.specs.Header.{number, headerTests, judged}
+use Rattle.lineformat.specs.HeaderLaws.{Sound, both-true, rules-are, judged-good, judged-done}
+use Rattle.lineformat.specs.Opening.{headerOf, openAnswer, partWhen, openCall}
 use Rattle.lineformat.specs.OpeningLaws.{open-done, open-refused, open-misfit}
-use Rattle.lineformat.specs.Reading.{sameAnswer, frameAnswer, readAnswer, readAnswerIn, startOf, readPart}
+use Rattle.lineformat.specs.Reading.{otherNumbers, readAnswer, readAnswerIn, startOf, readPart}
 
--- ---- the answer, case by case
+-- ---- the numbers of an open file, beside the header of its bytes
 
-module _ (file : List ℕ) (n o f q s : ℕ) where
-  pub read-closed : (r : Refusal) → openAnswer file ≡ Refused r → readAnswer file n o f q s ≡ Refused r
-  unfolding readAnswer
-  read-closed r e = simp e
+module _ (file : List ℕ) (n o f : ℕ) (h : Header) (is : h ≡ headerOf file) (v : ℕ) (opens : h .answer ≡ Done v) (ts : List Test) where
+  numbers : (h .superframes ≡ number file 0) × (h .overhead ≡ number file 1) × (h .frames ≡ number file 2)
+  numbers =
+      let p = is ∙ judged-done file (length file) v (ap (λ (x : Header). x .answer) (sym is) ∙ opens) .is in
+      (ap (λ (x : Header). x .superframes) p, ap (λ (x : Header). x .overhead) p, ap (λ (x : Header). x .frames) p)
 
-  module _ (v : ℕ) (opens : openAnswer file ≡ Done v) where
-    pub read-other-n : (n ≡ number file 0 → ⊥) → readAnswer file n o f q s ≡ Refused BadHeader
-    unfolding readAnswer sameAnswer frameAnswer
-    read-other-n h = simp (opens, ne-eqb _ _ h)
+  pub other-n : (n ≡ h .superframes → ⊥) → Refused BadHeader ≡ verdict (otherNumbers file n o f ∷ ts)
+  unfolding otherNumbers
+  other-n d = let e = numbers in is-bad-header ts _ (simp (ne-eqb n (number file 0) (λ p. d (p ∙ sym (e .0)))))
 
-    pub read-other-o : n ≡ number file 0 → (o ≡ number file 1 → ⊥) → readAnswer file n o f q s ≡ Refused BadHeader
-    unfolding readAnswer sameAnswer frameAnswer
-    read-other-o en h = simp (opens, eq-eqb _ _ en, ne-eqb _ _ h)
+  pub other-o : n ≡ h .superframes → (o ≡ h .overhead → ⊥) → Refused BadHeader ≡ verdict (otherNumbers file n o f ∷ ts)
+  unfolding otherNumbers
+  other-o en d = let e = numbers in is-bad-header ts _ (simp (eq-eqb _ _ (en ∙ e .0), ne-eqb o (number file 1) (λ p. d (p ∙ sym (e .1)))))
 
-    pub read-other-f : n ≡ number file 0 → o ≡ number file 1 → (f ≡ number file 2 → ⊥) → readAnswer file n o f q s ≡ Refused BadHeader
-    unfolding readAnswer sameAnswer frameAnswer
-    read-other-f en eo h = simp (opens, eq-eqb _ _ en, eq-eqb _ _ eo, ne-eqb _ _ h)
+  module _ (en : n ≡ h .superframes) (eo : o ≡ h .overhead) where
+    pub other-f : (f ≡ h .frames → ⊥) → Refused BadHeader ≡ verdict (otherNumbers file n o f ∷ ts)
+    unfolding otherNumbers
+    other-f d =
+        let e = numbers in
+        is-bad-header ts _ (simp (eq-eqb _ _ (en ∙ e .0), eq-eqb _ _ (eo ∙ e .1), ne-eqb f (number file 2) (λ p. d (p ∙ sym (e .2)))))
 
-    module _ (en : n ≡ number file 0) (eo : o ≡ number file 1) (ef : f ≡ number file 2) where
-      pub read-no-subframe : 47 < s → readAnswer file n o f q s ≡ Refused NoSuchFrame
-      unfolding readAnswer sameAnswer frameAnswer
-      read-no-subframe l = simp (opens, eq-eqb _ _ en, eq-eqb _ _ eo, eq-eqb _ _ ef, lt-leb _ _ l)
+    pub same-numbers : f ≡ h .frames → (a : Answer) → a ≡ verdict ts → a ≡ verdict (otherNumbers file n o f ∷ ts)
+    unfolding otherNumbers
+    same-numbers ef a =
+        let e = numbers in no-bad-header ts _ a (simp (eq-eqb _ _ (en ∙ e .0), eq-eqb _ _ (eo ∙ e .1), eq-eqb _ _ (ef ∙ e .2)))
 
-      pub read-no-superframe : s ≤ 47 → n ≤ q → readAnswer file n o f q s ≡ Refused NoSuchFrame
-      unfolding readAnswer sameAnswer frameAnswer
-      read-no-superframe l h = simp (opens, eq-eqb _ _ en, eq-eqb _ _ eo, eq-eqb _ _ ef, le-leb _ _ l, le-ltb _ _ h)
-
-      pub read-done : s ≤ 47 → q < n → readAnswer file n o f q s ≡ Done 0
-      unfolding readAnswer sameAnswer frameAnswer
-      read-done l h = simp (opens, eq-eqb _ _ en, eq-eqb _ _ eo, eq-eqb _ _ ef, le-leb _ _ l, lt-ltb _ _ h)
+pub ruleset open-numbers = (other-n, other-o, other-f, same-numbers)
 
 -- What holds where the reader is not refused.
 pub record Reads (file : List ℕ) (n o f q s : ℕ) : Type 0 where
@@ -71,31 +67,19 @@ pub record Reads (file : List ℕ) (n o f q s : ℕ) : Type 0 where
 
 module _ (file : List ℕ) (n o f q s : ℕ) where
   pub reads : (v : ℕ) → readAnswer file n o f q s ≡ Done v → Reads file n o f q s
-  unfolding readAnswer sameAnswer frameAnswer
-  reads v e = go (openAnswer file) refl (same n o f) refl (both (leb s 47) (ltb q n)) refl
-    where
-      same : ℕ → ℕ → ℕ → Bool
-      same a b c = both (eqb a (number file 0)) (both (eqb b (number file 1)) (eqb c (number file 2)))
-
-      never : (r : Refusal) → readAnswer file n o f q s ≡ Refused r → ⊥
-      never r p = let z : _≡_ {A = ℕ} 0 1 = cc in omega arith
-
-      go : (a : Answer) → openAnswer file ≡ a → (b : Bool) → same n o f ≡ b → (c : Bool) → both (leb s 47) (ltb q n) ≡ c → Reads file n o f q s
-      go (Refused r) p b pb c pc = absurd (never r (read-closed file n o f q s r p))
-      go (Done w) p false pb c pc = absurd (never BadHeader (simp (p, pb)))
-      go (Done w) p true pb false pc = absurd (never NoSuchFrame (simp (p, pb, pc)))
-      go (Done w) p true pb true pc =
-          let b1 = both-true _ _ pb in
-          let b2 = both-true _ _ (b1 .1) in
-          let c1 = both-true _ _ pc in
-          record {
-            sound = judged-done file (length file) w p;
-            same-n = eqb-true _ _ (b1 .0);
-            same-o = eqb-true _ _ (b2 .0);
-            same-f = eqb-true _ _ (b2 .1);
-            subframe = leb-true _ _ (c1 .0);
-            superframe = ltb-true _ _ (c1 .1);
-          }
+  unfolding readAnswer headerTests otherNumbers
+  reads v e =
+      let p = passed-all (headerTests file (length file) ++ otherNumbers file n o f ∷ noSubFrame s ∷ noSuperFrame q n ∷ []) v e in
+      let b1 = both-true _ _ (rules-kept _ (p .1 .1 .0)) in
+      let b2 = both-true _ _ (b1 .1) in
+      record {
+        sound = judged-good file (length file) (search (told, p)) (rules-are _ _ _ _ _ (search (told, p)));
+        same-n = eqb-true _ _ (b1 .0);
+        same-o = eqb-true _ _ (b2 .0);
+        same-f = eqb-true _ _ (b2 .1);
+        subframe = search (told, p);
+        superframe = search (told, p);
+      }
 
   -- The stretch that is handed back lies within the file.
   pub within : Reads file n o f q s → startOf f q s + 7424 ≤ length file
@@ -118,48 +102,6 @@ pub from-there : (file : List ℕ) (a : ℕ) → take (a + 7424 - a) (drop a fil
 from-there file a = rw add-sub-cancel-left
 
 pub ruleset part-cases = (part-fits, part-read, part-none)
-
--- ---- the same as a worker meets them: it has the file's header
-
-module _ (file : List ℕ) (n o f q s : ℕ) (h : Header) (is : h ≡ headerOf file) where
-  answers : (a : Answer) → h .answer ≡ a → openAnswer file ≡ a
-  answers a e = ap (λ (x : Header). x .answer) (sym is) ∙ e
-
-  numbers : (v : ℕ) → h .answer ≡ Done v → (h .superframes ≡ number file 0) × (h .overhead ≡ number file 1) × (h .frames ≡ number file 2)
-  numbers v e =
-      let p = is ∙ judged-done file (length file) v (answers (Done v) e) .is in
-      (ap (λ (x : Header). x .superframes) p, ap (λ (x : Header). x .overhead) p, ap (λ (x : Header). x .frames) p)
-
-  pub case-closed : (r : Refusal) → h .answer ≡ Refused r → Refused r ≡ readAnswer file n o f q s
-  case-closed r e = sym (read-closed file n o f q s r (answers (Refused r) e))
-
-  module _ (v : ℕ) (opens : h .answer ≡ Done v) where
-    pub case-other-n : (n ≡ h .superframes → ⊥) → Refused BadHeader ≡ readAnswer file n o f q s
-    case-other-n ne = sym (read-other-n file n o f q s v (answers (Done v) opens) (λ e. ne (e ∙ sym (numbers v opens .0))))
-
-    pub case-other-o : n ≡ h .superframes → (o ≡ h .overhead → ⊥) → Refused BadHeader ≡ readAnswer file n o f q s
-    case-other-o en ne =
-        sym (read-other-o file n o f q s v (answers (Done v) opens) (en ∙ numbers v opens .0) (λ e. ne (e ∙ sym (numbers v opens .1))))
-
-    module _ (en : n ≡ h .superframes) (eo : o ≡ h .overhead) where
-      pub case-other-f : (f ≡ h .frames → ⊥) → Refused BadHeader ≡ readAnswer file n o f q s
-      case-other-f ne =
-          sym (read-other-f file n o f q s v (answers (Done v) opens) (en ∙ numbers v opens .0) (eo ∙ numbers v opens .1) (λ e. ne (e ∙ sym (numbers v opens .2))))
-
-      module _ (ef : f ≡ h .frames) where
-        pub case-no-subframe : 47 < s → Refused NoSuchFrame ≡ readAnswer file n o f q s
-        case-no-subframe l =
-            sym (read-no-subframe file n o f q s v (answers (Done v) opens) (en ∙ numbers v opens .0) (eo ∙ numbers v opens .1) (ef ∙ numbers v opens .2) l)
-
-        pub case-no-superframe : s ≤ 47 → n ≤ q → Refused NoSuchFrame ≡ readAnswer file n o f q s
-        case-no-superframe l k =
-            sym (read-no-superframe file n o f q s v (answers (Done v) opens) (en ∙ numbers v opens .0) (eo ∙ numbers v opens .1) (ef ∙ numbers v opens .2) l k)
-
-        pub case-done : s ≤ 47 → q < n → Done 0 ≡ readAnswer file n o f q s
-        case-done l k =
-            sym (read-done file n o f q s v (answers (Done v) opens) (en ∙ numbers v opens .0) (eo ∙ numbers v opens .1) (ef ∙ numbers v opens .2) l k)
-
-pub ruleset read-cases = (case-closed, case-other-n, case-other-o, case-other-f, case-no-subframe, case-no-superframe, case-done)
 
 -- ---- what callers may lean on
 
@@ -223,25 +165,26 @@ covers f n x l = (omega arith, omega arith, omega arith, omega arith)
 
 -- Reading an opened file: no refusal but No. 4.
 module _ (file : List ℕ) (opens : Accepted (openAnswer file)) (q s : ℕ) where
-  done-as : (v : ℕ) × (openAnswer file ≡ Done v)
-  done-as = accepted-done (openAnswer file) opens
-
-  is-file : openCall file ≡ openFile file (number file 0) (number file 1) (number file 2)
-  is-file = open-done file (judged-done file (length file) (done-as .0) (done-as .1))
+  -- Where the opening is done, the frame decides.
+  pub opened : (a : Answer) → a ≡ verdict (noSubFrame s ∷ noSuperFrame q (openCall file .superframes) ∷ []) → a ≡ readAnswerIn (openCall file) q s
+  unfolding readAnswer judged
+  opened a e =
+      let d = accepted-done (openAnswer file) opens in
+      let i = open-done file (judged-done file (length file) (d .0) (d .1)) in
+      rw i
+      (first-passed (headerTests file (length file)) _ (openAnswer file) refl (d .0) a (d .1)
+      (same-numbers file _ _ _ (headerOf file) refl (d .0) (d .1) _
+      (sym (numbers file 0 0 0 (headerOf file) refl (d .0) (d .1) [] .0)) (sym (numbers file 0 0 0 (headerOf file) refl (d .0) (d .1) [] .1))
+      (sym (numbers file 0 0 0 (headerOf file) refl (d .0) (d .1) [] .2)) a (rw i at e)))
 
   pub opened-done : s ≤ 47 → q < openCall file .superframes → readAnswerIn (openCall file) q s ≡ Done 0
-  opened-done l h = rw is-file (read-done file _ _ _ q s (done-as .0) (done-as .1) refl refl refl l (rw is-file at h))
-
-  pub opened-no-subframe : 47 < s → readAnswerIn (openCall file) q s ≡ Refused NoSuchFrame
-  opened-no-subframe l = rw is-file (read-no-subframe file _ _ _ q s (done-as .0) (done-as .1) refl refl refl l)
-
-  pub opened-no-superframe : s ≤ 47 → openCall file .superframes ≤ q → readAnswerIn (openCall file) q s ≡ Refused NoSuchFrame
-  opened-no-superframe l h = rw is-file (read-no-superframe file _ _ _ q s (done-as .0) (done-as .1) refl refl refl l (rw is-file at h))
+  opened-done l h = sym (opened (Done 0) (sub-frame _ s _ l (super-frame _ q _ _ h none-left)))
 
   pub never-1-or-2 : (refusalOf (readAnswerIn (openCall file) q s) ≡ 0) ⊎ (refusalOf (readAnswerIn (openCall file) q s) ≡ 4)
   never-1-or-2 =
-      ⊎-elim (λ l. inr (ap refusalOf (opened-no-subframe l)))
-      (λ l. ⊎-elim (λ h. inl (ap refusalOf (opened-done l h))) (λ h. inr (ap refusalOf (opened-no-superframe l h))) (below q (openCall file .superframes)))
+      ⊎-elim (λ l. inr (sym (ap refusalOf (opened (Refused NoSuchFrame) (no-sub-frame _ s l)))))
+      (λ l. ⊎-elim (λ h. inl (ap refusalOf (opened-done l h))) (λ h. inr (sym (ap refusalOf (opened (Refused NoSuchFrame) (sub-frame _ s _ l (no-super-frame _ q _ h))))))
+      (below q (openCall file .superframes)))
       (below 47 s)
     where
       below : (a b : ℕ) → (a < b) ⊎ (b ≤ a)
@@ -249,4 +192,5 @@ module _ (file : List ℕ) (opens : Accepted (openAnswer file)) (q s : ℕ) wher
 
 -- A refused opening holds the empty part, so that reading it is refused too.
 pub closed-misfit : (file : List ℕ) (r : Refusal) (q s : ℕ) → openAnswer file ≡ Refused r → readAnswerIn (openCall file) q s ≡ Refused Misfit
-closed-misfit file r q s e = rw (open-refused file r e) (read-closed [] 0 0 0 q s Misfit (open-misfit [] (omega arith)))
+unfolding readAnswer
+closed-misfit file r q s e = rw (open-refused file r e) (sym (first-refused _ _ (openAnswer []) refl Misfit (open-misfit [] (omega arith))))

@@ -1,6 +1,6 @@
 -- The results of opening and reading a line file, which the companions give, and of writing a header, in the numbers of 01.
 -- Assumes nothing.
-use mathlib.Core.Path.{_≡_, refl}
+use mathlib.Core.Path.{_≡_, refl, _∙_}
 use mathlib.Core.Bool.{cond, not, _||_}
 use mathlib.Core.List.{List, []}
 use Prim.Native.Nat.{ℕ}
@@ -13,44 +13,38 @@ use Rattle.calls.specs.declared.Answer.the-variants.{Done, Refused}
 use Rattle.calls.specs.Answers.{numberOf, refusalOf}
 use Rattle.calls.specs.AnswerLaws.{refused-turned}
 use Rattle.calls.specs.Results.{result, resultOf}
-use Rattle.calls.specs.ResultLaws.{by-test, results}
-use Rattle.lineformat.specs.declared.Header.{Header}
-use Rattle.lineformat.specs.Header.{number, rulesHold, judged}
+use Rattle.calls.specs.Calls.{misfit, shortFile, badHeader, noSubFrame, noSuperFrame}
+use Rattle.calls.specs.ResultLaws.{results, call-result, verdict-result}
+use Rattle.lineformat.specs.Header.{number, rulesHold, headerTests, judged}
 use Rattle.lineformat.specs.Opening.{openAnswer, openRefusal, partWhen, openCall}
-use Rattle.lineformat.specs.Reading.{sameAnswer, frameAnswer, andThen, readAnswer, readRefusal, startOf, readPart}
-use Rattle.lineformat.specs.Writing.{Written, writeCall}
+use Rattle.lineformat.specs.Reading.{otherNumbers, readAnswer, readRefusal, startOf, readPart}
+use Rattle.lineformat.specs.Writing.{writeCall}
 
 -- 1 of a file under 16 bytes, 2 where a header rule fails; otherwise 0.
 pub open-result : (file : List ℕ) → resultOf 0 (openAnswer file)
     ≡ cond (ltb (length file) 16) (result 1 0 0)
     (cond (not (rulesHold (number file 0) (number file 1) (number file 2) (number file 3) (length file))) (result 2 0 0)
     (result 0 0 0))
-unfolding judged
-open-result file = simp (by-test (λ (h : Header). resultOf 0 (h .answer)), results)
+unfolding headerTests shortFile badHeader
+open-result file = verdict-result 0 _
 
 -- As of opening; 2 too where the numbers of the open file differ from those in its bytes; 4 where there is no such frame.
 pub read-result : (file : List ℕ) (n o f q s : ℕ) → resultOf 0 (readAnswer file n o f q s)
     ≡ cond (ltb (length file) 16) (result 1 0 0)
     (cond (not (rulesHold (number file 0) (number file 1) (number file 2) (number file 3) (length file))
     || not (both (eqb n (number file 0)) (both (eqb o (number file 1)) (eqb f (number file 2))))) (result 2 0 0)
-    (cond (not (both (leb s 47) (ltb q n))) (result 4 0 0)
+    (cond (ltb 47 s || leb n q) (result 4 0 0)
     (result 0 0 0)))
-unfolding readAnswer sameAnswer frameAnswer judged
-read-result file n o f q s =
-    simp (
-      by-test (λ (h : Header). resultOf 0 (andThen (h .answer) (andThen (sameAnswer file n o f) (frameAnswer n q s)))),
-      by-test (λ (a : Answer). resultOf 0 (andThen a (frameAnswer n q s))),
-      by-test (resultOf 0),
-      results,
-    )
+unfolding readAnswer headerTests shortFile otherNumbers badHeader noSubFrame noSuperFrame
+read-result file n o f q s = verdict-result 0 _ ∙ simp results
 
 -- 1 where the buffer is not of 16 bytes, 2 where n is not 1 to 64; otherwise 0.
 pub write-result : (n : ℕ) (header : List ℕ) → resultOf 0 (writeCall n header .answer)
     ≡ cond (not (eqb (length header) 16)) (result 1 0 0)
     (cond (not (both (leb 1 n) (leb n 64))) (result 2 0 0)
     (result 0 0 0))
-unfolding writeCall
-write-result n header = simp (by-test (λ (a : Written). resultOf 0 (a .answer)), results)
+unfolding misfit badHeader
+write-result n header = call-result 0 _ _ _ ∙ simp results
 
 -- ---- what is handed back, by the companion's number: the part where that is 0, and the empty part otherwise
 
@@ -59,7 +53,7 @@ part-result (Done v) part = refl
 part-result (Refused r) part = simp (ne-eqb (numberOf r) 0 (refused-turned r))
 
 pub open-part-result : (file : List ℕ) → openCall file .file ≡ cond (eqb (openRefusal file) 0) file []
-unfolding openCall
+unfolding openCall judged
 open-part-result file = part-result (openAnswer file) file
 
 pub read-part-result : (file : List ℕ) (n o f q s : ℕ)

@@ -1,15 +1,13 @@
 -- Writing a header. 01, "Line file": "Writing a header takes n and a 16-byte buffer, and n outside 1 to 64 is refusal 2."
 -- Assumes nothing.
 use mathlib.Core.List.{List, [], _∷_}
-use mathlib.Core.Bool.{cond}
 use Prim.Native.Nat.{ℕ, _+_, _-_, _*_, _/_, _%_, _^_}
-use lib.Dec.{leb, eqb}
-use lib.ListN.{length, getD}
+use lib.Dec.{leb}
+use lib.ListN.{getD}
 use Rattle.bits.specs.Lists.{tabulate}
 use Rattle.bits.specs.Tests.{both}
-use Rattle.calls.specs.declared.Answer.{Answer}
-use Rattle.calls.specs.declared.Answer.the-variants.{Done, Refused}
-use Rattle.calls.specs.declared.Refusal.the-variants.{Misfit, BadHeader}
+use Rattle.calls.specs.declared.Answer.the-variants.{Done}
+use Rattle.calls.specs.Calls.{After, after, misfit, badHeader, call}
 
 -- Byte k of a 32-bit number, "most significant byte first".
 unfoldable pub byteOf : ℕ → ℕ → ℕ
@@ -23,19 +21,6 @@ headerBytes numbers = tabulate 16 (λ i. byteOf (getD numbers (i / 4) 0) (i % 4)
 abbrev pub numbersFor : ℕ → List ℕ
 numbersFor n = n ∷ 16 ∷ 12304 ∷ (12304 + 356352 * n) ∷ []
 
--- What stands after the call.
-pub record Written : Type 0 where
-  pub answer : Answer
-  pub header : List ℕ
-
-abbrev pub written : Answer → List ℕ → Written
-written a h = record { answer = a; header = h }
-
--- The call, its refusals in the order of 01's table.
-unfoldable pub writeCall : ℕ → List ℕ → Written
-writeCall n header =
-    cond (eqb (length header) 16)
-    (cond (both (leb 1 n) (leb n 64))
-    (written (Done 0) (headerBytes (numbersFor n)))
-    (written (Refused BadHeader) header))
-    (written (Refused Misfit) header)
+-- The call writes the header.
+abbrev pub writeCall : ℕ → List ℕ → After (List ℕ)
+writeCall n header = call (misfit header 16 ∷ badHeader (both (leb 1 n) (leb n 64)) ∷ []) header (after (Done 0) (headerBytes (numbersFor n)))

@@ -2,28 +2,29 @@
 -- Assumes nothing.
 use mathlib.Core.Path.{_≡_, refl, sym, ap, _∙_}
 use mathlib.Core.List.{List}
-use mathlib.Core.Bool.{Bool, true, false, cond}
+use mathlib.Core.Bool.{true, false}
 use Prim.Native.Nat.{ℕ, _+_, _*_, _/_, _%_, _^_, _<_, _≤_}
 use native.Mathlib.Nat.{add-zero, div-one, div-div-eq-div-mul, div-add-mod', mod-eq-of-lt}
 use native.Mathlib.Omega.{arith}
-use borrow.Author.Tests.{le-leb, lt-leb, eq-eqb, ne-eqb}
-use lib.Dec.{leb, eqb}
+use borrow.Author.Tests.{le-leb, lt-leb}
+use lib.Dec.{leb}
 use lib.ListN.{length, getD, take}
 use lib.Seq.{take-all}
 use Rattle.bits.specs.ListLaws.{length-tabulate, getD-tabulate}
 use Rattle.bits.specs.Parts.{part, endToEnd}
 use Rattle.bits.specs.Tests.{both}
-use Rattle.calls.specs.declared.Answer.the-variants.{Done, Refused}
-use Rattle.calls.specs.declared.Refusal.the-variants.{Misfit, BadHeader}
+use Rattle.calls.specs.declared.Answer.the-variants.{Done}
 use Rattle.calls.specs.Answers.{refusalOf, Accepted, TurnedBack}
+use Rattle.calls.specs.Calls.{After, after}
+use Rattle.calls.specs.CallLaws.{none-left, no-misfit, no-bad-header, call-done, call-keeps}
 use Rattle.lineformat.specs.declared.Header.{Header}
-use Rattle.lineformat.specs.Header.{number}
+use Rattle.lineformat.specs.Header.{number, judged}
 use Rattle.lineformat.specs.HeaderLaws.{Sound, judged-good, number-first}
 use Rattle.lineformat.specs.Opening.{openAnswer, OpenFile, openFile, openCall}
 use Rattle.lineformat.specs.OpeningLaws.{open-done}
 use Rattle.lineformat.specs.Reading.{readAnswerIn, readPartIn, startOf}
 use Rattle.lineformat.specs.ReadingLaws.{opened-done, stretches-whole}
-use Rattle.lineformat.specs.Writing.{byteOf, headerBytes, numbersFor, Written, written, writeCall}
+use Rattle.lineformat.specs.Writing.{byteOf, headerBytes, numbersFor, writeCall}
 
 -- ---- a written number is read back
 
@@ -60,46 +61,32 @@ module _ (numbers : List ℕ) (k : ℕ) (l : k < 4) where
   number-written small =
       rw (byte-at-first, byte-at 1 (omega arith), byte-at 2 (omega arith), byte-at 3 (omega arith)) (number-again (getD numbers k 0) small)
 
--- ---- the call, case by case
+-- ---- the call
+
+-- The rule of n.
+module _ (n : ℕ) where
+  pub n-none : n < 1 → both (leb 1 n) (leb n 64) ≡ false
+  n-none l = simp (lt-leb _ _ l)
+
+  pub n-many : 64 < n → both (leb 1 n) (leb n 64) ≡ false
+  n-many l = let one : 1 ≤ n = omega arith in simp (le-leb _ _ one, lt-leb _ _ l)
+
+  pub n-fits : 1 ≤ n → n ≤ 64 → both (leb 1 n) (leb n 64) ≡ true
+  n-fits a b = simp (le-leb _ _ a, le-leb _ _ b)
+
+pub ruleset n-rule = (n-none, n-many, n-fits)
 
 module _ (n : ℕ) (header : List ℕ) where
-  pub write-misfit : (length header ≡ 16 → ⊥) → written (Refused Misfit) header ≡ writeCall n header
-  unfolding writeCall
-  write-misfit h = simp (ne-eqb _ _ h)
+  pub write-done : (h : List ℕ) → length header ≡ 16 → 1 ≤ n → n ≤ 64 → h ≡ headerBytes (numbersFor n) → after (Done 0) h ≡ writeCall n header
+  write-done h e a b q = call-done _ _ _ _ (no-misfit _ _ _ _ e (no-bad-header _ _ _ (n-fits n a b) none-left)) (ap (after (Done 0)) q)
 
-  pub write-none : length header ≡ 16 → n < 1 → written (Refused BadHeader) header ≡ writeCall n header
-  unfolding writeCall
-  write-none e l = simp (eq-eqb _ _ e, lt-leb _ _ l)
-
-  pub write-too-many : length header ≡ 16 → 64 < n → written (Refused BadHeader) header ≡ writeCall n header
-  unfolding writeCall
-  write-too-many e l = let one : 1 ≤ n = omega arith in simp (eq-eqb _ _ e, le-leb _ _ one, lt-leb _ _ l)
-
-  pub write-done : (h : List ℕ) → length header ≡ 16 → 1 ≤ n → n ≤ 64 → h ≡ headerBytes (numbersFor n) → written (Done 0) h ≡ writeCall n header
-  unfolding writeCall
-  write-done h e a b q = rw q (simp (eq-eqb _ _ e, le-leb _ _ a, le-leb _ _ b))
-
-pub ruleset write-cases = (write-misfit, write-none, write-too-many, write-done)
-
--- ---- what callers may lean on
-
-module _ (n : ℕ) (header : List ℕ) where
   -- A refused call leaves the buffer as it was.
-  pub refused-keeps : TurnedBack (writeCall n header .answer) → writeCall n header .header ≡ header
-  unfolding writeCall
-  refused-keeps t = go (eqb (length header) 16) (both (leb 1 n) (leb n 64)) t
-    where
-      choice : Bool → Bool → Written
-      choice a b = cond a (cond b (written (Done 0) (headerBytes (numbersFor n))) (written (Refused BadHeader) header)) (written (Refused Misfit) header)
-
-      go : (a b : Bool) → TurnedBack (choice a b .answer) → choice a b .header ≡ header
-      go true true h = absurd (h refl)
-      go true false h = refl
-      go false b h = refl
+  pub refused-keeps : TurnedBack (writeCall n header .answer) → writeCall n header .written ≡ header
+  refused-keeps = call-keeps _ _ _ refl
 
   -- One with a buffer of 16 bytes and n from 1 to 64 is accepted.
   pub write-accepted : length header ≡ 16 → 1 ≤ n → n ≤ 64 → Accepted (writeCall n header .answer)
-  write-accepted e a b = ap (λ (w : Written). refusalOf (w .answer)) (sym (write-done n header (headerBytes (numbersFor n)) e a b refl))
+  write-accepted e a b = ap (λ (w : After (List ℕ)). refusalOf (w .answer)) (sym (write-done (headerBytes (numbersFor n)) e a b refl))
 
 -- A file of the right length that starts with the written header opens, with n, o = 16 and f = 12,304.
 module _ (n : ℕ) (file : List ℕ) (one : 1 ≤ n) (most : n ≤ 64) (starts : take 16 file ≡ headerBytes (numbersFor n)) (long : length file ≡ 12304 + 356352 * n) where
@@ -138,6 +125,7 @@ module _ (n : ℕ) (file : List ℕ) (one : 1 ≤ n) (most : n ≤ 64) (starts :
 
   -- Each of its sub-frames can be read, and those of a super-frame make up its bytes.
   pub written-reads : (q s : ℕ) → q < n → s ≤ 47 → Accepted (readAnswerIn (openCall file) q s)
+  unfolding judged
   written-reads q s lq ls = ap refusalOf (opened-done file opens q s ls (omega (arith, ap (λ (d : OpenFile). d .superframes) written-opens)))
     where
       opens : Accepted (openAnswer file)

@@ -13,20 +13,21 @@ use Rattle.bits.specs.Lists.{tabulate}
 use Rattle.bits.specs.Parts.{part, byteOfEach, endToEnd}
 use Rattle.bits.specs.PartLaws.{each-block}
 use Rattle.calls.specs.declared.Answer.{Answer}
+use Rattle.calls.specs.Calls.{After, after}
 use Rattle.lineformat.specs.Opening.{openCall}
 use Rattle.lineformat.specs.Reading.{readRefusalIn, readPartIn}
 use Rattle.lineformat.specs.ReadingLaws.{stretch-length}
-use Rattle.lineformat.specs.Writing.{numbersFor, headerBytes, Written, written, writeCall}
+use Rattle.lineformat.specs.Writing.{numbersFor, headerBytes, writeCall}
 use Rattle.lineformat.specs.WritingLaws.{headerBytes-length, write-done, written-reads, written-whole}
 use Rattle.loopback.specs.File.{takenWhen}
 
 -- The header that was written in front stands there.
-pub header-first : (d ys lent : List ℕ) (r : Answer) → written r ys ≡ writeCall 1 lent → length lent ≡ 16
+pub header-first : (d ys lent : List ℕ) (r : Answer) → after r ys ≡ writeCall 1 lent → length lent ≡ 16
     → take 16 (putMid 0 16 d ys) ≡ headerBytes (numbersFor 1)
 header-first d ys lent r w l = take-at ys (drop 16 d) 16 (ap length is ∙ headerBytes-length (numbersFor 1)) ∙ is
   where
     is : ys ≡ headerBytes (numbersFor 1)
-    is = ap (λ (x : Written). x .header) (w ∙ sym (write-done 1 lent (headerBytes (numbersFor 1)) l (omega arith) (omega arith) refl))
+    is = ap (λ (x : After (List ℕ)). x .written) (w ∙ sym (write-done 1 lent (headerBytes (numbersFor 1)) l (omega arith) (omega arith) refl))
 
 -- ---- a sub-frame: m is the number that the companion gave, and got the part that was handed back
 

@@ -20,8 +20,9 @@ use Rattle.bits.specs.Count.{count, distance}
 use Rattle.bits.specs.CountLaws.{count-le, differs-le, differs-same, differs-other}
 use Rattle.bits.specs.Folding.{Counting, count-done}
 use Rattle.calls.specs.declared.Answer.{Answer}
+use Rattle.calls.specs.declared.Refusal.the-variants.{Misfit, CountSpent}
+use Rattle.calls.specs.CallLaws.{is-misfit, tests, call-refused}
 use Rattle.ofec.specs.Calls.{Encoded, afterEncode, encodeCall, Received, afterReceive, receiveCall}
-use Rattle.ofec.specs.CallLaws.{encode-payload, encode-spent, receive-coded, receive-spent}
 use Rattle.loopback.specs.Tally.{wrongAt, tally, Tallied, lost, wordKind, bitKind, payloadKind}
 
 pub tally-none : (f : ℕ → ℕ) (d : List ℕ) → Tallied f 0 d d
@@ -138,22 +139,22 @@ pub ruleset kinds = (word-few, word-more, bit-is, payload-is)
 pub encode-misfit : (r : Answer) (c h payload coded history : List ℕ) (P : ℕ) → afterEncode r c h ≡ encodeCall payload coded history P → length payload ≡ 443 → h ≡ history
 encode-misfit r c h payload coded history P is l =
     let n : length payload ≢ 444 = λ e. omega (arith, l, e) in
-    ap (λ (x : Encoded). x .history) (is ∙ sym (encode-payload payload coded history P n))
+    ap (λ (x : Encoded). x .written .history) (is ∙ sym (call-refused _ _ _ Misfit (is-misfit _ _ _ n)))
 
 pub encode-late : (r : Answer) (c h payload coded history : List ℕ) → afterEncode r c h ≡ encodeCall payload coded history 4294967295 → length payload ≡ 444
     → length coded ≡ 512 → length history ≡ 5120 → h ≡ history
 encode-late r c h payload coded history is lp lc lh =
-    ap (λ (x : Encoded). x .history) (is ∙ sym (encode-spent payload coded history 4294967295 lp lc lh refl))
+    ap (λ (x : Encoded). x .written .history) (is ∙ sym (call-refused _ _ _ CountSpent (search tests depth 6)))
 
 pub receive-misfit : (r : Answer) (y m h coded payload marks history : List ℕ) (P : ℕ) → afterReceive r y m h ≡ receiveCall coded payload marks history P → length coded ≡ 511
     → h ≡ history
 receive-misfit r y m h coded payload marks history P is l =
     let n : length coded ≢ 512 = λ e. omega (arith, l, e) in
-    ap (λ (x : Received). x .history) (is ∙ sym (receive-coded coded payload marks history P n))
+    ap (λ (x : Received). x .written .history) (is ∙ sym (call-refused _ _ _ Misfit (is-misfit _ _ _ n)))
 
 pub receive-late : (r : Answer) (y m h coded payload marks history : List ℕ) → afterReceive r y m h ≡ receiveCall coded payload marks history 4294967295 → length coded ≡ 512
     → length payload ≡ 444 → length marks ≡ 32 → length history ≡ 5120 → h ≡ history
 receive-late r y m h coded payload marks history is lc lp lm lh =
-    ap (λ (x : Received). x .history) (is ∙ sym (receive-spent coded payload marks history 4294967295 lc lp lm lh refl))
+    ap (λ (x : Received). x .written .history) (is ∙ sym (call-refused _ _ _ CountSpent (search tests depth 7)))
 
 pub ruleset refusing = (encode-misfit, encode-late, receive-misfit, receive-late)

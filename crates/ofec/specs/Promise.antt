@@ -34,7 +34,7 @@ pub record Limit (S W : RowBits) (m : ℕ) : Type 0 where
 
 -- The mark of word (R, r), that the word is not marked lost, and that it is.
 abbrev pub markOf : Received → ℕ → ℕ → ℕ
-markOf after R r = getD (after .marks) (16 * (R % 2) + r) 0
+markOf after R r = getD (after .written .marks) (16 * (R % 2) + r) 0
 
 abbrev pub NotLost : Received → ℕ → ℕ → Type 0
 NotLost after R r = fate (markOf after R r) ≡ notLost
@@ -45,8 +45,8 @@ Lost after R r = fate (markOf after R r) ≡ lost
 -- Back-half bit k of word (R, r) equals the sent bit, in the newest pair of the history returned and, where it is payload, in payload
 -- out. That history is lent to the call on pair R div 2 + 1.
 pub record AsSent (n : ℕ) (S : RowBits) (after : Received) (R r k : ℕ) : Type 0 where
-  pub newest : wordOf (heldBits n (after .history) (R / 2 + 1)) R r k ≡ wordOf S R r k
-  pub paid : k < 239 → bit (after .payload) (payloadIndex (R % 2) r (k - 128)) ≡ wordOf S R r k
+  pub newest : wordOf (heldBits n (after .written .history) (R / 2 + 1)) R r k ≡ wordOf S R r k
+  pub paid : k < 239 → bit (after .written .payload) (payloadIndex (R % 2) r (k - 128)) ≡ wordOf S R r k
 
 -- What is promised of word (R, r) of an accepted call on pair R div 2: c is lent to it, and `after` stands afterwards.
 pub record Promise (n : ℕ) (S W : RowBits) (c : Receiving) (after : Received) (R r : ℕ) : Type 0 where

@@ -54,29 +54,29 @@ module _ (cs : List Encoding) where
   encoder-lent run = lent-at Encodings encode-keeps (λ i. state (encoderHistory depth (payloads cs) i) i) run refl next
     where
       next : (i : ℕ) (c : Encoding) → At (accepted Encodings cs) i c → state (c .history) (c .pair) ≡ state (encoderHistory depth (payloads cs) i) i
-          → state (encode c .history) (valueOr (encode c .answer) (c .pair)) ≡ state (encoderHistory depth (payloads cs) (suc i)) (suc i)
+          → state (encode c .written .history) (valueOr (encode c .answer) (c .pair)) ≡ state (encoderHistory depth (payloads cs) (suc i)) (suc i)
       next i c a e =
           let ok = encode-accepted c (is-accepted Encodings cs a) in
           let eh : c .history ≡ encoderHistory depth (payloads cs) i = ap (λ (s : State). s .history) e in
           let ep : c .pair ≡ i = ap (λ (s : State). s .pair) e in
           let ey : c .payload ≡ getD (payloads cs) i [] = sym (given-at a) in
-          ap (λ (x : Encoded). state (x .history) (valueOr (x .answer) (c .pair))) (ok .1)
+          ap (λ (x : Encoded). state (x .written .history) (valueOr (x .answer) (c .pair))) (ok .1)
           ∙ ap₂ state (ap₂ shift eh (ap₂ (λ h P. encoded depth h P (c .payload)) eh ep ∙ ap (encoded depth (encoderHistory depth (payloads cs) i) i) ey)) (omega arith)
 
   -- From fresh, whatever refused calls stand between, the coded pair of each accepted call is the one of that history,
   pub coded-made : {t : State} → Run Encodings start cs t → (P : ℕ) (c : Encoding) → At (accepted Encodings cs) P c
-      → encode c .coded ≡ encoded depth (encoderHistory depth (payloads cs) P) P (getD (payloads cs) P [])
+      → encode c .written .coded ≡ encoded depth (encoderHistory depth (payloads cs) P) P (getD (payloads cs) P [])
   coded-made run P c a =
       let lent = encoder-lent run P c a in
       let ok = encode-accepted c (is-accepted Encodings cs a) in
       let eh : c .history ≡ encoderHistory depth (payloads cs) P = ap (λ (s : State). s .history) lent in
       let ep : c .pair ≡ P = ap (λ (s : State). s .pair) lent in
-      ap (λ (x : Encoded). x .coded) (ok .1) ∙ ap₂ (λ h Q. encoded depth h Q (c .payload)) eh ep
+      ap (λ (x : Encoded). x .written .coded) (ok .1) ∙ ap₂ (λ h Q. encoded depth h Q (c .payload)) eh ep
       ∙ ap (encoded depth (encoderHistory depth (payloads cs) P) P) (sym (given-at a))
 
   -- and holds the bits that the formulas fix.
   pub coded-sent : {t : State} → Run Encodings start cs t → (v : RowBits) → Sent (payloads cs) v → (P : ℕ) (c : Encoding) → At (accepted Encodings cs) P c
-      → Holds v P (encode c .coded)
+      → Holds v P (encode c .written .coded)
   coded-sent run v sent P c a =
       let within : P < length (payloads cs) = payloads-lt a in
       subst (λ q. Holds v P q) (sym (coded-made run P c a)) (encoded-holds sent deep (encoder-right deep sent P (omega arith)) within)
@@ -90,12 +90,12 @@ module _ (cs : List Receiving) (pair : ℕ → List ℕ) (in-order : (P : ℕ) (
   receiver-lent = lent-at Receivings receive-keeps (λ i. state (receiverHistory depth pair i) i) run refl next
     where
       next : (i : ℕ) (c : Receiving) → At (accepted Receivings cs) i c → state (c .history) (c .pair) ≡ state (receiverHistory depth pair i) i
-          → state (receive c .history) (valueOr (receive c .answer) (c .pair)) ≡ state (receiverHistory depth pair (suc i)) (suc i)
+          → state (receive c .written .history) (valueOr (receive c .answer) (c .pair)) ≡ state (receiverHistory depth pair (suc i)) (suc i)
       next i c a e =
           let ok = receive-accepted c (is-accepted Receivings cs a) in
           let eh : c .history ≡ receiverHistory depth pair i = ap (λ (s : State). s .history) e in
           let ep : c .pair ≡ i = ap (λ (s : State). s .pair) e in
-          ap (λ (x : Received). state (x .history) (valueOr (x .answer) (c .pair))) (ok .1)
+          ap (λ (x : Received). state (x .written .history) (valueOr (x .answer) (c .pair))) (ok .1)
           ∙ ap₂ state (ap₂ shift eh (ap₂ (λ h P. newestPair depth h P (c .coded)) eh ep ∙ ap (newestPair depth (receiverHistory depth pair i) i) (in-order i c a))) (omega arith)
 
   -- and leaves what receiving pair i of it gives.
@@ -134,7 +134,7 @@ module _ {n : ℕ} (far : reach ≤ n) {S W : RowBits} (c : Receiving) (R r : �
   mended-at k =
       ap (λ (w : Word). w k) (mended-word n (c .history) (R / 2) (c .coded) R r refl lr _ (repair-of n (c .history) (R / 2) (c .coded) R r refl lr true t))
 
-  newest-at : (k : ℕ) → 128 ≤ k → k < 256 → wordOf (heldBits n (receiveDone n c .history) (R / 2 + 1)) R r k ≡ repaired fix held k
+  newest-at : (k : ℕ) → 128 ≤ k → k < 256 → wordOf (heldBits n (receiveDone n c .written .history) (R / 2 + 1)) R r k ≡ repaired fix held k
   unfolding backBit
   newest-at k low lk =
       let one : R / 2 + 1 ≡ suc (R / 2) = omega arith in
@@ -148,7 +148,7 @@ module _ {n : ℕ} (far : reach ≤ n) {S W : RowBits} (c : Receiving) (R r : �
       ∙ ap (mendedWord n (c .history) (R / 2) (c .coded) (16 * (R % 2) + r)) (backPlace-of r k low)
       ∙ mended-at k
 
-  payload-at : (k : ℕ) → 128 ≤ k → k < 239 → bit (receiveDone n c .payload) (payloadIndex (R % 2) r (k - 128)) ≡ repaired fix held k
+  payload-at : (k : ℕ) → 128 ≤ k → k < 239 → bit (receiveDone n c .written .payload) (payloadIndex (R % 2) r (k - 128)) ≡ repaired fix held k
   payload-at k low lk =
       let e : 128 + (k - 128) ≡ k = omega arith in
       ap (λ P. bit (payloadOut n (c .history) P (c .coded)) (payloadIndex (R % 2) r (k - 128))) number

@@ -7,7 +7,7 @@ use Prim.Native.Nat.{ℕ, suc, _*_, _<_}
 use native.Mathlib.Omega.{arith}
 use lib.ListN.{length, getD}
 use Rattle.bits.specs.BitLaws.{pack-below}
-use Rattle.calls.specs.Answers.{refusalOf, valueOr, Accepted, TurnedBack}
+use Rattle.calls.specs.Answers.{valueOr, Accepted, TurnedBack}
 use Rattle.ofec.specs.Pairs.{laidOut, ownIndex, payloadOf}
 use Rattle.ofec.specs.History.{depth}
 use Rattle.ofec.specs.HistoryLaws.{length-fresh, length-shift}
@@ -16,7 +16,7 @@ use Rattle.ofec.specs.EncodingLaws.{length-encoded}
 use Rattle.ofec.specs.Receiving.{mendedWord, newestPair, payloadOut, marks}
 use Rattle.ofec.specs.ReceivingLaws.{length-newest, length-payloadOut, length-marks}
 use Rattle.ofec.specs.Calls.{State, start, Encoded, Encoding, encode, Encodings, Received, Receiving, receive, Receivings}
-use Rattle.ofec.specs.CallLaws.{encode-payload, encode-accepted, receive-coded, receive-accepted}
+use Rattle.ofec.specs.CallLaws.{encode-accepted, receive-accepted}
 
 -- A state that a call on pair P can be lent: a history of its length, and pair number P.
 pub record Ready (P : ℕ) (s : State) : Type 0 where
@@ -29,47 +29,43 @@ ready-fresh = record { history = length-fresh depth; pair = refl }
 -- ---- encoding
 
 pub refused-encoding : (c : Encoding) → length (c .payload) ≢ 444 → TurnedBack (encode c .answer)
-unfolding encode
-refused-encoding c n e =
-    omega (arith, ap (λ (a : Encoded). refusalOf (a .answer)) (encode-payload (c .payload) (c .coded) (c .history) (c .pair) n), e)
+refused-encoding c n e = n (encode-accepted c e .0 .payload)
 
 module _ (c : Encoding) (ok : Accepted (encode c .answer)) where
   pub encode-ready : (P : ℕ) → c .pair ≡ P → Ready (suc P) (Encodings .left c)
   encode-ready P e =
       let r = encode-accepted c ok in
       record {
-        history = ap (λ (a : Encoded). length (a .history)) (r .1)
+        history = ap (λ (a : Encoded). length (a .written .history)) (r .1)
             ∙ length-shift depth (c .history) (encoded depth (c .history) (c .pair) (c .payload)) (r .0 .history) (length-encoded depth (c .history) (c .pair) (c .payload));
         pair = ap (λ (a : Encoded). valueOr (a .answer) (c .pair)) (r .1) ∙ omega arith;
       }
 
-  pub coded-long : length (encode c .coded) ≡ 512
-  coded-long = ap (λ (a : Encoded). length (a .coded)) (encode-accepted c ok .1) ∙ length-encoded depth (c .history) (c .pair) (c .payload)
+  pub coded-long : length (encode c .written .coded) ≡ 512
+  coded-long = ap (λ (a : Encoded). length (a .written .coded)) (encode-accepted c ok .1) ∙ length-encoded depth (c .history) (c .pair) (c .payload)
 
 -- ---- receiving
 
 pub refused-receiving : (c : Receiving) → length (c .coded) ≢ 512 → TurnedBack (receive c .answer)
-unfolding receive
-refused-receiving c n e =
-    omega (arith, ap (λ (a : Received). refusalOf (a .answer)) (receive-coded (c .coded) (c .payload) (c .marks) (c .history) (c .pair) n), e)
+refused-receiving c n e = n (receive-accepted c e .0 .coded)
 
 module _ (c : Receiving) (ok : Accepted (receive c .answer)) where
   pub receive-ready : (P : ℕ) → c .pair ≡ P → Ready (suc P) (Receivings .left c)
   receive-ready P e =
       let r = receive-accepted c ok in
       record {
-        history = ap (λ (a : Received). length (a .history)) (r .1)
+        history = ap (λ (a : Received). length (a .written .history)) (r .1)
             ∙ length-shift depth (c .history) (newestPair depth (c .history) (c .pair) (c .coded)) (r .0 .history) (length-newest depth (c .history) (c .pair) (c .coded));
         pair = ap (λ (a : Received). valueOr (a .answer) (c .pair)) (r .1) ∙ omega arith;
       }
 
-  pub payload-long : length (receive c .payload) ≡ 444
-  payload-long = ap (λ (a : Received). length (a .payload)) (receive-accepted c ok .1) ∙ length-payloadOut depth (c .history) (c .pair) (c .coded)
+  pub payload-long : length (receive c .written .payload) ≡ 444
+  payload-long = ap (λ (a : Received). length (a .written .payload)) (receive-accepted c ok .1) ∙ length-payloadOut depth (c .history) (c .pair) (c .coded)
 
-  pub payload-bytes : (j : ℕ) → getD (receive c .payload) j 0 < 256
+  pub payload-bytes : (j : ℕ) → getD (receive c .written .payload) j 0 < 256
   unfolding payloadOut payloadOf
   payload-bytes j =
       rw (receive-accepted c ok .1) (pack-below 444 (laidOut 111 ownIndex (mendedWord depth (c .history) (c .pair) (c .coded))) j)
 
-  pub marks-long : length (receive c .marks) ≡ 32
-  marks-long = ap (λ (a : Received). length (a .marks)) (receive-accepted c ok .1) ∙ length-marks depth (c .history) (c .pair) (c .coded)
+  pub marks-long : length (receive c .written .marks) ≡ 32
+  marks-long = ap (λ (a : Received). length (a .written .marks)) (receive-accepted c ok .1) ∙ length-marks depth (c .history) (c .pair) (c .coded)

@@ -41,10 +41,10 @@ module _ (m k a e : ℕ) (lk : k < m) (ea : a ≡ k * 444) (ee : e ≡ a + 444) 
       ∙ ap (λ s. afterEncode (Done (number + 1)) (encoded depth history number s) (shift history (encoded depth history number s))) (lent-is 444 m k a e lk ea ee payload lp)
 
   pub pair-coded : c ≡ encoded depth history number (partOf 444 payload k)
-  pair-coded = ap (λ (x : Encoded). x .coded) encode-left
+  pair-coded = ap (λ (x : Encoded). x .written .coded) encode-left
 
   pub pair-history : h ≡ shift history (encoded depth history number (partOf 444 payload k))
-  pair-history = ap (λ (x : Encoded). x .history) encode-left
+  pair-history = ap (λ (x : Encoded). x .written .history) encode-left
 
 -- What the call that receives a pair leaves.
 module _ (m k a e : ℕ) (lk : k < m) (ea : a ≡ k * 512) (ee : e ≡ a + 512) (number : ℕ) (ln : number < 4294967295) (coded : List ℕ) (lc : length coded ≡ m * 512)
@@ -59,13 +59,13 @@ module _ (m k a e : ℕ) (lk : k < m) (ea : a ≡ k * 512) (ee : e ≡ a + 512) 
       (lent-is 512 m k a e lk ea ee coded lc)
 
   pub pair-payload : y ≡ payloadOut depth history number (partOf 512 coded k)
-  pair-payload = ap (λ (x : Received). x .payload) receive-left
+  pair-payload = ap (λ (x : Received). x .written .payload) receive-left
 
   pub pair-marks : w ≡ marks depth history number (partOf 512 coded k)
-  pair-marks = ap (λ (x : Received). x .marks) receive-left
+  pair-marks = ap (λ (x : Received). x .written .marks) receive-left
 
   pub pair-mended : h ≡ shift history (newestPair depth history number (partOf 512 coded k))
-  pair-mended = ap (λ (x : Received). x .history) receive-left
+  pair-mended = ap (λ (x : Received). x .written .history) receive-left
 
 pub ruleset pairing = (pair-coded, pair-history, pair-payload, pair-marks, pair-mended)
 

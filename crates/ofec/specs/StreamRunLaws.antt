@@ -25,7 +25,7 @@ use Rattle.ofec.specs.StreamLaws.{history-in, given-in}
 module _ (cs : List Encoding) {t : State} (run : Run Encodings start cs t) (m n : ℕ) (S : ℕ → List ℕ)
     (many : (q k : ℕ) → q < n → k < m → m * q + k < length (accepted Encodings cs))
     (given : (q k : ℕ) → q < n → k < m → getD (payloads cs) (m * q + k) [] ≡ partOf 444 (S q) k)
-    (coded : ℕ → List ℕ) (left : (P : ℕ) (c : Encoding) → At (accepted Encodings cs) P c → coded P ≡ encode c .coded) where
+    (coded : ℕ → List ℕ) (left : (P : ℕ) (c : Encoding) → At (accepted Encodings cs) P c → coded P ≡ encode c .written .coded) where
   -- The coded pairs of super-frame q are those that the accepted calls left.
   pub stream-coded : (q : ℕ) → q < n → codedOf m (historyBefore encoder m S q) (m * q) (S q) ≡ endToEnd m 512 (λ k. coded (m * q + k))
   unfolding givenOver encoderHistory
@@ -58,18 +58,18 @@ module _ (cs : List Receiving) (pair : ℕ → List ℕ) (in-order : (P : ℕ) (
       is : givenAt receiver before (m * q) (partOf 512 (S q)) out k ≡ out (receiverHistory depth pair (m * q + k)) (m * q + k) (pair (m * q + k))
       is = given-in receiver m n pair S same out q k lq lk
 
-  pub stream-payload : receive c .payload ≡ partOf 444 (payloadsOf m before (m * q) (S q)) k
+  pub stream-payload : receive c .written .payload ≡ partOf 444 (payloadsOf m before (m * q) (S q)) k
   stream-payload =
-      ap (λ (x : Received). x .payload) (received-made cs pair in-order run (m * q + k) c a) ∙ block (payloadOut depth) 444 (lit< tt) (length-payloadOut depth)
+      ap (λ (x : Received). x .written .payload) (received-made cs pair in-order run (m * q + k) c a) ∙ block (payloadOut depth) 444 (lit< tt) (length-payloadOut depth)
 
-  pub stream-marks : receive c .marks ≡ partOf 32 (marksOf m before (m * q) (S q)) k
-  stream-marks = ap (λ (x : Received). x .marks) (received-made cs pair in-order run (m * q + k) c a) ∙ block (marks depth) 32 (lit< tt) (length-marks depth)
+  pub stream-marks : receive c .written .marks ≡ partOf 32 (marksOf m before (m * q) (S q)) k
+  stream-marks = ap (λ (x : Received). x .written .marks) (received-made cs pair in-order run (m * q + k) c a) ∙ block (marks depth) 32 (lit< tt) (length-marks depth)
 
   -- It leaves the history that the stream has after it: after the last pair, that before the next super-frame.
-  pub stream-history : receive c .history ≡ historyAt receiver before (m * q) (partOf 512 (S q)) (suc k)
+  pub stream-history : receive c .written .history ≡ historyAt receiver before (m * q) (partOf 512 (S q)) (suc k)
   unfolding receiverHistory
   stream-history =
-      ap (λ (x : Received). x .history) (received-made cs pair in-order run (m * q + k) c a)
+      ap (λ (x : Received). x .written .history) (received-made cs pair in-order run (m * q + k) c a)
       ∙ ap (receiverHistory depth pair) next
       ∙ sym (history-in receiver m n pair S same q (suc k) lq lk)
     where

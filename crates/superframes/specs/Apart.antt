@@ -1,21 +1,21 @@
 -- A super-frame taken apart to the coded pairs of both encoders, over a profile. 01, "Whole runs": "Unframing .., cells to bits and taking
 -- apart give the pairs received." The calls of framing, cells and interleaving, one after the other, over its 48 sub-frames and its buffers.
 -- Assumes nothing.
-use mathlib.Core.Bool.{Bool, cond}
-use mathlib.Core.List.{List}
+use mathlib.Core.Bool.{Bool}
+use mathlib.Core.List.{List, [], _∷_}
 use Prim.Native.Nat.{ℕ, _+_, _-_, _*_, _/_, _%_}
 use lib.ListN.{getD}
 use Rattle.bits.specs.Count.{count}
 use Rattle.bits.specs.Lists.{tabulate}
 use Rattle.bits.specs.Parts.{partOf, endToEnd}
-use Rattle.calls.specs.declared.Answer.the-variants.{Done, Refused}
-use Rattle.calls.specs.declared.Refusal.the-variants.{OffGrid}
+use Rattle.calls.specs.declared.Answer.the-variants.{Done}
+use Rattle.calls.specs.Calls.{call}
 use Rattle.interleaving.specs.Interleaving.{apart}
-use Rattle.interleaving.specs.Calls.{Apart, parted}
+use Rattle.interleaving.specs.Calls.{pairBuffers, Apart, parted}
 use Rattle.cells.specs.Profile.{Profile, cellsPerBuffer}
-use Rattle.cells.specs.Cells.{overheadRule, firstIllegal, toBits}
+use Rattle.cells.specs.Cells.{overheadRule, toBits}
+use Rattle.cells.specs.Calls.{illegal}
 use Rattle.frames.specs.Frames.{payloadStart, ownOverhead, frameRule, unframed, differing, subFrameOf}
-use Rattle.frames.specs.Calls.{offGrid}
 
 -- "Unframing gives the payload cells": byte h of payload cell x of a super-frame, whose 48 frames stand end to end, and all of them.
 unfoldable pub takenByte : List ℕ → ℕ → ℕ → ℕ
@@ -45,8 +45,7 @@ lineRule p j v = frameRule p (j / 7424) (j % 7424) v
 -- What stands after the step: Done with the number of differing overhead cells, and the pairs; or No. 5, "an illegal byte in cells that the
 -- call reads", "overhead list first", with both pair buffers as they were lent. The index counts in the whole overhead list, or in the 48
 -- frames as they stand end to end.
-unfoldable pub takeApart : Profile → List ℕ → List ℕ → List ℕ → List ℕ → Apart
+abbrev pub takeApart : Profile → List ℕ → List ℕ → List ℕ → List ℕ → Apart
 takeApart p line overhead pairs0 pairs1 =
-    cond (offGrid overheadRule overhead) (parted (Refused (OffGrid (firstIllegal overheadRule overhead))) pairs0 pairs1)
-    (cond (offGrid (lineRule p) line) (parted (Refused (OffGrid (firstIllegal (lineRule p) line))) pairs0 pairs1)
-    (parted (Done (differingAll line overhead)) (takenPairs p (takenCells line) 0) (takenPairs p (takenCells line) 1)))
+    call (illegal overheadRule overhead ∷ illegal (lineRule p) line ∷ []) (pairBuffers pairs0 pairs1)
+    (parted (Done (differingAll line overhead)) (takenPairs p (takenCells line) 0) (takenPairs p (takenCells line) 1))

@@ -28,6 +28,8 @@ use Rattle.calls.specs.declared.Answer.{Answer}
 use Rattle.calls.specs.declared.Answer.the-variants.{Done, Refused}
 use Rattle.calls.specs.declared.Refusal.the-variants.{OffGrid}
 use Rattle.calls.specs.Answers.{valueOr}
+use Rattle.calls.specs.Calls.{After, after}
+use Rattle.calls.specs.CallLaws.{cases}
 use Rattle.interleaving.specs.Interleaving.{apart}
 use Rattle.interleaving.specs.InterleavingLaws.{length-apart}
 use Rattle.interleaving.specs.Calls.{Apart, parted, deinterleave}
@@ -36,13 +38,13 @@ use Rattle.cells.specs.Profile.{Profile, cellsPerBuffer}
 use Rattle.cells.specs.Profiles.{qam16}
 use Rattle.cells.specs.Cells.{overheadRule, payloadRule, firstIllegal, Legal, toBits}
 use Rattle.cells.specs.CellLaws.{buffer-bits}
-use Rattle.cells.specs.Calls.{After, after, cellsToBits}
-use Rattle.cells.specs.CallLaws.{demap-accepts, demap-legal}
+use Rattle.cells.specs.Calls.{cellsToBits}
+use Rattle.cells.specs.CallLaws.{legality, demap-accepts, demap-legal}
 use Rattle.frames.specs.Frames.{isOverhead, overheadCells, payloadCells, overheadStart, payloadStart, ownOverhead, cellRule, frameRule, unframed, subFrameOf, cellOf}
 use Rattle.frames.specs.FrameLaws.{unframed-length, unframed-legal, differing-le, own-legal}
 use Rattle.frames.specs.LayoutLaws.{own-within, payload-all}
 use Rattle.frames.specs.PlaceLaws.{located, payload-index-lt, payloadStart-next, subFrameOf-is}
-use Rattle.frames.specs.Calls.{offGrid, unframeCall}
+use Rattle.frames.specs.Calls.{unframeCall}
 use Rattle.frames.specs.CallLaws.{unframe-accepts}
 use Rattle.superframes.specs.Apart.{takenByte, takenCells, bufferPairs, takenPairs, differingIn, differingAll, lineRule, takeApart}
 use Rattle.superframes.specs.SuperframeLaws.{part-legal, payload-within}
@@ -81,10 +83,10 @@ module _ (p : Profile) (s : ℕ) (ls : s < 48) (line : List ℕ) (ll : length li
           is ∙ ap₂ (λ x y. unframeCall p s (part x y line) overhead lent) ef size ∙ unframe-is lent lp
 
       pub unframe-cells : d ≡ unframed s (partOf 7424 line s)
-      unframe-cells = ap (λ (x : After). x .written) unframe-left
+      unframe-cells = ap (λ (x : After (List ℕ)). x .written) unframe-left
 
       pub unframe-count : (v : ℕ) → v ≡ valueOr r 0 → v ≡ differingIn line overhead s
-      unframe-count v e = e ∙ ap (λ (x : After). valueOr (x .answer) 0) unframe-left
+      unframe-count v e = e ∙ ap (λ (x : After (List ℕ)). valueOr (x .answer) 0) unframe-left
 
 pub ruleset unframing = (unframe-cells, unframe-count)
 
@@ -204,7 +206,7 @@ module _ (p : Profile) (b f g : ℕ) (ef : f ≡ b * (cellsPerBuffer p * 2)) (eg
   pub demapped-bits : (r : Answer) (s bits : List ℕ) → after r s ≡ cellsToBits p (part f (g - f) cells) bits → length bits ≡ 21504
       → s ≡ toBits p (partOf (cellsPerBuffer p * 2) cells b)
   demapped-bits r s bits is l =
-      ap (λ (x : After). x .written)
+      ap (λ (x : After (List ℕ)). x .written)
       (is ∙ ap (λ x. cellsToBits p x bits) own-cells
       ∙ demap-accepts p (partOf (cellsPerBuffer p * 2) cells b) bits own-long l
       (part-legal p (b * (cellsPerBuffer p * 2)) (cellsPerBuffer p * 2) cells (part-within (cellsPerBuffer p * 2) (p .bits) b lb cells lc) hc))
@@ -217,11 +219,11 @@ module _ (p : Profile) (b : ℕ) (lb : b < p .bits) (cells : List ℕ) (lc : len
 
   pub parted-pairs0 : x ≡ bufferPairs p cells 0 b
   unfolding bufferPairs
-  parted-pairs0 = ap (λ (a : Apart). a .pairs0) is ∙ deinterleave-pairs0 s pairs0 pairs1 bits-long l0 l1 ∙ ap (λ t. apart t 0) es
+  parted-pairs0 = ap (λ (a : Apart). a .written .pairs0) is ∙ deinterleave-pairs0 s pairs0 pairs1 bits-long l0 l1 ∙ ap (λ t. apart t 0) es
 
   pub parted-pairs1 : y ≡ bufferPairs p cells 1 b
   unfolding bufferPairs
-  parted-pairs1 = ap (λ (a : Apart). a .pairs1) is ∙ deinterleave-pairs1 s pairs0 pairs1 bits-long l0 l1 ∙ ap (λ t. apart t 1) es
+  parted-pairs1 = ap (λ (a : Apart). a .written .pairs1) is ∙ deinterleave-pairs1 s pairs0 pairs1 bits-long l0 l1 ∙ ap (λ t. apart t 1) es
 
 pub ruleset parting = (demapped-bits, parted-pairs0, parted-pairs1)
 
@@ -251,19 +253,7 @@ line-flat line at e =
 pub line-legal : (line : List ℕ) (at : ℕ) → at ≡ firstIllegal overheadRule line → length line ≤ at → Legal (lineRule qam16) line
 line-legal line at e l = demap-legal (lineRule qam16) line at (line-flat line at e) l
 
-module _ (p : Profile) (line overhead pairs0 pairs1 : List ℕ) (list : ℕ) (el : list ≡ firstIllegal overheadRule overhead) where
-  pub apart-list : list < length overhead → parted (Refused (OffGrid list)) pairs0 pairs1 ≡ takeApart p line overhead pairs0 pairs1
-  unfolding takeApart offGrid
-  apart-list h = rw el (simp (lt-ltb _ _ (rw el at h)))
-
-  module _ (ok : length overhead ≤ list) (at : ℕ) (ea : at ≡ firstIllegal (lineRule p) line) where
-    pub apart-line : at < length line → parted (Refused (OffGrid at)) pairs0 pairs1 ≡ takeApart p line overhead pairs0 pairs1
-    unfolding takeApart offGrid
-    apart-line h = rw ea (simp (le-ltb _ _ (rw el at ok), lt-ltb _ _ (rw ea at h)))
-
-    pub apart-done : (n : ℕ) (x y : List ℕ) → length line ≤ at → n ≡ differingAll line overhead → x ≡ takenPairs p (takenCells line) 0 → y ≡ takenPairs p (takenCells line) 1
-        → parted (Done n) x y ≡ takeApart p line overhead pairs0 pairs1
-    unfolding takeApart offGrid
-    apart-done n x y h en ex ey = rw (en, ex, ey) (simp (le-ltb _ _ (rw el at ok), le-ltb _ _ (rw ea at h)))
-
-pub ruleset apart-cases = (apart-list, apart-line, apart-done)
+pub apart-done : (p : Profile) (line overhead pairs0 pairs1 : List ℕ) (list : ℕ) → list ≡ firstIllegal overheadRule overhead → length overhead ≤ list
+    → (at : ℕ) → at ≡ firstIllegal (lineRule p) line → (n : ℕ) (x y : List ℕ) → length line ≤ at → n ≡ differingAll line overhead
+    → x ≡ takenPairs p (takenCells line) 0 → y ≡ takenPairs p (takenCells line) 1 → parted (Done n) x y ≡ takeApart p line overhead pairs0 pairs1
+apart-done p line overhead pairs0 pairs1 list el ok at ea n x y h en ex ey = rw (en, ex, ey) (search (cases, legality))

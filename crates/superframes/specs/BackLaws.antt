@@ -16,6 +16,7 @@ use Rattle.bits.specs.PartLaws.{partOf-length, partOf-at, endToEnd-length, endT
 use Rattle.calls.specs.declared.Answer.the-variants.{Done}
 use Rattle.calls.specs.Answers.{valueOr}
 use Rattle.calls.specs.Sequences.{At, Run, accepted}
+use Rattle.calls.specs.Calls.{After}
 use Rattle.ofec.specs.Calls.{State, start, Receiving, receive, Receivings}
 use Rattle.ofec.specs.Stream.{receiver, historyAt, payloadsOf, marksOf, historyBefore}
 use Rattle.ofec.specs.StreamRunLaws.{stream-payload, stream-marks, stream-history}
@@ -25,7 +26,6 @@ use Rattle.cells.specs.Profile.{Profile, cellsPerBuffer, buffersIn}
 use Rattle.cells.specs.Cells.{overheadRule, Legal, toBits}
 use Rattle.cells.specs.ProfileLaws.{buffer-whole, cells-pos, width-pos}
 use Rattle.cells.specs.CellLaws.{none-illegal}
-use Rattle.cells.specs.Calls.{After}
 use Rattle.frames.specs.Frames.{payloadStart, ownOverhead, frameRule, unframed, differing, subFrameOf}
 use Rattle.frames.specs.PlaceLaws.{located}
 use Rattle.line.specs.Sides.{Side, side0, side1, encoder}
@@ -83,7 +83,7 @@ module _ (p : Profile) (n : ℕ) (h : Heard p n) where
         (λ s ls.
         ap (λ f. differing s f (ownOverhead s (h .overhead))) (frame-is s ls)
         ∙ ap (λ t. differing t (getD (h .frames) (48 * q + s) []) (ownOverhead t (h .overhead))) (sym (sub s ls))
-        ∙ sym (ap (λ (a : After). valueOr (a .answer) 0) (unframing-is p n h (48 * q + s) (frame-lt s ls))))
+        ∙ sym (ap (λ (a : After (List ℕ)). valueOr (a .answer) 0) (unframing-is p n h (48 * q + s) (frame-lt s ls))))
 
     byte-is : (x k : ℕ) → x < 172032 → takenByte (heardLine q) x k ≡ heardByte p n h q x k
     unfolding takenByte heardByte
@@ -92,7 +92,7 @@ module _ (p : Profile) (n : ℕ) (h : Heard p n) where
         let ls : s < 48 = located x lx .sub-frame in
         ap (λ f. getD (unframed s f) ((x - payloadStart s) * 2 + k) 0) (frame-is s ls)
         ∙ ap (λ t. getD (unframed t (getD (h .frames) (48 * q + s) [])) ((x - payloadStart s) * 2 + k) 0) (sym (sub s ls))
-        ∙ sym (ap (λ (a : After). getD (a .written) ((x - payloadStart s) * 2 + k) 0) (unframing-is p n h (48 * q + s) (frame-lt s ls)))
+        ∙ sym (ap (λ (a : After (List ℕ)). getD (a .written) ((x - payloadStart s) * 2 + k) 0) (unframing-is p n h (48 * q + s) (frame-lt s ls)))
 
     -- Buffer b of the super-frame is buffer q w + b of the line.
     buffer-of : (b : ℕ) → b < p .bits → (buffersIn p q + b) / p .bits ≡ q
@@ -188,22 +188,22 @@ module _ (p : Profile) (n : ℕ) (h : Heard p n) where
     abbrev before : List ℕ
     before = historyBefore receiver (pairs p) (λ r. heardPairs r e) q
 
-    pub receive-payload : receive c .payload ≡ partOf 444 (payloadsOf (pairs p) before (pairs p * q) (heardPairs q e)) k
+    pub receive-payload : receive c .written .payload ≡ partOf 444 (payloadsOf (pairs p) before (pairs p * q) (heardPairs q e)) k
     receive-payload = stream-payload cs (receivedPair p n h e) in-order run (pairs p) n (λ r. heardPairs r e) (pair-of e) q k lq lk c a
 
-    pub receive-marks : receive c .marks ≡ partOf 32 (marksOf (pairs p) before (pairs p * q) (heardPairs q e)) k
+    pub receive-marks : receive c .written .marks ≡ partOf 32 (marksOf (pairs p) before (pairs p * q) (heardPairs q e)) k
     receive-marks = stream-marks cs (receivedPair p n h e) in-order run (pairs p) n (λ r. heardPairs r e) (pair-of e) q k lq lk c a
 
-    pub receive-history : receive c .history ≡ historyAt receiver before (pairs p * q) (partOf 512 (heardPairs q e)) (suc k)
+    pub receive-history : receive c .written .history ≡ historyAt receiver before (pairs p * q) (partOf 512 (heardPairs q e)) (suc k)
     receive-history = stream-history cs (receivedPair p n h e) in-order run (pairs p) n (λ r. heardPairs r e) (pair-of e) q k lq lk c a
 
 -- Demand 3's receivers are such lists.
 module _ (p : Profile) (o : Outward p) (i : Inward p o) (e : Side) (q k : ℕ) (lq : q < o .superframes) (lk : k < pairs p) (c : Receiving)
     (a : At (accepted Receivings (i .calls e)) (pairs p * q + k) c) where
-  pub inward-payload : receive c .payload
+  pub inward-payload : receive c .written .payload
       ≡ partOf 444 (payloadsOf (pairs p) (historyBefore receiver (pairs p) (λ r. heardPairs p (o .superframes) (i .heard) r e) q) (pairs p * q) (heardPairs p (o .superframes) (i .heard) q e)) k
   inward-payload = receive-payload p (o .superframes) (i .heard) e (i .calls e) (i .runs e) (i .in-order e) q k lq lk c a
 
-  pub inward-marks : receive c .marks
+  pub inward-marks : receive c .written .marks
       ≡ partOf 32 (marksOf (pairs p) (historyBefore receiver (pairs p) (λ r. heardPairs p (o .superframes) (i .heard) r e) q) (pairs p * q) (heardPairs p (o .superframes) (i .heard) q e)) k
   inward-marks = receive-marks p (o .superframes) (i .heard) e (i .calls e) (i .runs e) (i .in-order e) q k lq lk c a

@@ -14,15 +14,16 @@ use Rattle.bits.specs.Lists.{tabulate}
 use Rattle.bits.specs.Parts.{part, partOf, byteOfEach, endToEnd}
 use Rattle.bits.specs.PartLaws.{part-length, part-at, part-long, endToEnd-length, endToEnd-at, each-block}
 use Rattle.calls.specs.declared.Answer.{Answer}
+use Rattle.calls.specs.Calls.{After, after}
 use Rattle.interleaving.specs.Interleaving.{interleaved}
 use Rattle.interleaving.specs.InterleavingLaws.{length-interleaved}
-use Rattle.interleaving.specs.Calls.{Interleaved, joined, interleave}
+use Rattle.interleaving.specs.Calls.{interleave}
 use Rattle.interleaving.specs.CallLaws.{interleave-bits}
 use Rattle.cells.specs.Profile.{Profile, cellsPerBuffer}
 use Rattle.cells.specs.Cells.{overheadRule, payloadRule, Legal}
 use Rattle.cells.specs.ProfileLaws.{cells-pos}
 use Rattle.cells.specs.CellLaws.{toCells-legal, buffer-cells}
-use Rattle.cells.specs.Calls.{After, after, bitsToCells}
+use Rattle.cells.specs.Calls.{bitsToCells}
 use Rattle.cells.specs.CallLaws.{map-accepts}
 use Rattle.frames.specs.Frames.{payloadCells, payloadStart, ownOverhead}
 use Rattle.frames.specs.FrameLaws.{framed-length, own-legal}
@@ -47,10 +48,10 @@ module _ (n b a e : ℕ) (ea : a ≡ b * 10752) (ee : e ≡ a + 10752) (lb : b <
   pairs-long : (s : List ℕ) → length s ≡ n * 10752 → length (part a (e - a) s) ≡ 10752
   pairs-long s l = part-long a e 10752 s ee (omega arith)
 
-  pub joined-bits : (r : Answer) (s bits : List ℕ) → joined r s ≡ interleave (part a (e - a) pairs0) (part a (e - a) pairs1) bits → length bits ≡ 21504
+  pub joined-bits : (r : Answer) (s bits : List ℕ) → after r s ≡ interleave (part a (e - a) pairs0) (part a (e - a) pairs1) bits → length bits ≡ 21504
       → s ≡ interleaved (partOf 10752 pairs0 b) (partOf 10752 pairs1 b)
   joined-bits r s bits j l =
-      ap (λ (x : Interleaved). x .bits) j
+      ap (λ (x : After (List ℕ)). x .written) j
       ∙ interleave-bits (part a (e - a) pairs0) (part a (e - a) pairs1) bits (pairs-long pairs0 l0) (pairs-long pairs1 l1) l
       ∙ ap₂ (λ x y. interleaved (part x y pairs0) (part x y pairs1)) ea own-pairs
 
@@ -59,9 +60,9 @@ module _ (p : Profile) where
       → s ≡ interleaved (partOf 10752 pairs0 b) (partOf 10752 pairs1 b) → length cells ≡ cellsPerBuffer p * 2 → d ≡ bufferCells p pairs0 pairs1 b
   unfolding bufferCells
   mapped-cells b pairs0 pairs1 r d s cells e f l =
-      ap (λ (x : After). x .written) e
+      ap (λ (x : After (List ℕ)). x .written) e
       ∙ ap (λ u. bitsToCells p u cells .written) f
-      ∙ ap (λ (x : After). x .written) (map-accepts p _ cells (length-interleaved (partOf 10752 pairs0 b) (partOf 10752 pairs1 b)) l)
+      ∙ ap (λ (x : After (List ℕ)). x .written) (map-accepts p _ cells (length-interleaved (partOf 10752 pairs0 b) (partOf 10752 pairs1 b)) l)
 
   size-pos : 0 < cellsPerBuffer p * 2
   size-pos = omega (arith, cells-pos p)
@@ -130,9 +131,9 @@ module _ (s a e : ℕ) (ls : s < 48) (ea : a ≡ payloadStart s * 2) (ee : e ≡
       → length overhead ≡ 12288 → Legal overheadRule overhead → length lent ≡ 7424 → d ≡ subFrame cells overhead s
   unfolding subFrame
   sub-frame-is p r d cells overhead lent f lc hc lo ho lf =
-      ap (λ (x : After). x .written) f
+      ap (λ (x : After (List ℕ)). x .written) f
       ∙ ap₂ (λ x y. frameCall p s (part x y cells) overhead lent .written) ea own-part
-      ∙ ap (λ (x : After). x .written)
+      ∙ ap (λ (x : After (List ℕ)). x .written)
       (frame-accepts p s overhead lent (part (payloadStart s * 2) (payloadCells s * 2) cells) (omega arith) lo lf (part-length (payloadStart s * 2) (payloadCells s * 2) cells fits)
       (own-legal s overhead (omega arith) lo ho) (part-legal p (payloadStart s * 2) (payloadCells s * 2) cells fits hc))
     where

@@ -4,7 +4,8 @@ use calls::Refusal;
 use mapper::legal::first_illegal;
 use mapper::mapping;
 ghost use mathlib.Core.Path.{_≡_};
-ghost use Rattle.cells.specs.Calls.{after, bitsToCells, cellsToBits};
+ghost use Rattle.calls.specs.Calls.{after};
+ghost use Rattle.cells.specs.Calls.{bitsToCells, cellsToBits};
 ghost use Rattle.cells.specs.Profiles.{qam16};
 
 // A buffer of bits: 172,032 of them, 21,504 symbols.

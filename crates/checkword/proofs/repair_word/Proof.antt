@@ -1,11 +1,12 @@
--- `checkword::repair_word` meets its contract: one law for each answer.
+-- `checkword::repair_word` meets its contract: the tests in their order, and what it does.
 -- Assumes nothing.
-use Rattle.bch.specs.CallLaws.{repairing}
+use Rattle.calls.specs.CallLaws.{cases}
+use Rattle.bch.specs.CallLaws.{repair-done}
 use borrow.Author.Needs.{needs}
 use Rattle.checkword.proofs.repair_word.Statement.{statement}
 use Rattle.checkword.proofs.repair_word.Tie as tie
 
-ruleset kit = (needs, repairing)
+ruleset kit = (needs, cases, repair-done)
 
 pub repair-word-spec : {M : Type 1} → statement M
 repair-word-spec =

@@ -1,11 +1,12 @@
--- `codec::encode_pair` meets its contract: one law for each case.
+-- `codec::encode_pair` meets its contract: the tests in their order, and what it does.
 -- Assumes nothing.
-use Rattle.ofec.specs.CallLaws.{encode-cases}
+use Rattle.calls.specs.CallLaws.{cases}
+use Rattle.ofec.specs.CallLaws.{encode-done}
 use borrow.Author.Needs.{needs}
 use Rattle.codec.proofs.encode_pair.Statement.{statement}
 use Rattle.codec.proofs.encode_pair.Tie as tie
 
-ruleset kit = (needs, encode-cases)
+ruleset kit = (needs, cases, encode-done)
 
 pub encode-pair-spec : {M : Type 1} → statement M
 encode-pair-spec =

@@ -1,11 +1,12 @@
--- `codec::receive_pair` meets its contract: one law for each case.
+-- `codec::receive_pair` meets its contract: the tests in their order, and what it does.
 -- Assumes nothing.
-use Rattle.ofec.specs.CallLaws.{receive-cases}
+use Rattle.calls.specs.CallLaws.{cases}
+use Rattle.ofec.specs.CallLaws.{receive-done}
 use borrow.Author.Needs.{needs}
 use Rattle.codec.proofs.receive_pair.Statement.{statement}
 use Rattle.codec.proofs.receive_pair.Tie as tie
 
-ruleset kit = (needs, receive-cases)
+ruleset kit = (needs, cases, receive-done)
 
 pub receive-pair-spec : {M : Type 1} → statement M
 receive-pair-spec =
@@ -15,7 +16,7 @@ receive-pair-spec =
     (λ c. search kit)  -- returns-2
     (λ c. search kit)  -- returns-3
     (λ c. search kit)  -- returns-4
-    (λ c. search kit)  -- returns-5
+    (λ c. search kit depth 7)  -- returns-5
     (λ c κs. search kit)  -- receive-into-requires
     (λ c. search kit)  -- add-t20
     (λ c. search kit)  -- same-length

@@ -1,12 +1,14 @@
 -- `framing::frame` meets its contract.
 -- Assumes nothing.
 use borrow.Author.Needs.{needs}
+use Rattle.calls.specs.CallLaws.{cases}
+use Rattle.cells.specs.CallLaws.{legality}
 use Rattle.frames.specs.CallLaws.{judging, frame-done}
 use Rattle.frames.specs.Qam16Flat.{flat}
 use Rattle.framing.proofs.frame.Statement.{statement}
 use Rattle.framing.proofs.frame.Tie as tie
 
-ruleset kit = (needs, judging, flat)
+ruleset kit = (needs, cases, legality, judging, flat)
 
 pub frame-spec : {M : Type 1} → statement M
 frame-spec =

@@ -1,13 +1,16 @@
--- `framing::judge` meets its contract: one law for each case of the calls' definition.
+-- `framing::judge` meets its contract: the tests in their order.
 -- Assumes nothing.
 use borrow.Author.Needs.{needs}
-use Rattle.frames.specs.CallLaws.{sub-frame-cases}
+use Rattle.calls.specs.CallLaws.{tests}
+use Rattle.frames.specs.Calls.{subFrameTests}
+use Rattle.frames.specs.CallLaws.{sub-frame-tests}
 use Rattle.framing.proofs.judge.Statement.{statement}
 use Rattle.framing.proofs.judge.Tie as tie
 
-ruleset kit = (needs, sub-frame-cases)
+ruleset kit = (needs, tests, sub-frame-tests)
 
 pub judge-spec : {M : Type 1} → statement M
+unfolding subFrameTests
 judge-spec =
     tie.close
     (tie.spec
@@ -22,5 +25,5 @@ judge-spec =
     (λ c κs. search needs)  -- overhead-start-requires
     (λ c. search needs)  -- mul-t17
     (λ c. search needs)  -- add-t18
-    (λ c. search kit)  -- returns-5
-    (λ c. search kit))  -- returns-6
+    (λ c. search kit depth 7)  -- returns-5
+    (λ c. search kit depth 7))  -- returns-6

@@ -1,12 +1,14 @@
 -- `framing::unframe` meets its contract.
 -- Assumes nothing.
 use borrow.Author.Needs.{needs}
+use Rattle.calls.specs.CallLaws.{cases}
+use Rattle.cells.specs.CallLaws.{legality}
 use Rattle.frames.specs.CallLaws.{judging, unframe-done}
 use Rattle.frames.specs.Qam16Flat.{flat}
 use Rattle.framing.proofs.unframe.Statement.{statement}
 use Rattle.framing.proofs.unframe.Tie as tie
 
-ruleset kit = (needs, judging, flat)
+ruleset kit = (needs, cases, legality, judging, flat)
 
 pub unframe-spec : {M : Type 1} → statement M
 unframe-spec =

@@ -1,12 +1,13 @@
--- `interleaver::deinterleave` meets its contract: one law for each case.
+-- `interleaver::deinterleave` meets its contract: the tests in their order, and what it does.
 -- Assumes nothing.
 use Rattle.interleaving.specs.BlockBufferLaws.{apart-rows}
-use Rattle.interleaving.specs.CallLaws.{parting}
+use Rattle.calls.specs.CallLaws.{cases}
+use Rattle.interleaving.specs.CallLaws.{part-done}
 use borrow.Author.Needs.{needs}
 use Rattle.interleaver.proofs.deinterleave.Statement.{statement}
 use Rattle.interleaver.proofs.deinterleave.Tie as tie
 
-ruleset kit = (needs, parting, apart-rows)
+ruleset kit = (needs, cases, part-done, apart-rows)
 
 pub deinterleave-spec : {M : Type 1} → statement M
 deinterleave-spec =

@@ -1,12 +1,13 @@
--- `interleaver::interleave` meets its contract: one law for each case.
+-- `interleaver::interleave` meets its contract: the tests in their order, and what it does.
 -- Assumes nothing.
 use Rattle.interleaving.specs.BlockBufferLaws.{interleaved-rows}
-use Rattle.interleaving.specs.CallLaws.{joining}
+use Rattle.calls.specs.CallLaws.{cases}
+use Rattle.interleaving.specs.CallLaws.{join-done}
 use borrow.Author.Needs.{needs}
 use Rattle.interleaver.proofs.interleave.Statement.{statement}
 use Rattle.interleaver.proofs.interleave.Tie as tie
 
-ruleset kit = (needs, joining, interleaved-rows)
+ruleset kit = (needs, cases, join-done, interleaved-rows)
 
 pub interleave-spec : {M : Type 1} → statement M
 interleave-spec =

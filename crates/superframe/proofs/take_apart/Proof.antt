@@ -1,12 +1,13 @@
 -- `superframe::take_apart` meets its contract.
 -- Assumes nothing.
-use Rattle.cells.specs.CallLaws.{demap-legal}
-use Rattle.superframes.specs.ApartLaws.{line-flat, line-legal, apart-cases}
+use Rattle.calls.specs.CallLaws.{cases}
+use Rattle.cells.specs.CallLaws.{legality, demap-legal}
+use Rattle.superframes.specs.ApartLaws.{line-flat, line-legal, apart-done}
 use borrow.Author.Needs.{needs}
 use Rattle.superframe.proofs.take_apart.Statement.{statement}
 use Rattle.superframe.proofs.take_apart.Tie as tie
 
-ruleset kit = (needs, line-flat, apart-cases)
+ruleset kit = (needs, cases, legality, line-flat, apart-done)
 
 pub take-apart-spec : {M : Type 1} → statement M
 take-apart-spec =

@@ -1,13 +1,14 @@
--- `symbols::bits_to_cells` meets its contract: one law for each case of its definition.
+-- `symbols::bits_to_cells` meets its contract: the tests in their order, and what it does.
 -- Assumes nothing.
 use borrow.Author.Needs.{needs}
 use Rattle.cells.specs.Profile.{cellsPerBuffer}
 use Rattle.cells.specs.Profiles.{qam16}
-use Rattle.cells.specs.CallLaws.{map-cases}
+use Rattle.calls.specs.CallLaws.{cases}
+use Rattle.cells.specs.CallLaws.{map-done}
 use Rattle.symbols.proofs.bits_to_cells.Statement.{statement}
 use Rattle.symbols.proofs.bits_to_cells.Tie as tie
 
-ruleset kit = (needs, map-cases)
+ruleset kit = (needs, cases, map-done)
 
 pub bits-to-cells-spec : {M : Type 1} → statement M
 unfolding qam16 cellsPerBuffer

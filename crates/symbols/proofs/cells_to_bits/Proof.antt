@@ -1,14 +1,15 @@
--- `symbols::cells_to_bits` meets its contract: one law for each case of its definition.
+-- `symbols::cells_to_bits` meets its contract: the tests in their order, and what it does.
 -- Assumes nothing.
 use borrow.Author.Needs.{needs}
 use Rattle.cells.specs.Profile.{cellsPerBuffer}
 use Rattle.cells.specs.Cells.{overheadRule, payloadRule}
 use Rattle.cells.specs.Profiles.{qam16}
-use Rattle.cells.specs.CallLaws.{demap-cases}
+use Rattle.calls.specs.CallLaws.{cases}
+use Rattle.cells.specs.CallLaws.{legality, demap-legal, demap-done}
 use Rattle.symbols.proofs.cells_to_bits.Statement.{statement}
 use Rattle.symbols.proofs.cells_to_bits.Tie as tie
 
-ruleset kit = (needs, demap-cases)
+ruleset kit = (needs, cases, legality, demap-legal, demap-done)
 
 pub cells-to-bits-spec : {M : Type 1} → statement M
 unfolding qam16 cellsPerBuffer payloadRule overheadRule

@@ -1,13 +1,17 @@
 -- `linefile::read_answer` meets its contract: the cases of the answer.
 -- Assumes nothing.
-use Rattle.lineformat.specs.ReadingLaws.{read-cases}
+use Rattle.calls.specs.CallLaws.{tests}
+use Rattle.lineformat.specs.OpeningLaws.{answer-of}
+use Rattle.lineformat.specs.Reading.{readAnswer}
+use Rattle.lineformat.specs.ReadingLaws.{open-numbers}
 use borrow.Author.Needs.{needs}
 use Rattle.linefile.proofs.reading.read_answer.Statement.{statement}
 use Rattle.linefile.proofs.reading.read_answer.Tie as tie
 
-ruleset kit = (needs, read-cases)
+ruleset kit = (needs, tests, answer-of, open-numbers)
 
 pub read-answer-spec : {M : Type 1} → statement M
+unfolding readAnswer
 read-answer-spec =
     tie.close
     (tie.spec

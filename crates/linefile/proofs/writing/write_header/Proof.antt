@@ -1,11 +1,12 @@
 -- `linefile::write_header` meets its contract: the cases of the call.
 -- Assumes nothing.
-use Rattle.lineformat.specs.WritingLaws.{write-cases}
+use Rattle.calls.specs.CallLaws.{cases}
+use Rattle.lineformat.specs.WritingLaws.{n-rule, write-done}
 use borrow.Author.Needs.{needs}
 use Rattle.linefile.proofs.writing.write_header.Statement.{statement}
 use Rattle.linefile.proofs.writing.write_header.Tie as tie
 
-ruleset kit = (needs, write-cases)
+ruleset kit = (needs, cases, n-rule, write-done)
 
 pub write-header-spec : {M : Type 1} → statement M
 write-header-spec =

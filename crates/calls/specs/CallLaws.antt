@@ -1,0 +1,210 @@
+-- Laws of calls: the tests one by one, what a refused call leaves, what an accepted one is.
+-- Assumes nothing.
+use mathlib.Core.Path.{_≡_, refl, sym, ap, _∙_}
+use mathlib.Core.Bool.{Bool, true, false, cond, not}
+use mathlib.Core.List.{List, [], _∷_, _++_}
+use mathlib.Core.Logic.{_≢_}
+use Prim.Native.Nat.{ℕ, _<_, _≤_}
+use borrow.Author.Tests.{eq-eqb, ne-eqb, lt-ltb, le-ltb, le-leb, lt-leb, eqb-true, eqb-false, ltb-false, leb-false, not-false}
+use lib.Dec.{eqb, ltb, leb}
+use lib.ListN.{length}
+use Rattle.calls.specs.declared.Refusal.{Refusal}
+use Rattle.calls.specs.declared.Refusal.the-variants.{Misfit, BadHeader, CountSpent, NoSuchFrame, OffGrid}
+use Rattle.calls.specs.declared.Answer.{Answer}
+use Rattle.calls.specs.declared.Answer.the-variants.{Done, Refused}
+use Rattle.calls.specs.Answers.{refusalOf, Accepted, TurnedBack}
+use Rattle.calls.specs.AnswerLaws.{refused-turned}
+use Rattle.calls.specs.Calls.{After, after, Test, misfit, shortFile, badHeader, countSpent, noSubFrame, noSuperFrame, offGrid, verdict, andThen, ends, call}
+
+-- ---- the answer, test by test
+
+module _ (t : Test) (ts : List Test) where
+  pub refuses : t .refuses ≡ true → Refused (t .refusal) ≡ verdict (t ∷ ts)
+  unfolding verdict
+  refuses e = simp e
+
+  pub passes : (a : Answer) → t .refuses ≡ false → a ≡ verdict ts → a ≡ verdict (t ∷ ts)
+  unfolding verdict
+  passes a e f = f ∙ simp e
+
+pub none-left : Done 0 ≡ verdict []
+unfolding verdict
+none-left = refl
+
+-- The tests of the table: what refuses, and what passes.
+module _ (ts : List Test) where
+  module _ (s : List ℕ) (n : ℕ) where
+    pub is-misfit : length s ≢ n → Refused Misfit ≡ verdict (misfit s n ∷ ts)
+    unfolding misfit
+    is-misfit h = refuses (misfit s n) ts (simp (ne-eqb _ _ h))
+
+    pub no-misfit : (a : Answer) → length s ≡ n → a ≡ verdict ts → a ≡ verdict (misfit s n ∷ ts)
+    unfolding misfit
+    no-misfit a h = passes (misfit s n) ts a (simp (eq-eqb _ _ h))
+
+  module _ (size : ℕ) where
+    pub is-short-file : size < 16 → Refused Misfit ≡ verdict (shortFile size ∷ ts)
+    unfolding shortFile
+    is-short-file h = refuses (shortFile size) ts (lt-ltb _ _ h)
+
+    pub no-short-file : (a : Answer) → 16 ≤ size → a ≡ verdict ts → a ≡ verdict (shortFile size ∷ ts)
+    unfolding shortFile
+    no-short-file a h = passes (shortFile size) ts a (le-ltb _ _ h)
+
+  module _ (holds : Bool) where
+    pub is-bad-header : holds ≡ false → Refused BadHeader ≡ verdict (badHeader holds ∷ ts)
+    unfolding badHeader
+    is-bad-header h = refuses (badHeader holds) ts (simp h)
+
+    pub no-bad-header : (a : Answer) → holds ≡ true → a ≡ verdict ts → a ≡ verdict (badHeader holds ∷ ts)
+    unfolding badHeader
+    no-bad-header a h = passes (badHeader holds) ts a (simp h)
+
+  module _ (P : ℕ) where
+    pub is-spent : P ≡ 4294967295 → Refused CountSpent ≡ verdict (countSpent P ∷ ts)
+    unfolding countSpent
+    is-spent h = refuses (countSpent P) ts (eq-eqb _ _ h)
+
+    pub not-spent : (a : Answer) → P ≢ 4294967295 → a ≡ verdict ts → a ≡ verdict (countSpent P ∷ ts)
+    unfolding countSpent
+    not-spent a h = passes (countSpent P) ts a (ne-eqb _ _ h)
+
+  module _ (s : ℕ) where
+    pub no-sub-frame : 47 < s → Refused NoSuchFrame ≡ verdict (noSubFrame s ∷ ts)
+    unfolding noSubFrame
+    no-sub-frame h = refuses (noSubFrame s) ts (lt-ltb _ _ h)
+
+    pub sub-frame : (a : Answer) → s ≤ 47 → a ≡ verdict ts → a ≡ verdict (noSubFrame s ∷ ts)
+    unfolding noSubFrame
+    sub-frame a h = passes (noSubFrame s) ts a (le-ltb _ _ h)
+
+  module _ (q n : ℕ) where
+    pub no-super-frame : n ≤ q → Refused NoSuchFrame ≡ verdict (noSuperFrame q n ∷ ts)
+    unfolding noSuperFrame
+    no-super-frame h = refuses (noSuperFrame q n) ts (le-leb _ _ h)
+
+    pub super-frame : (a : Answer) → q < n → a ≡ verdict ts → a ≡ verdict (noSuperFrame q n ∷ ts)
+    unfolding noSuperFrame
+    super-frame a h = passes (noSuperFrame q n) ts a (lt-leb _ _ h)
+
+  module _ (index at n : ℕ) where
+    pub is-off-grid : (i : ℕ) → i ≡ index → at < n → Refused (OffGrid i) ≡ verdict (offGrid index at n ∷ ts)
+    unfolding offGrid
+    is-off-grid i e h = ap (λ j. Refused (OffGrid j)) e ∙ refuses (offGrid index at n) ts (lt-ltb _ _ h)
+
+    pub on-grid : (a : Answer) → n ≤ at → a ≡ verdict ts → a ≡ verdict (offGrid index at n ∷ ts)
+    unfolding offGrid
+    on-grid a h = passes (offGrid index at n) ts a (le-ltb _ _ h)
+
+-- What is made of a test's outcome is made of each of the two.
+pub by-test : {A B : Type 0} (f : A → B) (t : Bool) (x y : A) → f (cond t x y) ≡ cond t (f x) (f y)
+by-test f true x y = refl
+by-test f false x y = refl
+
+-- Tests of which the first are made apart, with answer a.
+verdict-append : (ts us : List Test) → verdict (ts ++ us) ≡ andThen (verdict ts) (verdict us)
+unfolding verdict
+verdict-append [] us = refl
+verdict-append (t ∷ ts) us = ap (cond (t .refuses) (Refused (t .refusal))) (verdict-append ts us) ∙ sym (by-test (λ a. andThen a (verdict us)) (t .refuses) _ _)
+
+module _ (ts us : List Test) (a : Answer) (e : a ≡ verdict ts) where
+  pub first-refused : (r : Refusal) → a ≡ Refused r → Refused r ≡ verdict (ts ++ us)
+  first-refused r f = sym (verdict-append ts us ∙ ap (λ x. andThen x (verdict us)) (sym e ∙ f))
+
+  pub first-passed : (v : ℕ) (b : Answer) → a ≡ Done v → b ≡ verdict us → b ≡ verdict (ts ++ us)
+  first-passed v b f g = g ∙ sym (verdict-append ts us ∙ ap (λ x. andThen x (verdict us)) (sym e ∙ f))
+
+-- ---- the call
+
+module _ {B : Type 0} (ts : List Test) (lent : B) (done : After B) where
+  pub call-refused : (r : Refusal) → Refused r ≡ verdict ts → after (Refused r) lent ≡ call ts lent done
+  unfolding call
+  call-refused r e = ap (λ a. ends a lent done) e
+
+  pub call-done : (x : After B) → Done 0 ≡ verdict ts → x ≡ done → x ≡ call ts lent done
+  unfolding call
+  call-done x e f = f ∙ ap (λ a. ends a lent done) e
+
+pub ruleset tests = (
+  none-left,
+  is-misfit,
+  no-misfit,
+  is-short-file,
+  no-short-file,
+  is-bad-header,
+  no-bad-header,
+  is-spent,
+  not-spent,
+  no-sub-frame,
+  sub-frame,
+  no-super-frame,
+  super-frame,
+  is-off-grid,
+  on-grid,
+  first-refused,
+  first-passed,
+)
+
+pub ruleset cases = (tests, call-refused, call-done)
+
+-- ---- accepted and refused calls
+
+-- No test refuses.
+abbrev pub Passed : List Test → Type 0
+Passed [] = Unit {0}
+Passed (t ∷ ts) = (t .refuses ≡ false) × Passed ts
+
+pub passed-all : (ts : List Test) (v : ℕ) → verdict ts ≡ Done v → Passed ts
+unfolding verdict
+passed-all [] v e = tt
+passed-all (t ∷ ts) v e = go (t .refuses) refl (passed-all ts v)
+  where
+    go : (b : Bool) → t .refuses ≡ b → (verdict ts ≡ Done v → Passed ts) → Passed (t ∷ ts)
+    go true p rest = absurd (refused-turned (t .refusal) (ap refusalOf (refuses t ts p ∙ e)))
+    go false p rest = (p, rest (passes t ts (verdict ts) p refl ∙ e))
+
+-- What a test that passed tells.
+pub fits : (s : List ℕ) (n : ℕ) → misfit s n .refuses ≡ false → length s ≡ n
+unfolding misfit
+fits s n e = eqb-true _ _ (not-false _ e)
+
+pub long-file : (size : ℕ) → shortFile size .refuses ≡ false → 16 ≤ size
+unfolding shortFile
+long-file size e = ltb-false _ _ e
+
+pub rules-kept : (holds : Bool) → badHeader holds .refuses ≡ false → holds ≡ true
+unfolding badHeader
+rules-kept holds e = not-false _ e
+
+pub unspent : (P : ℕ) → countSpent P .refuses ≡ false → P ≢ 4294967295
+unfolding countSpent
+unspent P e = eqb-false _ _ e
+
+pub has-sub-frame : (s : ℕ) → noSubFrame s .refuses ≡ false → s ≤ 47
+unfolding noSubFrame
+has-sub-frame s e = ltb-false _ _ e
+
+pub has-super-frame : (q n : ℕ) → noSuperFrame q n .refuses ≡ false → q < n
+unfolding noSuperFrame
+has-super-frame q n e = leb-false _ _ e
+
+pub ruleset told = (fits, long-file, rules-kept, unspent, has-sub-frame, has-super-frame)
+
+module _ {B : Type 0} (ts : List Test) (lent : B) (done : After B) where
+  -- An accepted call passed every test, and is done.
+  pub call-accepted : Accepted (call ts lent done .answer) → Passed ts × (call ts lent done ≡ done)
+  unfolding call
+  call-accepted ok = go (verdict ts) refl
+    where
+      go : (a : Answer) → verdict ts ≡ a → Passed ts × (call ts lent done ≡ done)
+      go (Done v) e = (passed-all ts v e, ap (λ x. ends x lent done) e)
+      go (Refused r) e = absurd (refused-turned r (sym (ap (λ x. refusalOf (ends x lent done .answer)) e) ∙ ok))
+
+  -- A refused call leaves what it may write as it was lent.
+  pub call-keeps : Accepted (done .answer) → TurnedBack (call ts lent done .answer) → call ts lent done .written ≡ lent
+  unfolding call
+  call-keeps ok bad = go (verdict ts) refl
+    where
+      go : (a : Answer) → verdict ts ≡ a → call ts lent done .written ≡ lent
+      go (Done v) e = absurd (bad (ap (λ x. refusalOf (ends x lent done .answer)) e ∙ ok))
+      go (Refused r) e = ap (λ x. ends x lent done .written) e
