@@ -8,20 +8,25 @@ use lib.ListN.{length}
 use Rattle.calls.specs.declared.Answer.the-variants.{Done}
 use Rattle.calls.specs.Answers.{refusalOf, Accepted, TurnedBack}
 use Rattle.calls.specs.AnswerLaws.{turned-value}
+use Rattle.calls.specs.Calls.{after}
 use Rattle.calls.specs.CallLaws.{cases, told, call-accepted, call-keeps}
 use Rattle.calls.specs.Sequences.{not-lent, Keeping, Separate}
 use Rattle.calls.specs.SequenceLaws.{part-kept}
 use Rattle.ofec.specs.History.{depth, shift}
 use Rattle.ofec.specs.Encoding.{encoded}
 use Rattle.ofec.specs.Receiving.{newestPair, payloadOut, marks}
-use Rattle.ofec.specs.Calls.{EncodeBuffers, encodeBuffers, Encoded, afterEncode, encodeCall, ReceiveBuffers, receiveBuffers, Received, afterReceive, receiveCall, state, Encoding, Receiving, encode, receive, Encodings, Receivings}
+use Rattle.ofec.specs.Calls.{EncodeBuffers, encodeBuffers, Encoded, encodePair, encodeCall, ReceiveBuffers, receiveBuffers, Received, receivePair, receiveCall, state, Encoding, Receiving, encode, receive, Encodings, Receivings}
 
 -- ---- encoding
 
 -- Where no test refuses, the call is done.
-pub encode-done : (payload coded history : List ℕ) (P : ℕ) → length payload ≡ 444 → length coded ≡ 512 → (q h : List ℕ) → length history ≡ 512 * depth
-    → P ≢ 4294967295 → q ≡ encoded depth history P payload → h ≡ shift history q → afterEncode (Done (P + 1)) q h ≡ encodeCall payload coded history P
-encode-done payload coded history P a b q h c d eq eh = rw (eh, eq) (search cases depth 8)
+pub encode-done : (payload coded history : List ℕ) (P : ℕ) → length payload ≡ 444 → length coded ≡ 512 → length history ≡ 512 * depth → P ≢ 4294967295
+    → (w : EncodeBuffers) → w ≡ encodePair history P payload → after (Done (P + 1)) w ≡ encodeCall payload coded history P
+encode-done payload coded history P a b c d w e = rw e (search cases depth 8)
+
+-- As a worker writes the two.
+pub encode-written : (history payload q h : List ℕ) (P : ℕ) → q ≡ encoded depth history P payload → h ≡ shift history q → encodeBuffers q h ≡ encodePair history P payload
+encode-written history payload q h P eq eh = rw (eh, eq)
 
 -- Every lent buffer of its length, and a pair number that is not spent.
 pub record EncodeFits (c : Encoding) : Type 0 where
@@ -32,9 +37,7 @@ pub record EncodeFits (c : Encoding) : Type 0 where
 
 -- What a call leaves where it is done.
 abbrev pub encodeDone : Encoding → Encoded
-encodeDone c =
-    afterEncode (Done (c .pair + 1)) (encoded depth (c .history) (c .pair) (c .payload))
-    (shift (c .history) (encoded depth (c .history) (c .pair) (c .payload)))
+encodeDone c = after (Done (c .pair + 1)) (encodePair (c .history) (c .pair) (c .payload))
 
 -- An accepted call fits, and leaves what encoding gives.
 pub encode-accepted : (c : Encoding) → Accepted (encode c .answer) → EncodeFits c × (encode c ≡ encodeDone c)
@@ -49,7 +52,7 @@ pub encode-accepts : (c : Encoding) → EncodeFits c → Accepted (encode c .ans
 unfolding encode
 encode-accepts c f =
     ap (λ (a : Encoded). refusalOf (a .answer))
-    (sym (encode-done (c .payload) (c .coded) (c .history) (c .pair) (f .payload) (f .coded) _ _ (f .history) (f .pair) refl refl))
+    (sym (encode-done (c .payload) (c .coded) (c .history) (c .pair) (f .payload) (f .coded) (f .history) (f .pair) _ refl))
 
 -- A refused call leaves every lent buffer as it was, and the pair number.
 pub encode-refused : (c : Encoding) → TurnedBack (encode c .answer) → encode c .written ≡ encodeBuffers (c .coded) (c .history)
@@ -67,10 +70,13 @@ encode-separate c s = (not-lent, not-lent)
 
 -- ---- receiving
 
-pub receive-done : (coded payload marks′ history : List ℕ) (P : ℕ) → length coded ≡ 512 → length payload ≡ 444 → length marks′ ≡ 32 → (y m h : List ℕ)
-    → length history ≡ 512 * depth → P ≢ 4294967295 → y ≡ payloadOut depth history P coded → m ≡ marks depth history P coded
-    → h ≡ shift history (newestPair depth history P coded) → afterReceive (Done (P + 1)) y m h ≡ receiveCall coded payload marks′ history P
-receive-done coded payload marks′ history P a b c y m h d e ey em eh = rw (ey, em, eh) (search cases depth 9)
+pub receive-done : (coded payload marks′ history : List ℕ) (P : ℕ) → length coded ≡ 512 → length payload ≡ 444 → length marks′ ≡ 32 → length history ≡ 512 * depth
+    → P ≢ 4294967295 → (w : ReceiveBuffers) → w ≡ receivePair depth history P coded → after (Done (P + 1)) w ≡ receiveCall coded payload marks′ history P
+receive-done coded payload marks′ history P a b c d e w ew = rw ew (search cases depth 9)
+
+pub receive-written : (history coded y m h : List ℕ) (P : ℕ) → y ≡ payloadOut depth history P coded → m ≡ marks depth history P coded
+    → h ≡ shift history (newestPair depth history P coded) → receiveBuffers y m h ≡ receivePair depth history P coded
+receive-written history coded y m h P ey em eh = rw (ey, em, eh)
 
 pub record ReceiveFits (c : Receiving) : Type 0 where
   pub coded : length (c .coded) ≡ 512
@@ -81,9 +87,7 @@ pub record ReceiveFits (c : Receiving) : Type 0 where
 
 -- What a call leaves where it is done, with a history of n pairs.
 abbrev pub receiveDone : ℕ → Receiving → Received
-receiveDone n c =
-    afterReceive (Done (c .pair + 1)) (payloadOut n (c .history) (c .pair) (c .coded)) (marks n (c .history) (c .pair) (c .coded))
-    (shift (c .history) (newestPair n (c .history) (c .pair) (c .coded)))
+receiveDone n c = after (Done (c .pair + 1)) (receivePair n (c .history) (c .pair) (c .coded))
 
 pub receive-accepted : (c : Receiving) → Accepted (receive c .answer) → ReceiveFits c × (receive c ≡ receiveDone depth c)
 unfolding receive
@@ -96,7 +100,7 @@ pub receive-accepts : (c : Receiving) → ReceiveFits c → Accepted (receive c 
 unfolding receive
 receive-accepts c f =
     ap (λ (a : Received). refusalOf (a .answer))
-    (sym (receive-done (c .coded) (c .payload) (c .marks) (c .history) (c .pair) (f .coded) (f .payload) (f .marks) _ _ _ (f .history) (f .pair) refl refl refl))
+    (sym (receive-done (c .coded) (c .payload) (c .marks) (c .history) (c .pair) (f .coded) (f .payload) (f .marks) (f .history) (f .pair) _ refl))
 
 pub receive-refused : (c : Receiving) → TurnedBack (receive c .answer) → receive c .written ≡ receiveBuffers (c .payload) (c .marks) (c .history)
 unfolding receive

@@ -30,10 +30,14 @@ Encoded = After EncodeBuffers
 abbrev pub afterEncode : Answer → List ℕ → List ℕ → Encoded
 afterEncode a coded history = after a (encodeBuffers coded history)
 
+-- What encoding a pair gives: its coded bytes, and the shifted history.
+abbrev pub encodePair : List ℕ → ℕ → List ℕ → EncodeBuffers
+encodePair history P payload = encodeBuffers (encoded depth history P payload) (shift history (encoded depth history P payload))
+
 abbrev pub encodeCall : List ℕ → List ℕ → List ℕ → ℕ → Encoded
 encodeCall payload coded history P =
     call (misfit payload 444 ∷ misfit coded 512 ∷ misfit history (512 * depth) ∷ countSpent P ∷ []) (encodeBuffers coded history)
-    (afterEncode (Done (P + 1)) (encoded depth history P payload) (shift history (encoded depth history P payload)))
+    (after (Done (P + 1)) (encodePair history P payload))
 
 -- ---- receiving a pair
 
@@ -51,10 +55,14 @@ Received = After ReceiveBuffers
 abbrev pub afterReceive : Answer → List ℕ → List ℕ → List ℕ → Received
 afterReceive a payload marks history = after a (receiveBuffers payload marks history)
 
+-- What receiving a pair gives, with a history of n pairs: payload and marks, and the history with the repaired pair.
+abbrev pub receivePair : ℕ → List ℕ → ℕ → List ℕ → ReceiveBuffers
+receivePair n history P coded = receiveBuffers (payloadOut n history P coded) (marks n history P coded) (shift history (newestPair n history P coded))
+
 abbrev pub receiveCall : List ℕ → List ℕ → List ℕ → List ℕ → ℕ → Received
 receiveCall coded payload marks′ history P =
     call (misfit coded 512 ∷ misfit payload 444 ∷ misfit marks′ 32 ∷ misfit history (512 * depth) ∷ countSpent P ∷ []) (receiveBuffers payload marks′ history)
-    (afterReceive (Done (P + 1)) (payloadOut depth history P coded) (marks depth history P coded) (shift history (newestPair depth history P coded)))
+    (after (Done (P + 1)) (receivePair depth history P coded))
 
 -- ---- lists of calls
 

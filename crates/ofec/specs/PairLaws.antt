@@ -13,29 +13,12 @@ use lib.Dec.{eqb, ltb}
 use lib.ListN.{length}
 use Rattle.bits.specs.Bits.{bit}
 use Rattle.bits.specs.BitLaws.{bit-pack, length-pack}
+use Rattle.bits.specs.LeastLaws.{least-only}
 use Rattle.bits.specs.Xor.{_⊕_}
 use Rattle.bch.specs.CodeWord.{Word}
 use Rattle.ofec.specs.Rows.{backBit}
 use Rattle.ofec.specs.RowLaws.{xor-16, xor-back, backPlace, payloadIndex-low, payloadIndex-high, payloadIndex-lt}
-use Rattle.ofec.specs.Pairs.{pairIndex, pairBit, the, seat, laidOut, codedIndex, ownIndex, codedPair, payloadOf}
-
--- ---- the number that passes a test
-
-none-above : (n : ℕ) (test : ℕ → Bool) (i : ℕ) → ((j : ℕ) → j < suc n → test j ≡ true → j ≡ i) → n ≢ i → test n ≡ false
-none-above n test i only ne = go (test n) refl
-  where
-    go : (b : Bool) → test n ≡ b → test n ≡ false
-    go true e = absurd (ne (only n (omega arith) e))
-    go false e = e
-
-pub the-is : (n : ℕ) (test : ℕ → Bool) (i : ℕ) → i < n → test i ≡ true → ((j : ℕ) → j < n → test j ≡ true → j ≡ i) → the n test ≡ i
-unfolding the
-the-is zero test i l e only = absurd (omega arith)
-the-is (suc n) test i l e only = go (ℕ-discrete n i) (λ l′. the-is n test i l′ e (λ j lj ej. only j (omega arith) ej))
-  where
-    go : Dec (n ≡ i) → (i < n → the n test ≡ i) → cond (test n) n (the n test) ≡ i
-    go (yes p) below = let t : test n ≡ true = ap test p ∙ e in rw t p
-    go (no q) below = let t : test n ≡ false = none-above n test i only q in rw t (below (omega arith))
+use Rattle.ofec.specs.Pairs.{pairIndex, pairBit, seat, laidOut, codedIndex, ownIndex, codedPair, payloadOf}
 
 -- ---- a layout with an inverse
 
@@ -44,7 +27,7 @@ module _ (n : ℕ) (index : ℕ → ℕ → ℕ) (word place : ℕ → ℕ)
   seat-at : (w k : ℕ) → w < 32 → k < n → seat n index (index w k) ≡ w * n + k
   unfolding seat
   seat-at w k lw lk =
-      the-is (32 * n) (λ m. eqb (index (m / n) (m % n)) (index w k)) (w * n + k) (digits-lt lw lk)
+      least-only (32 * n) (λ m. eqb (index (m / n) (m % n)) (index w k)) (w * n + k) (digits-lt lw lk)
       (eq-eqb _ _ (ap₂ index (digits-div w lk) (digits-mod w lk)))
       (λ m lm t. let e : index (m / n) (m % n) ≡ index w k = eqb-true _ _ t in
       let p = back (m / n) (m % n) (div-lt-iff-lt-mul positive .1 lm) (mod-lt m positive) in

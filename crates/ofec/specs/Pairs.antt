@@ -1,10 +1,10 @@
 -- Coded pairs and payloads as bytes, of the 32 words of a pair. 01, "Rows and pairs": "Work goes by pairs: pair P is rows 2P and 2P+1."
 -- Assumes nothing.
-use mathlib.Core.Bool.{Bool, cond}
 use mathlib.Core.List.{List}
-use Prim.Native.Nat.{ℕ, zero, suc, _+_, _*_, _/_, _%_}
+use Prim.Native.Nat.{ℕ, _+_, _*_, _/_, _%_}
 use lib.Dec.{eqb}
 use Rattle.bits.specs.Bits.{bit, pack}
+use Rattle.bits.specs.Least.{least}
 use Rattle.bch.specs.CodeWord.{Word}
 use Rattle.ofec.specs.Rows.{RowBits, backBit, payloadIndex}
 
@@ -23,15 +23,10 @@ rowOf P w = 2 * P + w / 16
 abbrev pub bitRowOf : ℕ → ℕ
 bitRowOf w = w % 16
 
--- The number below n that passes a test; 0 where none does.
-unfoldable pub the : ℕ → (ℕ → Bool) → ℕ
-the zero test = 0
-the (suc n) test = cond (test n) n (the n test)
-
 -- Bits of the 32 words laid out by an index, which says where bit 128+k of word w stands, k below n. At i stands the bit whose
 -- index is i: of the word `seat / n`, bit 128 + `seat mod n`.
 unfoldable pub seat : ℕ → (ℕ → ℕ → ℕ) → ℕ → ℕ
-seat n index i = the (32 * n) (λ m. eqb (index (m / n) (m % n)) i)
+seat n index i = least (32 * n) (λ m. eqb (index (m / n) (m % n)) i)
 
 unfoldable pub laidOut : ℕ → (ℕ → ℕ → ℕ) → (ℕ → Word) → ℕ → ℕ
 laidOut n index words i = words (seat n index i / n) (128 + seat n index i % n)

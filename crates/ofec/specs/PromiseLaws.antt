@@ -13,6 +13,7 @@ use Rattle.bits.specs.Bits.{bit}
 use Rattle.bits.specs.CountLaws.{distance-ext}
 use Rattle.calls.specs.declared.Answer.the-variants.{Done}
 use Rattle.calls.specs.Answers.{valueOr, Accepted}
+use Rattle.calls.specs.Calls.{after}
 use Rattle.calls.specs.Sequences.{At, Run, accepted}
 use Rattle.calls.specs.SequenceLaws.{At-lt, At-find, At-map, is-accepted, lent-at}
 use Rattle.bits.specs.Xor.{_⊕_}
@@ -32,7 +33,7 @@ use Rattle.ofec.specs.SentLaws.{encoderHistory, encoder-right}
 use Rattle.ofec.specs.Receiving.{repairOf, mendedWord, newestPair, payloadOut, marks}
 use Rattle.ofec.specs.ReceivingLaws.{newest-bit, payload-bit, mark-is, repair-of, mended-word, word-outcome, receiverHistory, receiver-right}
 use Rattle.ofec.specs.WordLaws.{Outcome}
-use Rattle.ofec.specs.Calls.{Encoded, Received, afterReceive, State, state, start, Encoding, Receiving, encode, receive, Encodings, Receivings, payloads}
+use Rattle.ofec.specs.Calls.{Encoded, Received, afterReceive, receivePair, State, state, start, Encoding, Receiving, encode, receive, Encodings, Receivings, payloads}
 use Rattle.ofec.specs.CallLaws.{encode-accepted, encode-keeps, receiveDone, receive-accepted, receive-keeps}
 use Rattle.ofec.specs.Promise.{Holds, Takes, wrongBits, Limit, markOf, NotLost, Lost, AsSent, Promise}
 
@@ -105,10 +106,9 @@ module _ (cs : List Receiving) (pair : ℕ → List ℕ) (in-order : (P : ℕ) (
   received-made P c a =
       let lent = receiver-lent P c a in
       receive-accepted c (is-accepted Receivings cs a) .1
-      ∙ ap₂ (λ h Q. afterReceive (Done (Q + 1)) (payloadOut depth h Q (c .coded)) (marks depth h Q (c .coded)) (shift h (newestPair depth h Q (c .coded))))
+      ∙ ap₂ (λ h Q. after (Done (Q + 1)) (receivePair depth h Q (c .coded)))
       (ap (λ (s : State). s .history) lent) (ap (λ (s : State). s .pair) lent)
-      ∙ ap (λ y. afterReceive (Done (P + 1)) (payloadOut depth (receiverHistory depth pair P) P y) (marks depth (receiverHistory depth pair P) P y)
-      (shift (receiverHistory depth pair P) (newestPair depth (receiverHistory depth pair P) P y))) (in-order P c a)
+      ∙ ap (λ y. after (Done (P + 1)) (receivePair depth (receiverHistory depth pair P) P y)) (in-order P c a)
 
 -- ---- one word, checked, of a call on pair R div 2 with a history of n pairs that is right and a pair that was delivered
 

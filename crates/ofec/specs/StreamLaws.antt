@@ -13,13 +13,14 @@ use Rattle.bits.specs.Parts.{part, partOf, byteOfEach, endToEnd}
 use Rattle.bits.specs.PartLaws.{part-long, each-block}
 use Rattle.calls.specs.declared.Answer.{Answer}
 use Rattle.calls.specs.declared.Answer.the-variants.{Done}
+use Rattle.calls.specs.Calls.{after}
 use Rattle.ofec.specs.History.{depth, shift, fresh}
 use Rattle.ofec.specs.HistoryLaws.{length-shift, historyAfter}
 use Rattle.ofec.specs.Encoding.{encoded}
 use Rattle.ofec.specs.EncodingLaws.{length-encoded}
 use Rattle.ofec.specs.ReceivingLaws.{length-payloadOut, length-marks}
 use Rattle.ofec.specs.Receiving.{newestPair, payloadOut, marks}
-use Rattle.ofec.specs.Calls.{Encoded, afterEncode, encodeCall, Received, afterReceive, receiveCall}
+use Rattle.ofec.specs.Calls.{Encoded, afterEncode, encodePair, encodeCall, Received, afterReceive, receivePair, receiveCall}
 use Rattle.ofec.specs.CallLaws.{encode-done, receive-done}
 use Rattle.ofec.specs.Stream.{Gives, Coder, encoder, receiver, historyAt, givenAt, givenOver, historyOver, historyBefore}
 
@@ -34,11 +35,11 @@ module _ (w m k a e : ℕ) (lk : k < m) (ea : a ≡ k * w) (ee : e ≡ a + w) (s
 module _ (m k a e : ℕ) (lk : k < m) (ea : a ≡ k * 444) (ee : e ≡ a + 444) (number : ℕ) (ln : number < 4294967295) (payload : List ℕ) (lp : length payload ≡ m * 444)
     (r : Answer) (c h coded history : List ℕ) (is : afterEncode r c h ≡ encodeCall (part a (e - a) payload) coded history number) (lc : length coded ≡ 512)
     (lh : length history ≡ 512 * depth) where
-  encode-left : afterEncode r c h ≡ afterEncode (Done (number + 1)) (encoded depth history number (partOf 444 payload k)) (shift history (encoded depth history number (partOf 444 payload k)))
+  encode-left : afterEncode r c h ≡ after (Done (number + 1)) (encodePair history number (partOf 444 payload k))
   encode-left =
       is
-      ∙ sym (encode-done (part a (e - a) payload) coded history number (part-long a e 444 payload ee (omega arith)) lc _ _ lh (omega arith) refl refl)
-      ∙ ap (λ s. afterEncode (Done (number + 1)) (encoded depth history number s) (shift history (encoded depth history number s))) (lent-is 444 m k a e lk ea ee payload lp)
+      ∙ sym (encode-done (part a (e - a) payload) coded history number (part-long a e 444 payload ee (omega arith)) lc lh (omega arith) _ refl)
+      ∙ ap (λ s. after (Done (number + 1)) (encodePair history number s)) (lent-is 444 m k a e lk ea ee payload lp)
 
   pub pair-coded : c ≡ encoded depth history number (partOf 444 payload k)
   pair-coded = ap (λ (x : Encoded). x .written .coded) encode-left
@@ -50,13 +51,11 @@ module _ (m k a e : ℕ) (lk : k < m) (ea : a ≡ k * 444) (ee : e ≡ a + 444) 
 module _ (m k a e : ℕ) (lk : k < m) (ea : a ≡ k * 512) (ee : e ≡ a + 512) (number : ℕ) (ln : number < 4294967295) (coded : List ℕ) (lc : length coded ≡ m * 512)
     (r : Answer) (y w h payload marks′ history : List ℕ) (is : afterReceive r y w h ≡ receiveCall (part a (e - a) coded) payload marks′ history number)
     (lp : length payload ≡ 444) (lm : length marks′ ≡ 32) (lh : length history ≡ 512 * depth) where
-  receive-left : afterReceive r y w h ≡ afterReceive (Done (number + 1)) (payloadOut depth history number (partOf 512 coded k)) (marks depth history number (partOf 512 coded k))
-      (shift history (newestPair depth history number (partOf 512 coded k)))
+  receive-left : afterReceive r y w h ≡ after (Done (number + 1)) (receivePair depth history number (partOf 512 coded k))
   receive-left =
       is
-      ∙ sym (receive-done (part a (e - a) coded) payload marks′ history number (part-long a e 512 coded ee (omega arith)) lp lm _ _ _ lh (omega arith) refl refl refl)
-      ∙ ap (λ s. afterReceive (Done (number + 1)) (payloadOut depth history number s) (marks depth history number s) (shift history (newestPair depth history number s)))
-      (lent-is 512 m k a e lk ea ee coded lc)
+      ∙ sym (receive-done (part a (e - a) coded) payload marks′ history number (part-long a e 512 coded ee (omega arith)) lp lm lh (omega arith) _ refl)
+      ∙ ap (λ s. after (Done (number + 1)) (receivePair depth history number s)) (lent-is 512 m k a e lk ea ee coded lc)
 
   pub pair-payload : y ≡ payloadOut depth history number (partOf 512 coded k)
   pair-payload = ap (λ (x : Received). x .written .payload) receive-left

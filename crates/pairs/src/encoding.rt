@@ -8,8 +8,9 @@ ghost use Prim.Native.Nat.{_*_, _<_};
 ghost use lib.ListN.{length};
 ghost use Rattle.bits.specs.Bits.{pack};
 ghost use Rattle.layout.specs.BackHalves.{backHalf, backHalves};
-ghost use Rattle.ofec.specs.History.{depth, shift};
-ghost use Rattle.ofec.specs.Encoding.{encodedWord, encoded};
+ghost use Rattle.ofec.specs.History.{depth};
+ghost use Rattle.ofec.specs.Encoding.{encodedWord};
+ghost use Rattle.ofec.specs.Calls.{encodeBuffers, encodePair};
 
 // The back half of word w.
 fn encode_word(history: &[u8], payload: &[u8], pair: u32, w: usize, back: &mut [u8])
@@ -36,7 +37,7 @@ fn encode_words(history: &[u8], payload: &[u8], pair: u32, backs: &mut [u8])
 // The coded pair, which then enters the history.
 pub fn encode_into(payload: &[u8], coded: &mut [u8], history: &mut [u8], pair: u32)
     requires { ⌜ (length (now payload) ≡ 444) × (length (now coded) ≡ 512) × (length (now history) ≡ 512 * depth) ⌝ }
-    ensures { λ _. ⌜ (now (coded .exit) ≡ encoded depth (now (history .entry)) pair (now (payload .entry))) × (now (history .exit) ≡ shift (now (history .entry)) (now (coded .exit))) ⌝ }
+    ensures { λ _. ⌜ encodeBuffers (now (coded .exit)) (now (history .exit)) ≡ encodePair (now (history .entry)) pair (now (payload .entry)) ⌝ }
 {
     let mut backs = [0u8; 512];
     encode_words(history, payload, pair, &mut backs);

@@ -10,8 +10,9 @@ ghost use lib.ListN.{length};
 ghost use Rattle.bits.specs.Bits.{pack};
 ghost use Rattle.bch.specs.Repair.{mark};
 ghost use Rattle.layout.specs.BackHalves.{backHalf, backHalves};
-ghost use Rattle.ofec.specs.History.{depth, shift};
-ghost use Rattle.ofec.specs.Receiving.{repairOf, mendedWord, newestPair, payloadOut, marks as marksOf};
+ghost use Rattle.ofec.specs.History.{depth};
+ghost use Rattle.ofec.specs.Receiving.{repairOf, mendedWord, marks as marksOf};
+ghost use Rattle.ofec.specs.Calls.{receiveBuffers, receivePair};
 
 // The repaired back half of word w, and its mark.
 fn receive_word(history: &[u8], coded: &[u8], pair: u32, w: usize, back: &mut [u8]) -> u8
@@ -45,7 +46,7 @@ pub fn receive_into(
     pair: u32,
 )
     requires { ⌜ (length (now coded) ≡ 512) × (length (now payload) ≡ 444) × (length (now marks) ≡ 32) × (length (now history) ≡ 512 * depth) ⌝ }
-    ensures { λ _. ⌜ (now (payload .exit) ≡ payloadOut depth (now (history .entry)) pair (now (coded .entry))) × (now (marks .exit) ≡ marksOf depth (now (history .entry)) pair (now (coded .entry))) × (now (history .exit) ≡ shift (now (history .entry)) (newestPair depth (now (history .entry)) pair (now (coded .entry)))) ⌝ }
+    ensures { λ _. ⌜ receiveBuffers (now (payload .exit)) (now (marks .exit)) (now (history .exit)) ≡ receivePair depth (now (history .entry)) pair (now (coded .entry)) ⌝ }
 {
     let mut backs = [0u8; 512];
     receive_words(history, coded, pair, &mut backs, marks);

@@ -5,11 +5,12 @@ use calls::Refusal;
 use mapper::legal::first_illegal;
 ghost use mathlib.Core.Path.{_≡_};
 ghost use lib.ListN.{length};
+ghost use Rattle.calls.specs.declared.Answer.the-variants.{Done};
 ghost use Rattle.cells.specs.Cells.{overheadRule, Legal};
 ghost use Rattle.cells.specs.Profiles.{qam16};
 ghost use Rattle.interleaving.specs.Calls.{parted};
 ghost use Rattle.superframes.specs.Superframe.{superframe};
-ghost use Rattle.superframes.specs.Apart.{takenCells, takenPairs, differingAll, lineRule, takeApart};
+ghost use Rattle.superframes.specs.Apart.{lineRule, takenApart, takeApart};
 
 // The payload of a super-frame.
 type Payload = [u8; 344064];
@@ -31,7 +32,7 @@ pub fn make(pairs0: &[u8], pairs1: &[u8], overhead: &[u8], line: &mut [u8])
 // The coded pairs of both encoders from legal frames, and the number of overhead cells that differ from the list.
 fn take(line: &[u8], overhead: &[u8], pairs0: &mut [u8], pairs1: &mut [u8]) -> u32
     requires { ⌜ (length (now line) ≡ 356352) × Legal (lineRule qam16) (now line) × (length (now overhead) ≡ 12288) × Legal overheadRule (now overhead) × (length (now pairs0) ≡ 86016) × (length (now pairs1) ≡ 86016) ⌝ }
-    ensures { λ r. ⌜ (r ≡ differingAll (now (line .entry)) (now (overhead .entry))) × (now (pairs0 .exit) ≡ takenPairs qam16 (takenCells (now (line .entry))) 0) × (now (pairs1 .exit) ≡ takenPairs qam16 (takenCells (now (line .entry))) 1) ⌝ }
+    ensures { λ r. ⌜ parted (Done r) (now (pairs0 .exit)) (now (pairs1 .exit)) ≡ takenApart qam16 (now (line .entry)) (now (overhead .entry)) ⌝ }
 {
     let mut payload = blank();
     let differing = superparts::subframes::unframe(line, overhead, &mut payload);

@@ -42,10 +42,12 @@ differingAll line overhead = count 48 (differingIn line overhead)
 unfoldable pub lineRule : Profile → ℕ → ℕ → Bool
 lineRule p j v = frameRule p (j / 7424) (j % 7424) v
 
--- What stands after the step: Done with the number of differing overhead cells, and the pairs; or No. 5, "an illegal byte in cells that the
--- call reads", "overhead list first", with both pair buffers as they were lent. The index counts in the whole overhead list, or in the 48
--- frames as they stand end to end.
+-- What taking a super-frame apart gives: the number of differing overhead cells, and the pairs.
+abbrev pub takenApart : Profile → List ℕ → List ℕ → Apart
+takenApart p line overhead = parted (Done (differingAll line overhead)) (takenPairs p (takenCells line) 0) (takenPairs p (takenCells line) 1)
+
+-- The step: No. 5, "an illegal byte in cells that the call reads", "overhead list first". The index counts in the whole overhead list, or in
+-- the 48 frames as they stand end to end.
 abbrev pub takeApart : Profile → List ℕ → List ℕ → List ℕ → List ℕ → Apart
 takeApart p line overhead pairs0 pairs1 =
-    call (illegal overheadRule overhead ∷ illegal (lineRule p) line ∷ []) (pairBuffers pairs0 pairs1)
-    (parted (Done (differingAll line overhead)) (takenPairs p (takenCells line) 0) (takenPairs p (takenCells line) 1))
+    call (illegal overheadRule overhead ∷ illegal (lineRule p) line ∷ []) (pairBuffers pairs0 pairs1) (takenApart p line overhead)

@@ -46,7 +46,7 @@ use Rattle.frames.specs.LayoutLaws.{own-within, payload-all}
 use Rattle.frames.specs.PlaceLaws.{located, payload-index-lt, payloadStart-next, subFrameOf-is}
 use Rattle.frames.specs.Calls.{unframeCall}
 use Rattle.frames.specs.CallLaws.{unframe-accepts}
-use Rattle.superframes.specs.Apart.{takenByte, takenCells, bufferPairs, takenPairs, differingIn, differingAll, lineRule, takeApart}
+use Rattle.superframes.specs.Apart.{takenByte, takenCells, bufferPairs, takenPairs, differingIn, differingAll, lineRule, takenApart, takeApart}
 use Rattle.superframes.specs.SuperframeLaws.{part-legal, payload-within}
 
 -- ---- a sub-frame
@@ -238,10 +238,11 @@ pairs-are p cells e d is = is
 
 pub ruleset parting-all = (parted-block, pairs-are)
 
-pub pairs-of-line : (p : Profile) (line cells : List ℕ) (e : ℕ) (d : List ℕ) → cells ≡ takenCells line → d ≡ takenPairs p cells e → d ≡ takenPairs p (takenCells line) e
-pairs-of-line p line cells e d ec ed = ed ∙ ap (λ s. takenPairs p s e) ec
+pub taken-is : (p : Profile) (line overhead cells x y : List ℕ) (n : ℕ) → n ≡ differingAll line overhead → cells ≡ takenCells line → x ≡ takenPairs p cells 0
+    → y ≡ takenPairs p cells 1 → parted (Done n) x y ≡ takenApart p line overhead
+taken-is p line overhead cells x y n en ec ex ey = rw (en, ex, ey, ec)
 
--- ---- the cases of the step
+-- ---- the step
 
 -- 16-QAM: one search serves.
 pub line-flat : (line : List ℕ) (at : ℕ) → at ≡ firstIllegal overheadRule line → at ≡ firstIllegal (lineRule qam16) line
@@ -254,6 +255,5 @@ pub line-legal : (line : List ℕ) (at : ℕ) → at ≡ firstIllegal overheadRu
 line-legal line at e l = demap-legal (lineRule qam16) line at (line-flat line at e) l
 
 pub apart-done : (p : Profile) (line overhead pairs0 pairs1 : List ℕ) (list : ℕ) → list ≡ firstIllegal overheadRule overhead → length overhead ≤ list
-    → (at : ℕ) → at ≡ firstIllegal (lineRule p) line → (n : ℕ) (x y : List ℕ) → length line ≤ at → n ≡ differingAll line overhead
-    → x ≡ takenPairs p (takenCells line) 0 → y ≡ takenPairs p (takenCells line) 1 → parted (Done n) x y ≡ takeApart p line overhead pairs0 pairs1
-apart-done p line overhead pairs0 pairs1 list el ok at ea n x y h en ex ey = rw (en, ex, ey) (search (cases, legality))
+    → (at : ℕ) → at ≡ firstIllegal (lineRule p) line → length line ≤ at → (x : Apart) → x ≡ takenApart p line overhead → x ≡ takeApart p line overhead pairs0 pairs1
+apart-done p line overhead pairs0 pairs1 list el ok at ea h x e = rw e (search (cases, legality))

@@ -34,7 +34,7 @@ use Rattle.line.specs.Inward as inward
 use Rattle.line.specs.Inward.{Heard, unframing, heardByte, pairsBack, receivedPair, Inward}
 use Rattle.line.specs.InwardLaws.{unframing-is, pairs-is, length-received}
 use Rattle.superframes.specs.Apart.{takenByte, takenCells, bufferPairs, takenPairs, differingIn, differingAll, lineRule, takeApart}
-use Rattle.superframes.specs.ApartLaws.{apart-done}
+use Rattle.superframes.specs.ApartLaws.{taken-is, apart-done}
 use Rattle.superframes.specs.LineLaws.{pairs}
 
 module _ (p : Profile) (n : ℕ) (h : Heard p n) where
@@ -168,8 +168,9 @@ module _ (p : Profile) (n : ℕ) (h : Heard p n) where
         ≡ parted (Done (count 48 (λ s. valueOr (unframing p n h (48 * q + s) .answer) 0))) (heardPairs q side0) (heardPairs q side1)
     step-back pairs0 pairs1 =
         sym
-        (apart-done p (heardLine q) (h .overhead) pairs0 pairs1 _ refl (none-illegal overheadRule (h .overhead) (h .overhead-legal)) _ refl _ _ _
-        (none-illegal (lineRule p) (heardLine q) line-legal) (sym count-is) (sym (pairs-are side0)) (sym (pairs-are side1)))
+        (apart-done p (heardLine q) (h .overhead) pairs0 pairs1 _ refl (none-illegal overheadRule (h .overhead) (h .overhead-legal)) _ refl
+        (none-illegal (lineRule p) (heardLine q) line-legal) _
+        (taken-is p (heardLine q) (h .overhead) _ _ _ _ (sym count-is) refl (sym (pairs-are side0)) (sym (pairs-are side1))))
 
   -- ---- pairs to payload and marks
 

@@ -1,11 +1,11 @@
 -- `superframe::take` meets its contract.
 -- Assumes nothing.
-use Rattle.superframes.specs.ApartLaws.{taken-legal, pairs-of-line}
+use Rattle.superframes.specs.ApartLaws.{taken-legal, taken-is}
 use borrow.Author.Needs.{needs}
 use Rattle.superframe.proofs.take.Statement.{statement}
 use Rattle.superframe.proofs.take.Tie as tie
 
-ruleset kit = (needs, taken-legal, pairs-of-line)
+ruleset kit = (needs, taken-legal, taken-is)
 
 pub take-spec : {M : Type 1} → statement M
 take-spec =
@@ -18,4 +18,4 @@ take-spec =
     (λ c κs. search kit)  -- part-requires
     (λ c. search kit)  -- same-length
     (λ c. search kit)  -- same-length-2
-    (λ c. (search kit, search kit, search kit)))  -- returns
+    (λ c. search kit))  -- returns

@@ -1,11 +1,12 @@
 -- `pairs::encoding::encode_into` meets its contract.
 -- Assumes nothing.
 use Rattle.layout.specs.BackHalves.{gathered}
+use Rattle.ofec.specs.CallLaws.{encode-written}
 use borrow.Author.Needs.{needs}
 use Rattle.pairs.proofs.encoding.encode_into.Statement.{statement}
 use Rattle.pairs.proofs.encoding.encode_into.Tie as tie
 
-ruleset kit = (needs, gathered)
+ruleset kit = (needs, gathered, encode-written)
 
 pub encode-into-spec : {M : Type 1} → statement M
 encode-into-spec =

@@ -1,11 +1,12 @@
 -- `pairs::receiving::receive_into` meets its contract.
 -- Assumes nothing.
 use Rattle.layout.specs.BackHalves.{gathered}
+use Rattle.ofec.specs.CallLaws.{receive-written}
 use borrow.Author.Needs.{needs}
 use Rattle.pairs.proofs.receiving.receive_into.Statement.{statement}
 use Rattle.pairs.proofs.receiving.receive_into.Tie as tie
 
-ruleset kit = (needs, gathered)
+ruleset kit = (needs, gathered, receive-written)
 
 pub receive-into-spec : {M : Type 1} → statement M
 receive-into-spec =
