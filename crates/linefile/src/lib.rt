@@ -1,7 +1,5 @@
 // The line file: opening it, reading its sub-frames, writing a header.
 mod line_file;
-mod opening;
-mod reading;
 mod writing;
 
 pub use line_file::LineFile;
@@ -10,10 +8,10 @@ pub use line_file::open;
 pub use line_file::read;
 pub use line_file::read_refusal;
 pub use line_file::refusal_of_frame;
-pub use opening::open_header;
-pub use opening::open_part;
-pub use opening::open_refusal;
-pub use reading::read_at;
-pub use reading::read_refusal_at;
-pub use reading::start;
+pub use lineheader::opening::open_header;
+pub use lineheader::opening::open_part;
+pub use lineheader::opening::open_refusal;
+pub use lineheader::reading::read_at;
+pub use lineheader::reading::read_refusal_at;
+pub use lineheader::reading::start;
 pub use writing::write_header;

@@ -1,9 +1,9 @@
 // An open line file as one thing: the lent file with its header numbers. Each function takes it apart, or puts it together,
 // and leaves the work to one with plain parameters.
-use crate::opening::open_header;
-use crate::opening::open_part;
-use crate::reading::read_at;
-use crate::reading::read_refusal_at;
+use lineheader::opening::open_header;
+use lineheader::opening::open_part;
+use lineheader::reading::read_at;
+use lineheader::reading::read_refusal_at;
 ghost use mathlib.Core.Path.{_≡_};
 ghost use Rattle.lineformat.specs.Opening.{openFile, openCall};
 ghost use Rattle.lineformat.specs.Reading.{readRefusalIn, readPartIn};

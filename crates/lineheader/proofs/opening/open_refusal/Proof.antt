@@ -1,10 +1,10 @@
--- `linefile::open_refusal` meets its contract: the number of the header's answer.
+-- `lineheader::opening::open_refusal` meets its contract: the number of the header's answer.
 -- Assumes nothing.
 use Rattle.calls.specs.AnswerLaws.{refusal-eq}
 use Rattle.lineformat.specs.OpeningLaws.{answer-of}
 use borrow.Author.Needs.{needs}
-use Rattle.linefile.proofs.opening.open_refusal.Statement.{statement}
-use Rattle.linefile.proofs.opening.open_refusal.Tie as tie
+use Rattle.lineheader.proofs.opening.open_refusal.Statement.{statement}
+use Rattle.lineheader.proofs.opening.open_refusal.Tie as tie
 
 ruleset kit = (needs, refusal-eq, answer-of)
 

@@ -1,9 +1,9 @@
--- `linefile::read_refusal_at` meets its contract: the number of the reader's answer.
+-- `lineheader::reading::read_refusal_at` meets its contract: the number of the reader's answer.
 -- Assumes nothing.
 use Rattle.calls.specs.AnswerLaws.{refusal-eq}
 use borrow.Author.Needs.{needs}
-use Rattle.linefile.proofs.reading.read_refusal_at.Statement.{statement}
-use Rattle.linefile.proofs.reading.read_refusal_at.Tie as tie
+use Rattle.lineheader.proofs.reading.read_refusal_at.Statement.{statement}
+use Rattle.lineheader.proofs.reading.read_refusal_at.Tie as tie
 
 ruleset kit = (needs, refusal-eq)
 

@@ -1,9 +1,9 @@
 // Opening a lent file: its header, the refusal, and the part that an open file holds.
+use crate::rules::judge;
+use crate::rules::refused;
 use calls::Answer;
 use calls::Refusal;
 use lineformat::Header;
-use lineheader::rules::judge;
-use lineheader::rules::refused;
 ghost use mathlib.Core.Path.{_≡_};
 ghost use Rattle.lineformat.specs.Opening.{headerOf, openRefusal, openPart};
 

@@ -1,9 +1,9 @@
--- `linefile::read_at` meets its contract: the stretch lies within the file.
+-- `lineheader::reading::read_at` meets its contract: the stretch lies within the file.
 -- Assumes nothing.
 use Rattle.lineformat.specs.ReadingLaws.{part-cases}
 use borrow.Author.Needs.{needs}
-use Rattle.linefile.proofs.reading.read_at.Statement.{statement}
-use Rattle.linefile.proofs.reading.read_at.Tie as tie
+use Rattle.lineheader.proofs.reading.read_at.Statement.{statement}
+use Rattle.lineheader.proofs.reading.read_at.Tie as tie
 
 ruleset kit = (needs, part-cases)
 

@@ -1,9 +1,9 @@
--- `linefile::stretch` meets its contract: the part has 7,424 bytes.
+-- `lineheader::reading::stretch` meets its contract: the part has 7,424 bytes.
 -- Assumes nothing.
 use Rattle.lineformat.specs.ReadingLaws.{from-there}
 use borrow.Author.Needs.{needs}
-use Rattle.linefile.proofs.reading.stretch.Statement.{statement}
-use Rattle.linefile.proofs.reading.stretch.Tie as tie
+use Rattle.lineheader.proofs.reading.stretch.Statement.{statement}
+use Rattle.lineheader.proofs.reading.stretch.Tie as tie
 
 ruleset kit = (needs, from-there)
 

@@ -1,12 +1,12 @@
--- `linefile::read_answer` meets its contract: the cases of the answer.
+-- `lineheader::reading::read_answer` meets its contract: the cases of the answer.
 -- Assumes nothing.
 use Rattle.calls.specs.CallLaws.{tests}
 use Rattle.lineformat.specs.OpeningLaws.{answer-of}
 use Rattle.lineformat.specs.Reading.{readAnswer}
 use Rattle.lineformat.specs.ReadingLaws.{open-numbers}
 use borrow.Author.Needs.{needs}
-use Rattle.linefile.proofs.reading.read_answer.Statement.{statement}
-use Rattle.linefile.proofs.reading.read_answer.Tie as tie
+use Rattle.lineheader.proofs.reading.read_answer.Statement.{statement}
+use Rattle.lineheader.proofs.reading.read_answer.Tie as tie
 
 ruleset kit = (needs, tests, answer-of, open-numbers)
 

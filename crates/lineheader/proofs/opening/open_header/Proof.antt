@@ -1,9 +1,9 @@
--- `linefile::open_header` meets its contract: the judgement of the file.
+-- `lineheader::opening::open_header` meets its contract: the judgement of the file.
 -- Assumes nothing.
 use Rattle.lineformat.specs.HeaderLaws.{judging}
 use borrow.Author.Needs.{needs}
-use Rattle.linefile.proofs.opening.open_header.Statement.{statement}
-use Rattle.linefile.proofs.opening.open_header.Tie as tie
+use Rattle.lineheader.proofs.opening.open_header.Statement.{statement}
+use Rattle.lineheader.proofs.opening.open_header.Tie as tie
 
 ruleset kit = (needs, judging)
 

@@ -1,9 +1,9 @@
--- `linefile::open_part` meets its contract: the whole or nothing.
+-- `lineheader::opening::open_part` meets its contract: the whole or nothing.
 -- Assumes nothing.
 use Rattle.lineformat.specs.OpeningLaws.{parts}
 use borrow.Author.Needs.{needs}
-use Rattle.linefile.proofs.opening.open_part.Statement.{statement}
-use Rattle.linefile.proofs.opening.open_part.Tie as tie
+use Rattle.lineheader.proofs.opening.open_part.Statement.{statement}
+use Rattle.lineheader.proofs.opening.open_part.Tie as tie
 
 ruleset kit = (needs, parts)
 
