@@ -14,18 +14,18 @@ use Rattle.calls.specs.declared.Answer.{Answer}
 use Rattle.calls.specs.declared.Answer.the-variants.{Done, Refused}
 use Rattle.calls.specs.Answers.{refusalOf, Accepted, TurnedBack}
 use Rattle.calls.specs.AnswerLaws.{refused-turned}
-use Rattle.calls.specs.Calls.{After, after, Test, misfit, shortFile, badHeader, countSpent, noSubFrame, noSuperFrame, offGrid, verdict, andThen, ends, call}
+use Rattle.calls.specs.Calls.{After, after, Test, misfit, shortFile, badHeader, countSpent, noSubFrame, noSuperFrame, offGrid, verdict, ends, call}
 
 -- ---- the answer, test by test
 
 module _ (t : Test) (ts : List Test) where
-  pub refuses : t .refuses ≡ true → Refused (t .refusal) ≡ verdict (t ∷ ts)
+  pub test-refuses : t .refuses ≡ true → Refused (t .refusal) ≡ verdict (t ∷ ts)
   unfolding verdict
-  refuses e = simp e
+  test-refuses e = simp e
 
-  pub passes : (a : Answer) → t .refuses ≡ false → a ≡ verdict ts → a ≡ verdict (t ∷ ts)
+  pub test-passes : (a : Answer) → t .refuses ≡ false → a ≡ verdict ts → a ≡ verdict (t ∷ ts)
   unfolding verdict
-  passes a e f = f ∙ simp e
+  test-passes a e f = f ∙ simp e
 
 pub none-left : Done 0 ≡ verdict []
 unfolding verdict
@@ -36,72 +36,76 @@ module _ (ts : List Test) where
   module _ (s : List ℕ) (n : ℕ) where
     pub is-misfit : length s ≢ n → Refused Misfit ≡ verdict (misfit s n ∷ ts)
     unfolding misfit
-    is-misfit h = refuses (misfit s n) ts (simp (ne-eqb _ _ h))
+    is-misfit h = test-refuses (misfit s n) ts (simp (ne-eqb _ _ h))
 
     pub no-misfit : (a : Answer) → length s ≡ n → a ≡ verdict ts → a ≡ verdict (misfit s n ∷ ts)
     unfolding misfit
-    no-misfit a h = passes (misfit s n) ts a (simp (eq-eqb _ _ h))
+    no-misfit a h = test-passes (misfit s n) ts a (simp (eq-eqb _ _ h))
 
   module _ (size : ℕ) where
     pub is-short-file : size < 16 → Refused Misfit ≡ verdict (shortFile size ∷ ts)
     unfolding shortFile
-    is-short-file h = refuses (shortFile size) ts (lt-ltb _ _ h)
+    is-short-file h = test-refuses (shortFile size) ts (lt-ltb _ _ h)
 
     pub no-short-file : (a : Answer) → 16 ≤ size → a ≡ verdict ts → a ≡ verdict (shortFile size ∷ ts)
     unfolding shortFile
-    no-short-file a h = passes (shortFile size) ts a (le-ltb _ _ h)
+    no-short-file a h = test-passes (shortFile size) ts a (le-ltb _ _ h)
 
   module _ (holds : Bool) where
     pub is-bad-header : holds ≡ false → Refused BadHeader ≡ verdict (badHeader holds ∷ ts)
     unfolding badHeader
-    is-bad-header h = refuses (badHeader holds) ts (simp h)
+    is-bad-header h = test-refuses (badHeader holds) ts (simp h)
 
     pub no-bad-header : (a : Answer) → holds ≡ true → a ≡ verdict ts → a ≡ verdict (badHeader holds ∷ ts)
     unfolding badHeader
-    no-bad-header a h = passes (badHeader holds) ts a (simp h)
+    no-bad-header a h = test-passes (badHeader holds) ts a (simp h)
 
   module _ (P : ℕ) where
     pub is-spent : P ≡ 4294967295 → Refused CountSpent ≡ verdict (countSpent P ∷ ts)
     unfolding countSpent
-    is-spent h = refuses (countSpent P) ts (eq-eqb _ _ h)
+    is-spent h = test-refuses (countSpent P) ts (eq-eqb _ _ h)
 
     pub not-spent : (a : Answer) → P ≢ 4294967295 → a ≡ verdict ts → a ≡ verdict (countSpent P ∷ ts)
     unfolding countSpent
-    not-spent a h = passes (countSpent P) ts a (ne-eqb _ _ h)
+    not-spent a h = test-passes (countSpent P) ts a (ne-eqb _ _ h)
 
   module _ (s : ℕ) where
     pub no-sub-frame : 47 < s → Refused NoSuchFrame ≡ verdict (noSubFrame s ∷ ts)
     unfolding noSubFrame
-    no-sub-frame h = refuses (noSubFrame s) ts (lt-ltb _ _ h)
+    no-sub-frame h = test-refuses (noSubFrame s) ts (lt-ltb _ _ h)
 
     pub sub-frame : (a : Answer) → s ≤ 47 → a ≡ verdict ts → a ≡ verdict (noSubFrame s ∷ ts)
     unfolding noSubFrame
-    sub-frame a h = passes (noSubFrame s) ts a (le-ltb _ _ h)
+    sub-frame a h = test-passes (noSubFrame s) ts a (le-ltb _ _ h)
 
   module _ (q n : ℕ) where
     pub no-super-frame : n ≤ q → Refused NoSuchFrame ≡ verdict (noSuperFrame q n ∷ ts)
     unfolding noSuperFrame
-    no-super-frame h = refuses (noSuperFrame q n) ts (le-leb _ _ h)
+    no-super-frame h = test-refuses (noSuperFrame q n) ts (le-leb _ _ h)
 
     pub super-frame : (a : Answer) → q < n → a ≡ verdict ts → a ≡ verdict (noSuperFrame q n ∷ ts)
     unfolding noSuperFrame
-    super-frame a h = passes (noSuperFrame q n) ts a (lt-leb _ _ h)
+    super-frame a h = test-passes (noSuperFrame q n) ts a (lt-leb _ _ h)
 
   module _ (index at n : ℕ) where
     pub is-off-grid : (i : ℕ) → i ≡ index → at < n → Refused (OffGrid i) ≡ verdict (offGrid index at n ∷ ts)
     unfolding offGrid
-    is-off-grid i e h = ap (λ j. Refused (OffGrid j)) e ∙ refuses (offGrid index at n) ts (lt-ltb _ _ h)
+    is-off-grid i e h = ap (λ j. Refused (OffGrid j)) e ∙ test-refuses (offGrid index at n) ts (lt-ltb _ _ h)
 
     pub on-grid : (a : Answer) → n ≤ at → a ≡ verdict ts → a ≡ verdict (offGrid index at n ∷ ts)
     unfolding offGrid
-    on-grid a h = passes (offGrid index at n) ts a (le-ltb _ _ h)
+    on-grid a h = test-passes (offGrid index at n) ts a (le-ltb _ _ h)
 
 -- What is made of a test's outcome is made of each of the two.
 pub by-test : {A B : Type 0} (f : A → B) (t : Bool) (x y : A) → f (cond t x y) ≡ cond t (f x) (f y)
 by-test f true x y = refl
 by-test f false x y = refl
 
--- Tests of which the first are made apart, with answer a.
+-- Tests of which the first are made apart, with answer a: a refusal stands, and where there is none the others decide.
+abbrev andThen : Answer → Answer → Answer
+andThen (Done v) next = next
+andThen (Refused r) next = Refused r
+
 verdict-append : (ts us : List Test) → verdict (ts ++ us) ≡ andThen (verdict ts) (verdict us)
 unfolding verdict
 verdict-append [] us = refl
@@ -160,8 +164,8 @@ passed-all [] v e = tt
 passed-all (t ∷ ts) v e = go (t .refuses) refl (passed-all ts v)
   where
     go : (b : Bool) → t .refuses ≡ b → (verdict ts ≡ Done v → Passed ts) → Passed (t ∷ ts)
-    go true p rest = absurd (refused-turned (t .refusal) (ap refusalOf (refuses t ts p ∙ e)))
-    go false p rest = (p, rest (passes t ts (verdict ts) p refl ∙ e))
+    go true p rest = absurd (refused-turned (t .refusal) (ap refusalOf (test-refuses t ts p ∙ e)))
+    go false p rest = (p, rest (test-passes t ts (verdict ts) p refl ∙ e))
 
 -- What a test that passed tells.
 pub fits : (s : List ℕ) (n : ℕ) → misfit s n .refuses ≡ false → length s ≡ n

@@ -62,11 +62,6 @@ unfoldable pub verdict : List Test → Answer
 verdict [] = Done 0
 verdict (t ∷ ts) = cond (t .refuses) (Refused (t .refusal)) (verdict ts)
 
--- A refusal stands; where there is none, what follows decides.
-abbrev pub andThen : Answer → Answer → Answer
-andThen (Done v) next = next
-andThen (Refused r) next = Refused r
-
 -- "nothing else is turned back"; "Buffers and pair number stay" in a refused call. `lent` is what the call may write, as it was lent, and `done` is
 -- what stands after a call that no test refuses.
 abbrev pub ends : {B : Type 0} → Answer → B → After B → After B

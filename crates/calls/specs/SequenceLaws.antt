@@ -29,6 +29,15 @@ module _ {A : Type 0} where
   At-map f d here = refl
   At-map f d (later a) = At-map f d a
 
+  -- What stands in a mapped list stands in the list.
+  pub mapped-at : {B : Type 0} (f : A → B) (l : List A) (i : ℕ) (y : B) → At (map f l) i y → (x : A) × At l i x × (f x ≡ y)
+  mapped-at f (x ∷ xs) i y here = (x, here, refl)
+  mapped-at f (x ∷ xs) i y (later a) = let r = mapped-at f xs _ y a in (r .0, later (r .1), r .2)
+
+  pub at-mapped : {B : Type 0} (f : A → B) {l : List A} {i : ℕ} {x : A} → At l i x → At (map f l) i (f x)
+  at-mapped f here = here
+  at-mapped f (later a) = later (at-mapped f a)
+
   pub At-only : {l : List A} {i : ℕ} {x y : A} → At l i x → At l i y → x ≡ y
   At-only {x = x} a b = sym (At-map (λ z. z) x a) ∙ At-map (λ z. z) x b
 

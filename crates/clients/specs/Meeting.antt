@@ -6,7 +6,7 @@ use Prim.Native.Nat.{ℕ, _*_, _/_, _<_}
 use Rattle.calls.specs.Answers.{Accepted}
 use Rattle.calls.specs.Calls.{After}
 use Rattle.calls.specs.Sequences.{At, accepted}
-use Rattle.calls.specs.SequenceLaws.{mirror-accepted}
+use Rattle.calls.specs.SequenceLaws.{at-mapped, mirror-accepted}
 use Rattle.ofec.specs.History.{depth}
 use Rattle.ofec.specs.Calls.{receive}
 use Rattle.ofec.specs.Promise.{Promise}
@@ -22,7 +22,7 @@ use Rattle.line.specs.Theorem.{demand3}
 use Rattle.capi.specs.declared.Outcome.{Outcome}
 use Rattle.capi.specs.Exports.{Exported, exported, inNumbers}
 use Rattle.clients.specs.Runs.{EncodeCall, EncodeCalls, ReceiveCall, ReceiveCalls, Sends, Receives}
-use Rattle.clients.specs.RunLaws.{receivingOf, at-mapped, receive-mirrors, receive-payload, receive-marks, receive-history, coded-as-left, outward, sentBits, inward}
+use Rattle.clients.specs.RunLaws.{receivingOf, receive-mirrors, receive-payload, receive-marks, receive-history, coded-as-left, outward, sentBits, inward}
 
 -- ---- what is claimed
 

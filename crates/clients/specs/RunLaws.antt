@@ -4,9 +4,9 @@
 use mathlib.Core.Path.{_≡_, refl, sym, ap, ap₂, subst, _∙_}
 use mathlib.Core.List.{List, [], _∷_, map}
 use Prim.Native.Nat.{ℕ, suc, _≤_}
-use lib.ListN.{length}
-use Rattle.calls.specs.Sequences.{At, here, later, Part, accepted}
-use Rattle.calls.specs.SequenceLaws.{Mirrors, mirror-run, mirror-accepted}
+use lib.ListN.{length, length-map}
+use Rattle.calls.specs.Sequences.{At, Part, accepted}
+use Rattle.calls.specs.SequenceLaws.{mapped-at, Mirrors, mirror-run, mirror-accepted}
 use Rattle.ofec.specs.SentLaws.{madeBits, sent-exists}
 use Rattle.ofec.specs.Calls.{EncodeBuffers, ReceiveBuffers, state, Encoding, encode, Encodings, Receiving, receive, Receivings, payloads}
 use Rattle.ofec.specs.Rows.{RowBits}
@@ -23,19 +23,6 @@ use Rattle.capi.specs.Exports.{Exported, inNumbers}
 use Rattle.clients.specs.Runs.{EncodeCall, EncodeCalls, ReceiveCall, ReceiveCalls, Sends, Receives}
 
 -- ---- lists
-
-pub length-mapped : {A B : Type 0} (f : A → B) (l : List A) → length (map f l) ≡ length l
-length-mapped f [] = refl
-length-mapped f (x ∷ xs) = ap (λ n. suc n) (length-mapped f xs)
-
--- What stands in a mapped list stands in the list.
-pub mapped-at : {A B : Type 0} (f : A → B) (l : List A) (i : ℕ) (y : B) → At (map f l) i y → (x : A) × At l i x × (f x ≡ y)
-mapped-at f (x ∷ xs) i y here = (x, here, refl)
-mapped-at f (x ∷ xs) i y (later a) = let r = mapped-at f xs _ y a in (r .0, later (r .1), r .2)
-
-pub at-mapped : {A B : Type 0} (f : A → B) {l : List A} {i : ℕ} {x : A} → At l i x → At (map f l) i (f x)
-at-mapped f here = here
-at-mapped f (later a) = later (at-mapped f a)
 
 map-map : {A B C : Type 0} (f : A → B) (g : B → C) (h : A → C) → ((x : A) → g (f x) ≡ h x) → (l : List A) → map g (map f l) ≡ map h l
 map-map f g h e [] = refl
@@ -116,7 +103,7 @@ outward s =
       calls = λ e. map encodingOf (s .calls e);
       last = s .last;
       runs = λ e. mirror-run encode-mirrors (s .runs e);
-      filled = λ e. ap length (mirror-accepted encode-mirrors (s .calls e)) ∙ length-mapped encodingOf (accepted EncodeCalls (s .calls e)) ∙ s .filled e;
+      filled = λ e. ap length (mirror-accepted encode-mirrors (s .calls e)) ∙ length-map (accepted EncodeCalls (s .calls e)) encodingOf ∙ s .filled e;
       overhead = s .overhead;
       overhead-long = s .overhead-long;
       overhead-legal = s .overhead-legal;
@@ -153,4 +140,4 @@ inward s t =
     }
   where
     taken : (e : Side) → length (accepted Receivings (map receivingOf (t .calls e))) ≡ length (accepted ReceiveCalls (t .calls e))
-    taken e = ap length (mirror-accepted receive-mirrors (t .calls e)) ∙ length-mapped receivingOf (accepted ReceiveCalls (t .calls e))
+    taken e = ap length (mirror-accepted receive-mirrors (t .calls e)) ∙ length-map (accepted ReceiveCalls (t .calls e)) receivingOf

@@ -2,7 +2,7 @@
 -- Assumes nothing.
 use mathlib.Core.Path.{_≡_, refl, ap, ap₂, sym, _∙_}
 use mathlib.Core.Bool.{true, false}
-use mathlib.Core.List.{List, _∷_}
+use mathlib.Core.List.{List, [], _∷_}
 use mathlib.Core.Logic.{_≢_}
 use Prim.Native.Nat.{ℕ, _+_, _*_, _<_, _≤_}
 use native.Mathlib.Omega.{arith}
@@ -13,7 +13,7 @@ use Rattle.calls.specs.declared.Answer.the-variants.{Done, Refused}
 use Rattle.calls.specs.declared.Refusal.the-variants.{Misfit, OffGrid}
 use Rattle.calls.specs.Answers.{TurnedBack}
 use Rattle.calls.specs.Calls.{after, Test, verdict}
-use Rattle.calls.specs.CallLaws.{refuses, passes, is-off-grid, on-grid, none-left, no-misfit, sub-frame, first-passed, call-done, Passed, passed-all, told, call-keeps}
+use Rattle.calls.specs.CallLaws.{test-refuses, test-passes, is-off-grid, on-grid, none-left, tests, first-passed, call-done, Passed, passed-all, told, call-keeps}
 use Rattle.cells.specs.Profile.{Profile}
 use Rattle.cells.specs.Cells.{overheadRule, payloadRule, firstIllegal, Legal}
 use Rattle.cells.specs.CellLaws.{none-illegal}
@@ -28,20 +28,20 @@ use Rattle.frames.specs.Calls.{payloadFits, payloadMisfit, overheadIndex
 module _ (number : ℕ) (payload : List ℕ) (ts : List Test) where
   pub payload-unmeasured : (a : Answer) → 47 < number → a ≡ verdict ts → a ≡ verdict (payloadMisfit number payload ∷ ts)
   unfolding payloadMisfit payloadFits
-  payload-unmeasured a h = passes (payloadMisfit number payload) ts a (simp (lt-ltb _ _ h))
+  payload-unmeasured a h = test-passes (payloadMisfit number payload) ts a (simp (lt-ltb _ _ h))
 
   module _ (n : ℕ) (e : n ≡ payloadCells number) (l : number ≤ 47) where
     pub payload-misfit : length payload ≢ n * 2 → Refused Misfit ≡ verdict (payloadMisfit number payload ∷ ts)
     unfolding payloadMisfit payloadFits
     payload-misfit h =
         let h′ : length payload ≢ payloadCells number * 2 = λ p. h (p ∙ omega arith) in
-        refuses (payloadMisfit number payload) ts (simp (le-ltb _ _ l, ne-eqb _ _ h′))
+        test-refuses (payloadMisfit number payload) ts (simp (le-ltb _ _ l, ne-eqb _ _ h′))
 
     pub payload-measured : (a : Answer) → length payload ≡ n * 2 → a ≡ verdict ts → a ≡ verdict (payloadMisfit number payload ∷ ts)
     unfolding payloadMisfit payloadFits
     payload-measured a h =
         let h′ : length payload ≡ payloadCells number * 2 = h ∙ omega arith in
-        passes (payloadMisfit number payload) ts a (simp (le-ltb _ _ l, eq-eqb _ _ h′))
+        test-passes (payloadMisfit number payload) ts a (simp (le-ltb _ _ l, eq-eqb _ _ h′))
 
 -- The sub-frame's cells of the overhead list.
 module _ (number : ℕ) (overhead own : List ℕ) (eo : own ≡ ownOverhead number overhead) (at : ℕ) (ea : at ≡ firstIllegal overheadRule own) (ts : List Test) where
@@ -113,11 +113,10 @@ module _ (p : Profile) (number : ℕ) (overhead frame payload : List ℕ) (ln : 
   tests-pass : Done 0 ≡ verdict (subFrameTests number overhead frame payload)
   unfolding subFrameTests
   tests-pass =
-      no-misfit _ _ _ _ lo
-      (no-misfit _ _ _ _ lf
-      (payload-measured number payload _ _ refl ln _ lp
-      (sub-frame _ _ _ ln
-      (overhead-legal number overhead _ refl _ refl _ _ (none-illegal overheadRule (ownOverhead number overhead) own) none-left))))
+      let measured : (ts : List Test) (a : Answer) → a ≡ verdict ts → a ≡ verdict (payloadMisfit number payload ∷ ts) =
+      λ ts a. payload-measured number payload ts _ refl ln a lp in
+      let legal = overhead-legal number overhead _ refl _ refl [] (Done 0) (none-illegal overheadRule (ownOverhead number overhead) own) none-left in
+      search (tests, measured, legal)
 
   pub frame-accepts : Legal (payloadRule p) payload → frameCall p number payload overhead frame ≡ after (Done 0) (framed number payload (ownOverhead number overhead))
   frame-accepts legal =
