@@ -3,14 +3,14 @@
 use calls::Answer;
 use libc::STDOUT_FILENO;
 ghost use mathlib.Core.Path.{_≡_};
-ghost use Prim.Native.Nat.{_+_, _^_, _%_, _<_};
-ghost use lib.ListN.{length, getD, set};
-ghost use Rattle.calls.specs.Answers.{refusalOf};
+ghost use Prim.Native.Nat.{_<_};
+ghost use lib.ListN.{length};
+ghost use Rattle.loopback.specs.Tally.{plus, answered};
 
 // Adds to the counter at a place.
 pub fn add(counts: &mut [u32], at: usize, n: u32)
     requires { ⌜ at < length (now counts) ⌝ }
-    ensures { λ _. ⌜ now (counts .exit) ≡ set (now (counts .entry)) at ((getD (now (counts .entry)) at 0 + n) % 2 ^ 32) ⌝ }
+    ensures { λ _. ⌜ now (counts .exit) ≡ plus at n (now (counts .entry)) ⌝ }
 {
     counts[at] = std::num::wrapping_add_u32(counts[at], n);
 }
@@ -18,7 +18,7 @@ pub fn add(counts: &mut [u32], at: usize, n: u32)
 // Counts a call by its answer.
 pub fn answered(counts: &mut [u32], a: Answer)
     requires { ⌜ length (now counts) ≡ 40 ⌝ }
-    ensures { λ _. ⌜ now (counts .exit) ≡ set (now (counts .entry)) (1 + refusalOf a % 6) ((getD (now (counts .entry)) (1 + refusalOf a % 6) 0 + 1) % 2 ^ 32) ⌝ }
+    ensures { λ _. ⌜ now (counts .exit) ≡ answered a (now (counts .entry)) ⌝ }
 {
     add(counts, 1 + calls::refusal_of(a) as usize % 6, 1);
 }
