@@ -2,17 +2,22 @@
 -- Assumes nothing.
 use mathlib.Core.List.{List, _++_}
 use Prim.Native.Nat.{ℕ}
-use Rattle.bits.specs.Parts.{partOf, endToEnd}
+use Rattle.bits.specs.Parts.{part, partOf, endToEnd}
+use Rattle.interleaving.specs.Calls.{Apart}
 use Rattle.cells.specs.Profiles.{qam16}
 use Rattle.lineformat.specs.Writing.{numbersFor, headerBytes}
 use Rattle.superframes.specs.Superframe.{superframe}
-use Rattle.superframes.specs.Apart.{takenCells, takenPairs, differingAll}
+use Rattle.superframes.specs.Apart.{takenCells, takenPairs, differingAll, takeApart}
 use Rattle.loopback.specs.Noise.{damaged}
 use Rattle.loopback.specs.Tally.{plus}
 
 -- The line file of one super-frame: header, overhead list, frames.
 unfoldable pub lineFile : List ℕ → List ℕ → List ℕ
 lineFile list line = headerBytes (numbersFor 1) ++ (list ++ line)
+
+-- What is taken off it, by a receiver that lends two buffers of pairs.
+unfoldable pub takenOff : List ℕ → List ℕ → List ℕ → Apart
+takenOff file pairs0 pairs1 = takeApart qam16 (part 12304 356352 file) (part 16 12288 file) pairs0 pairs1
 
 -- The damaged frames of super-frame q, and the pairs of encoder e that come off the line.
 unfoldable pub lineOf : List ℕ → ℕ → List ℕ → List ℕ → List ℕ

@@ -29,7 +29,7 @@ use Rattle.loopback.specs.NoiseLaws.{damaged-legal}
 use Rattle.loopback.specs.FileLaws.{file-list, file-line}
 use Rattle.loopback.specs.StepLaws.{Stepping, step-more}
 use Rattle.loopback.specs.Tally.{plus}
-use Rattle.loopback.specs.Line.{lineFile, lineOf, pairsOff, lineIn, allOff, lineCounted}
+use Rattle.loopback.specs.Line.{lineFile, takenOff, lineOf, pairsOff, lineIn, allOff, lineCounted}
 
 -- ---- legal
 
@@ -74,7 +74,7 @@ line-made list q coded0 coded1 a b e f = f ∙ ap (damaged q) e
 
 -- What comes off a line file that has the damaged frames of coded pairs.
 module _ (q : ℕ) (coded0 coded1 list file got0 got1 x y : List ℕ) (r : Answer) (is : file ≡ lineFile list (lineOf list q coded0 coded1)) (lf : length file ≡ 368656)
-    (ll : length list ≡ 12288) (hl : Legal overheadRule list) (t : parted r x y ≡ takeApart qam16 (part 12304 356352 file) (part 16 12288 file) got0 got1) where
+    (ll : length list ≡ 12288) (hl : Legal overheadRule list) (t : parted r x y ≡ takenOff file got0 got1) where
   abbrev line : List ℕ
   line = lineOf list q coded0 coded1
 
@@ -83,6 +83,7 @@ module _ (q : ℕ) (coded0 coded1 list file got0 got1 x y : List ℕ) (r : Answe
   legal = damaged-legal q (superframe qam16 coded0 coded1 list) (superframe-legal qam16 coded0 coded1 list ll hl)
 
   taken : parted r x y ≡ parted (Done (differingAll line list)) (takenPairs qam16 (takenCells line) 0) (takenPairs qam16 (takenCells line) 1)
+  unfolding takenOff
   taken =
       t ∙ ap₂ (λ a b. takeApart qam16 a b got0 got1) (file-line file list line is ll lf) (file-list file list line is ll)
       ∙ sym
@@ -98,8 +99,6 @@ module _ (q : ℕ) (coded0 coded1 list file got0 got1 x y : List ℕ) (r : Answe
   pub carried-pairs1 : y ≡ pairsOff (lineOf list q coded0 coded1) 1
   unfolding pairsOff
   carried-pairs1 = ap (λ (a : Apart). a .pairs1) taken
-
-pub ruleset carried = (carried-count, carried-pairs0, carried-pairs1)
 
 -- ---- super-frames end to end
 
@@ -129,6 +128,10 @@ unfolding endToEnd
 whole m w f d e = e
 
 -- What is taken off a file is taken off the frames and the list in it.
-pub taken-of : (a : Apart) (line frames overhead list pairs0 pairs1 : List ℕ) → a ≡ takeApart qam16 frames overhead pairs0 pairs1 → frames ≡ line → overhead ≡ list
-    → a ≡ takeApart qam16 line list pairs0 pairs1
-taken-of a line frames overhead list pairs0 pairs1 is ef eo = cc
+pub taken-of : (a : Apart) (file frames list pairs0 pairs1 : List ℕ) → a ≡ takeApart qam16 frames list pairs0 pairs1 → frames ≡ part 12304 356352 file
+    → list ≡ part 16 12288 file → a ≡ takenOff file pairs0 pairs1
+unfolding takenOff
+taken-of a file frames list pairs0 pairs1 is ef el = is ∙ ap₂ (λ x y. takeApart qam16 x y pairs0 pairs1) ef el
+
+pub off-list : (list known sent0 sent1 : List ℕ) (e : ℕ) (d : List ℕ) → list ≡ known → d ≡ allOff list sent0 sent1 e → d ≡ allOff known sent0 sent1 e
+off-list list known sent0 sent1 e d el is = is ∙ ap (λ l. allOff l sent0 sent1 e) el

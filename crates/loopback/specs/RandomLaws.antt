@@ -53,15 +53,15 @@ pub ruleset drawing = (draw-none, draw-more, draw-done, draw-fits, draw-times)
 
 -- ---- a payload
 
-pub payload-drawn : (encoder k stream : ℕ) (d lent : List ℕ) → stream ≡ k * 2 + encoder → length lent ≡ 444 → d ≡ tabulate (length lent) (drawn stream 1) → d ≡ pairPayload encoder k
+pub payload-drawn : (encoder k stream n : ℕ) (d : List ℕ) → stream ≡ k * 2 + encoder → n ≡ 444 → d ≡ tabulate n (drawn stream 1) → d ≡ pairPayload encoder k
 unfolding pairPayload
-payload-drawn encoder k stream d lent es l e = e ∙ ap₂ (λ n s. tabulate n (drawn s 1)) l es
+payload-drawn encoder k stream n d es l e = e ∙ ap₂ (λ m s. tabulate m (drawn s 1)) l es
 
 pub pair-block : (encoder q k : ℕ) (ys lent : List ℕ) (stream : ℕ) → stream ≡ (q * 168 + k) * 2 + encoder → length lent ≡ 444 → ys ≡ tabulate (length lent) (drawn stream 1)
     → ys ≡ tabulate 444 (λ i. byteOfEach 444 (λ j. pairPayload encoder (q * 168 + j)) (k * 444 + i))
 pair-block encoder q k ys lent stream es l e =
     each-block (λ j. pairPayload encoder (q * 168 + j)) 444 k ys (lit< tt) (ap length e ∙ length-tabulate (length lent) (drawn stream 1) ∙ l)
-    (payload-drawn encoder (q * 168 + k) stream ys lent es l e)
+    (payload-drawn encoder (q * 168 + k) stream (length lent) ys es l e)
 
 pub payload-is : (encoder q : ℕ) (d : List ℕ) → d ≡ tabulate 74592 (byteOfEach 444 (λ k. pairPayload encoder (q * 168 + k))) → d ≡ payloadIn encoder q
 unfolding payloadIn endToEnd

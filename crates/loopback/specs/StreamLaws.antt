@@ -95,27 +95,27 @@ module _ (e k : ℕ) (sent got history out marks before d : List ℕ) (w : ℕ) 
   words-done s l = step-done s l
 
 -- A pair received, from what is known after each call.
-module _ (e k a b : ℕ) (sent got h : List ℕ) (ea : a ≡ k * 512) (eb : b ≡ a + 512) where
+module _ (k a b : ℕ) (got h : List ℕ) (ea : a ≡ k * 512) (eb : b ≡ a + 512) where
   own-pair : part a (b - a) got ≡ partOf 512 got k
   own-pair = let size : b - a ≡ 512 = omega arith in ap₂ (λ x y. part x y got) ea size
 
   pub pair-history : (h₁ : List ℕ) → h₁ ≡ historyOver receiver 1 h k (part a (b - a) got) → h₁ ≡ historyOver receiver 1 h k (partOf 512 got k)
   pair-history h₁ is = is ∙ ap (historyOver receiver 1 h k) own-pair
 
-  pub pair-taken : (h₁ out marks d d₁ : List ℕ) → h₁ ≡ historyOver receiver 1 h k (part a (b - a) got) → out ≡ payloadsOf 1 h k (part a (b - a) got)
+  pub pair-taken : (e : ℕ) (sent h₁ out marks d d₁ : List ℕ) → h₁ ≡ historyOver receiver 1 h k (part a (b - a) got) → out ≡ payloadsOf 1 h k (part a (b - a) got)
       → marks ≡ marksOf 1 h k (part a (b - a) got) → d₁ ≡ pairCompared e k sent got h₁ out marks d → d₁ ≡ pairTaken e sent got h k d
   unfolding pairTaken
-  pair-taken h₁ out marks d d₁ eh eo em e₁ = cc own-pair
+  pair-taken e sent h₁ out marks d d₁ eh eo em e₁ = cc own-pair
 
 -- The same after refused calls, which leave the history.
-module _ (e k : ℕ) (sent got h h₁ : List ℕ) (left : h₁ ≡ h) where
+module _ (k : ℕ) (got h h₁ : List ℕ) (left : h₁ ≡ h) where
   pub history-kept : (h₂ : List ℕ) → h₂ ≡ historyOver receiver 1 h₁ k (partOf 512 got k) → h₂ ≡ historyOver receiver 1 h k (partOf 512 got k)
   history-kept h₂ is = is ∙ ap (λ x. historyOver receiver 1 x k (partOf 512 got k)) left
 
-  pub pair-received : (d d₁ d₂ d₃ d₄ : List ℕ) → d₁ ≡ refusedTwo d → d₂ ≡ pairTaken e sent got h₁ k d₁ → d₃ ≡ plus 0 1 d₂ → d₄ ≡ plus 1 1 d₃
+  pub pair-received : (e : ℕ) (sent d d₁ d₂ d₃ d₄ : List ℕ) → d₁ ≡ refusedTwo d → d₂ ≡ pairTaken e sent got h₁ k d₁ → d₃ ≡ plus 0 1 d₂ → d₄ ≡ plus 1 1 d₃
       → d₄ ≡ pairReceived e sent got h k d
   unfolding pairReceived
-  pair-received d d₁ d₂ d₃ d₄ e₁ e₂ e₃ e₄ = cc
+  pair-received e sent d d₁ d₂ d₃ d₄ e₁ e₂ e₃ e₄ = cc
 
 pub before-pair : (c : Coder) (S : ℕ → List ℕ) (k : ℕ) (h h′ : List ℕ) → h ≡ historyBefore c 1 S k → h′ ≡ historyOver c 1 h k (S k) → h′ ≡ historyBefore c 1 S (k + 1)
 before-pair c S k h h′ is e = let one : k ≡ 1 * k = omega arith in before-more c 1 S k h h′ k is one e

@@ -54,15 +54,15 @@ pub fn word_kind(sent: &[u8], got: &[u8], mark: u8) -> usize
 
 // The kind of bit i of a back half.
 fn bit_kind(from: usize, sent: &[u8], got: &[u8], kept: &[u8], i: usize) -> usize
-    requires { ⌜ (from < 37) × (length (now sent) ≡ 32) × (length (now got) ≡ 32) × (length (now kept) ≡ 32) × (i < 128) ⌝ }
-    ensures { λ r. ⌜ (r ≡ bitKind from (now (sent .entry)) (now (got .entry)) (now (kept .entry)) i) × (r < 40) ⌝ }
+    requires { ⌜ (from < 38) × (length (now sent) ≡ 32) × (length (now got) ≡ 32) × (length (now kept) ≡ 32) × (i < 128) ⌝ }
+    ensures { λ r. ⌜ (r ≡ bitKind from (now (sent .entry)) (now (got .entry)) (now (kept .entry)) i) × (r < 41) ⌝ }
 {
     from + differ(sent, got, 128 + i) + differ(sent, kept, 128 + i) * 2
 }
 
 // Counts the first n bits of a back half.
 pub fn count_bits(n: usize, from: usize, sent: &[u8], got: &[u8], kept: &[u8], counts: &mut [u32])
-    requires { ⌜ (n ≤ 128) × (from < 37) × (length (now sent) ≡ 32) × (length (now got) ≡ 32) × (length (now kept) ≡ 32) × (length (now counts) ≡ 40) ⌝ }
+    requires { ⌜ (n ≤ 128) × (from < 38) × (length (now sent) ≡ 32) × (length (now got) ≡ 32) × (length (now kept) ≡ 32) × (length (now counts) ≡ 41) ⌝ }
     ensures { λ _. ⌜ now (counts .exit) ≡ tallied n (bitKind from (now (sent .entry)) (now (got .entry)) (now (kept .entry))) (now (counts .entry)) ⌝ }
 {
     for i in 0..n {

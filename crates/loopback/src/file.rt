@@ -8,11 +8,9 @@ ghost use Rattle.bits.specs.Parts.{part};
 ghost use Rattle.lineformat.specs.Opening.{openCall};
 ghost use Rattle.lineformat.specs.Reading.{readRefusalIn, readPartIn};
 ghost use Rattle.lineformat.specs.Writing.{numbersFor, headerBytes};
-ghost use Rattle.cells.specs.Profiles.{qam16};
 ghost use Rattle.interleaving.specs.Calls.{parted};
-ghost use Rattle.superframes.specs.Apart.{takeApart};
 ghost use Rattle.loopback.specs.File.{takenWhen};
-ghost use Rattle.loopback.specs.Line.{lineFile};
+ghost use Rattle.loopback.specs.Line.{lineFile, takenOff};
 
 // The whole file.
 type File = [u8; 368656];
@@ -74,7 +72,7 @@ fn list_of(file: &[u8]) -> &[u8]
 // Takes the pairs of both encoders off the frames.
 pub fn take(file: &[u8], pairs0: &mut [u8], pairs1: &mut [u8]) -> Answer
     requires { ⌜ (take 16 (now file) ≡ headerBytes (numbersFor 1)) × (length (now file) ≡ 368656) × (length (now pairs0) ≡ 86016) × (length (now pairs1) ≡ 86016) ⌝ }
-    ensures { λ r. ⌜ parted r (now (pairs0 .exit)) (now (pairs1 .exit)) ≡ takeApart qam16 (part 12304 356352 (now (file .entry))) (part 16 12288 (now (file .entry))) (now (pairs0 .entry)) (now (pairs1 .entry)) ⌝ }
+    ensures { λ r. ⌜ parted r (now (pairs0 .exit)) (now (pairs1 .exit)) ≡ takenOff (now (file .entry)) (now (pairs0 .entry)) (now (pairs1 .entry)) ⌝ }
 {
     let mut frames = blank_frames();
     read_frames(file, &mut frames);

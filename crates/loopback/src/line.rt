@@ -67,7 +67,7 @@ fn carry_both(
     got1: &mut [u8],
     counts: &mut [u32],
 )
-    requires { ⌜ (length (now sent0) ≡ 172032) × (length (now sent1) ≡ 172032) × (length (now list) ≡ 12288) × Legal overheadRule (now list) × (length (now got0) ≡ 172032) × (length (now got1) ≡ 172032) × (length (now counts) ≡ 40) ⌝ }
+    requires { ⌜ (length (now sent0) ≡ 172032) × (length (now sent1) ≡ 172032) × (length (now list) ≡ 12288) × Legal overheadRule (now list) × (length (now got0) ≡ 172032) × (length (now got1) ≡ 172032) × (length (now counts) ≡ 41) ⌝ }
     ensures { λ _. ⌜ (now (got0 .exit) ≡ allOff (now (list .entry)) (now (sent0 .entry)) (now (sent1 .entry)) 0) × (now (got1 .exit) ≡ allOff (now (list .entry)) (now (sent0 .entry)) (now (sent1 .entry)) 1) × (now (counts .exit) ≡ each 2 (lineCounted (now (list .entry)) (now (sent0 .entry)) (now (sent1 .entry))) (now (counts .entry))) ⌝ }
 {
     for q in 0..2 {
@@ -91,7 +91,7 @@ pub fn carry(sent0: &[u8], sent1: &[u8], got0: &mut [u8], got1: &mut [u8])
     ensures { λ _. ⌜ (now (got0 .exit) ≡ allOff drawnList (now (sent0 .entry)) (now (sent1 .entry)) 0) × (now (got1 .exit) ≡ allOff drawnList (now (sent0 .entry)) (now (sent1 .entry)) 1) ⌝ }
 {
     let list = overhead();
-    let mut counts = [0u32; 40];
+    let mut counts = [0u32; 41];
     refuse_framing(&mut counts);
     carry_both(sent0, sent1, &list, got0, got1, &mut counts);
     print_line(&counts);

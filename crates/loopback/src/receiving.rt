@@ -67,7 +67,7 @@ fn compare_coded(
     mark: u8,
     counts: &mut [u32],
 )
-    requires { ⌜ (k < 336) × (w < 32) × (length (now sent) ≡ 172032) × (length (now got) ≡ 172032) × (length (now history) ≡ 5120) × (length (now counts) ≡ 40) ⌝ }
+    requires { ⌜ (k < 336) × (w < 32) × (length (now sent) ≡ 172032) × (length (now got) ≡ 172032) × (length (now history) ≡ 5120) × (length (now counts) ≡ 41) ⌝ }
     ensures { λ _. ⌜ now (counts .exit) ≡ codedCounted k w (now (sent .entry)) (now (got .entry)) (now (history .entry)) mark (now (counts .entry)) ⌝ }
 {
     let s = word(sent, k, w);
@@ -79,7 +79,7 @@ fn compare_coded(
 
 // Compares its payload, which is drawn again.
 fn compare_payload(k: usize, w: usize, encoder: u32, out: &[u8], mark: u8, counts: &mut [u32])
-    requires { ⌜ (k < 336) × (w < 32) × (encoder < 2) × (length (now out) ≡ 444) × (length (now counts) ≡ 40) ⌝ }
+    requires { ⌜ (k < 336) × (w < 32) × (encoder < 2) × (length (now out) ≡ 444) × (length (now counts) ≡ 41) ⌝ }
     ensures { λ _. ⌜ now (counts .exit) ≡ payloadCounted k w (pairPayload encoder k) (now (out .entry)) mark (now (counts .entry)) ⌝ }
 {
     let mut payload = [0u8; 444];
@@ -100,7 +100,7 @@ fn compare(
     marks: &[u8],
     counts: &mut [u32],
 )
-    requires { ⌜ (k < 336) × (encoder < 2) × (length (now sent) ≡ 172032) × (length (now got) ≡ 172032) × (length (now history) ≡ 5120) × (length (now out) ≡ 444) × (length (now marks) ≡ 32) × (length (now counts) ≡ 40) ⌝ }
+    requires { ⌜ (k < 336) × (encoder < 2) × (length (now sent) ≡ 172032) × (length (now got) ≡ 172032) × (length (now history) ≡ 5120) × (length (now out) ≡ 444) × (length (now marks) ≡ 32) × (length (now counts) ≡ 41) ⌝ }
     ensures { λ _. ⌜ now (counts .exit) ≡ pairCompared encoder k (now (sent .entry)) (now (got .entry)) (now (history .entry)) (now (out .entry)) (now (marks .entry)) (now (counts .entry)) ⌝ }
 {
     for w in 0..32 {
@@ -118,7 +118,7 @@ fn receive_next(
     history: &mut [u8],
     counts: &mut [u32],
 )
-    requires { ⌜ (k < 336) × (encoder < 2) × (length (now sent) ≡ 172032) × (length (now got) ≡ 172032) × (length (now history) ≡ 5120) × (length (now counts) ≡ 40) ⌝ }
+    requires { ⌜ (k < 336) × (encoder < 2) × (length (now sent) ≡ 172032) × (length (now got) ≡ 172032) × (length (now history) ≡ 5120) × (length (now counts) ≡ 41) ⌝ }
     ensures { λ _. ⌜ (now (history .exit) ≡ historyOver receiver 1 (now (history .entry)) k (partOf 512 (now (got .entry)) k)) × (now (counts .exit) ≡ pairTaken encoder (now (sent .entry)) (now (got .entry)) (now (history .entry)) k (now (counts .entry))) ⌝ }
 {
     let a = k * 512;
@@ -138,7 +138,7 @@ fn receive_after(
     history: &mut [u8],
     counts: &mut [u32],
 )
-    requires { ⌜ (k < 336) × (encoder < 2) × (length (now sent) ≡ 172032) × (length (now got) ≡ 172032) × (length (now history) ≡ 5120) × (length (now counts) ≡ 40) ⌝ }
+    requires { ⌜ (k < 336) × (encoder < 2) × (length (now sent) ≡ 172032) × (length (now got) ≡ 172032) × (length (now history) ≡ 5120) × (length (now counts) ≡ 41) ⌝ }
     ensures { λ _. ⌜ (now (history .exit) ≡ historyOver receiver 1 (now (history .entry)) k (partOf 512 (now (got .entry)) k)) × (now (counts .exit) ≡ pairReceived encoder (now (sent .entry)) (now (got .entry)) (now (history .entry)) k (now (counts .entry))) ⌝ }
 {
     refuse_receiving(history, counts);
@@ -149,7 +149,7 @@ fn receive_after(
 
 // Receives the pairs of an encoder.
 fn receive_all(encoder: u32, sent: &[u8], got: &[u8], counts: &mut [u32])
-    requires { ⌜ (encoder < 2) × (length (now sent) ≡ 172032) × (length (now got) ≡ 172032) × (length (now counts) ≡ 40) ⌝ }
+    requires { ⌜ (encoder < 2) × (length (now sent) ≡ 172032) × (length (now got) ≡ 172032) × (length (now counts) ≡ 41) ⌝ }
     ensures { λ _. ⌜ now (counts .exit) ≡ each 336 (nextReceived encoder (now (sent .entry)) (now (got .entry))) (now (counts .entry)) ⌝ }
 {
     let mut history = [0u8; 5120];
@@ -162,7 +162,7 @@ fn receive_all(encoder: u32, sent: &[u8], got: &[u8], counts: &mut [u32])
 pub fn receive(encoder: u32, sent: &[u8], got: &[u8])
     requires { ⌜ (encoder < 2) × (length (now sent) ≡ 172032) × (length (now got) ≡ 172032) ⌝ }
 {
-    let mut counts = [0u32; 40];
+    let mut counts = [0u32; 41];
     receive_all(encoder, sent, got, &mut counts);
     print_receiver(&counts);
 }

@@ -32,7 +32,7 @@ fn encode_spent(history: &mut [u8]) -> Answer
 
 // Both, for each pair of a super-frame.
 pub fn refuse_encodings(history: &mut [u8], counts: &mut [u32])
-    requires { ⌜ (length (now history) ≡ 5120) × (length (now counts) ≡ 40) ⌝ }
+    requires { ⌜ (length (now history) ≡ 5120) × (length (now counts) ≡ 41) ⌝ }
     ensures { λ _. ⌜ (now (history .exit) ≡ now (history .entry)) × (now (counts .exit) ≡ each 168 (λ k. refusedTwo) (now (counts .entry))) ⌝ }
 {
     for k in 0..168usize {
@@ -64,7 +64,7 @@ fn receive_spent(history: &mut [u8]) -> Answer
 
 // Both.
 pub fn refuse_receiving(history: &mut [u8], counts: &mut [u32])
-    requires { ⌜ (length (now history) ≡ 5120) × (length (now counts) ≡ 40) ⌝ }
+    requires { ⌜ (length (now history) ≡ 5120) × (length (now counts) ≡ 41) ⌝ }
     ensures { λ _. ⌜ (now (history .exit) ≡ now (history .entry)) × (now (counts .exit) ≡ refusedTwo (now (counts .entry))) ⌝ }
 {
     answered(counts, receive_short(history));
@@ -93,7 +93,7 @@ fn frame_off_grid() -> Answer
 
 // Both.
 pub fn refuse_framing(counts: &mut [u32])
-    requires { ⌜ length (now counts) ≡ 40 ⌝ }
+    requires { ⌜ length (now counts) ≡ 41 ⌝ }
     ensures { λ _. ⌜ now (counts .exit) ≡ answered (Refused (OffGrid 0)) (answered (Refused NoSuchFrame) (now (counts .entry))) ⌝ }
 {
     answered(counts, frame_beyond());

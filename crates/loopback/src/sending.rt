@@ -35,7 +35,7 @@ fn draw(encoder: u32, q: u32, payload: &mut [u8])
 
 // Its coded pairs, after refused calls.
 fn encode_next(encoder: u32, q: u32, history: &mut [u8], coded: &mut [u8], counts: &mut [u32])
-    requires { ⌜ (encoder < 2) × (q < 2) × (length (now history) ≡ 5120) × (length (now coded) ≡ 86016) × (length (now counts) ≡ 40) ⌝ }
+    requires { ⌜ (encoder < 2) × (q < 2) × (length (now history) ≡ 5120) × (length (now coded) ≡ 86016) × (length (now counts) ≡ 41) ⌝ }
     ensures { λ _. ⌜ (now (coded .exit) ≡ codedOf 168 (now (history .entry)) (168 * q) (payloadIn encoder q)) × (now (history .exit) ≡ historyOver encoderOf 168 (now (history .entry)) (168 * q) (payloadIn encoder q)) × (now (counts .exit) ≡ frameSent (now (counts .entry))) ⌝ }
 {
     let mut payload = blank();
@@ -48,20 +48,14 @@ fn encode_next(encoder: u32, q: u32, history: &mut [u8], coded: &mut [u8], count
 
 // The coded pairs of two super-frames.
 fn encode_both(encoder: u32, coded: &mut [u8], counts: &mut [u32])
-    requires { ⌜ (encoder < 2) × (length (now coded) ≡ 172032) × (length (now counts) ≡ 40) ⌝ }
+    requires { ⌜ (encoder < 2) × (length (now coded) ≡ 172032) × (length (now counts) ≡ 41) ⌝ }
     ensures { λ _. ⌜ (now (coded .exit) ≡ endToEnd 2 86016 (sentIn encoder)) × (now (counts .exit) ≡ each 2 (λ q. frameSent) (now (counts .entry))) ⌝ }
 {
     let mut history = [0u8; 5120];
     for q in 0..2 {
         let f = q * 86016;
         let g = f + 86016;
-        encode_next(
-            encoder,
-            q as u32,
-            &mut history,
-            &mut coded[f..g],
-            counts,
-        );
+        encode_next(encoder, q as u32, &mut history, &mut coded[f..g], counts);
     }
 }
 
@@ -70,7 +64,7 @@ pub fn encode(encoder: u32, coded: &mut [u8])
     requires { ⌜ (encoder < 2) × (length (now coded) ≡ 172032) ⌝ }
     ensures { λ _. ⌜ now (coded .exit) ≡ endToEnd 2 86016 (sentIn encoder) ⌝ }
 {
-    let mut counts = [0u32; 40];
+    let mut counts = [0u32; 41];
     encode_both(encoder, coded, &mut counts);
     print_encoder(&counts);
 }

@@ -13,7 +13,7 @@ use Rattle.loopback.proofs.comparing.count_bits.Tie as tie
 ruleset kit = (needs, step-none, tallied-done)
 
 abbrev Inv-loop : tie.InvT-loop
-Inv-loop n from sent got kept counts₀ i₀ counts i = (length counts ≡ 40) × Stepping (oneMore (bitKind from sent got kept)) n counts₀ i counts
+Inv-loop n from sent got kept counts₀ i₀ counts i = (length counts ≡ 41) × Stepping (oneMore (bitKind from sent got kept)) n counts₀ i counts
 
 abbrev μ-loop : tie.MeasureT-loop
 μ-loop n from sent got kept counts₀ i₀ counts i = n - i

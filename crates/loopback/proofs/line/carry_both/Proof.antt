@@ -16,7 +16,7 @@ use Rattle.loopback.proofs.line.carry_both.Tie as tie
 ruleset kit = (needs, by-blocks, part-long, off-whole, step-none, step-done)
 
 abbrev Inv-loop : tie.InvT-loop
-Inv-loop sent0 sent1 list got0₀ got1₀ counts₀ q₀ got0 got1 counts q = (length counts ≡ 40) × Blocks (byteOfEach 86016 (λ s. pairsOff (lineIn list sent0 sent1 s) 0)) 86016 2 q got0 × Blocks (byteOfEach 86016 (λ s. pairsOff (lineIn list sent0 sent1 s) 1)) 86016 2 q got1 × Stepping (lineCounted list sent0 sent1) 2 counts₀ q counts
+Inv-loop sent0 sent1 list got0₀ got1₀ counts₀ q₀ got0 got1 counts q = (length counts ≡ 41) × Blocks (byteOfEach 86016 (λ s. pairsOff (lineIn list sent0 sent1 s) 0)) 86016 2 q got0 × Blocks (byteOfEach 86016 (λ s. pairsOff (lineIn list sent0 sent1 s) 1)) 86016 2 q got1 × Stepping (lineCounted list sent0 sent1) 2 counts₀ q counts
 
 abbrev μ-loop : tie.MeasureT-loop
 μ-loop sent0 sent1 list got0₀ got1₀ counts₀ q₀ got0 got1 counts q = 2 - q
@@ -46,10 +46,9 @@ carry-both-spec =
     (λ c κs. search kit)  -- add-requires
     (λ c. search kit)  -- add-q
     (λ c. search kit)  -- loop-less
-    (λ c. 
+    (λ c.
     let l = c .before .before .before .before .before .before .before .before .before .before .before .before .before .before .loop in
-    let made = c .before .before .before .before .before .before .before .before .carry-next .ensures in
-    (
+    let made = c .before .before .before .before .before .before .before .before .carry-next .ensures in (
       search needs,
       blocks-next {d = l .got0} (l .q * 86016) (l .q * 86016 + 86016) _ (l .inv .1) (search needs) refl refl (off-block _ _ _ (l .q) (l .q * 86016) (l .q * 86016 + 86016) refl refl 0 _ (made .1)),
       blocks-next {d = l .got1} (l .q * 86016) (l .q * 86016 + 86016) _ (l .inv .2) (search needs) refl refl (off-block _ _ _ (l .q) (l .q * 86016) (l .q * 86016 + 86016) refl refl 1 _ (made .2)),

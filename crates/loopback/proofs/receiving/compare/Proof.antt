@@ -10,10 +10,10 @@ use borrow.Author.Needs.{needs}
 use Rattle.loopback.proofs.receiving.compare.Statement.{statement}
 use Rattle.loopback.proofs.receiving.compare.Tie as tie
 
-ruleset kit = (needs, step-none, words-more, words-done)
+ruleset kit = (needs, step-none, words-done)
 
 abbrev Inv-loop : tie.InvT-loop
-Inv-loop k encoder sent got history out marks counts₀ w₀ counts w = (length counts ≡ 40) × Stepping (wordCompared encoder k sent got history out marks) 32 counts₀ w counts
+Inv-loop k encoder sent got history out marks counts₀ w₀ counts w = (length counts ≡ 41) × Stepping (wordCompared encoder k sent got history out marks) 32 counts₀ w counts
 
 abbrev μ-loop : tie.MeasureT-loop
 μ-loop k encoder sent got history out marks counts₀ w₀ counts w = 32 - w
@@ -31,6 +31,10 @@ compare-spec =
     (λ c κs. search kit)  -- compare-payload-requires
     (λ c. search kit)  -- add-w
     (λ c. search kit)  -- loop-less
-    (λ c. (search needs, search kit))  -- loop-again
+    (λ c.
+    let l = c .before .before .before .before .before .before .before .before .before .before .before .loop in (
+      search needs,
+      words-more _ _ _ _ _ _ _ _ _ _ _ _ (l .inv .1) (search needs) (c .before .before .before .before .before .before .before .compare-coded .ensures) (c .before .before .compare-payload .ensures),
+    ))  -- loop-again
     (λ c. search kit)  -- same-length
     (λ c. search kit))  -- returns

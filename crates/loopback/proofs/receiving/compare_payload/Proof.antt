@@ -1,5 +1,6 @@
 -- `loopback::receiving::compare_payload` meets its contract.
 -- Assumes nothing.
+use mathlib.Core.Path.{refl}
 use Rattle.loopback.specs.RandomLaws.{payload-drawn}
 use Rattle.loopback.specs.StreamLaws.{payload-counted}
 use borrow.Author.Needs.{needs}
@@ -26,4 +27,6 @@ compare-payload-spec =
     (λ c. search needs)  -- slice-aggregate-count-bits-3
     (λ c κs. search needs)  -- count-bits-requires
     (λ c. search needs)  -- same-length
-    (λ c. search (needs, payload-drawn, payload-counted)))  -- returns
+    (λ c.
+    payload-counted _ _ _ _ _ _ _ _ _ _ _ (payload-drawn _ _ _ _ _ refl (search needs) (c .before .before .before .before .before .before .before .before .before .before .before .before .fill .ensures)) (c .before .before .before .before .before .before .before .before .before .payload-word .ensures)
+    (c .before .before .before .before .before .before .before .before .payload-word2 .ensures) (c .before .before .before .before .before .before .before .lost .ensures .0) (c .before .before .count-bits .ensures)))  -- returns

@@ -15,7 +15,7 @@ use Rattle.loopback.proofs.receiving.receive_all.Tie as tie
 ruleset kit = (needs, before-none, step-none, step-done)
 
 abbrev Inv-loop : tie.InvT-loop
-Inv-loop encoder sent got counts₀ history₀ k₀ counts history k = (length history ≡ 5120) × (length counts ≡ 40) × (history ≡ historyBefore receiver 1 (partOf 512 got) k) × Stepping (nextReceived encoder sent got) 336 counts₀ k counts
+Inv-loop encoder sent got counts₀ history₀ k₀ counts history k = (length history ≡ 5120) × (length counts ≡ 41) × (history ≡ historyBefore receiver 1 (partOf 512 got) k) × Stepping (nextReceived encoder sent got) 336 counts₀ k counts
 
 abbrev μ-loop : tie.MeasureT-loop
 μ-loop encoder sent got counts₀ history₀ k₀ counts history k = 336 - k
@@ -31,10 +31,9 @@ receive-all-spec =
     (λ c κs. search kit)  -- receive-after-requires
     (λ c. search kit)  -- add-k
     (λ c. search kit)  -- loop-less
-    (λ c. 
+    (λ c.
     let l = c .before .before .before .before .before .before .before .loop in
-    let made = c .before .before .before .receive-after .ensures in
-    (
+    let made = c .before .before .before .receive-after .ensures in (
       search needs,
       search needs,
       before-pair _ _ _ _ _ (l .inv .2) (made .0),

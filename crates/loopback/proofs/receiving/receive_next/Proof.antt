@@ -1,5 +1,6 @@
 -- `loopback::receiving::receive_next` meets its contract.
 -- Assumes nothing.
+use mathlib.Core.Path.{refl}
 use Rattle.loopback.specs.StreamLaws.{pair-history, pair-taken}
 use borrow.Author.Needs.{needs}
 use Rattle.loopback.proofs.receiving.receive_next.Statement.{statement}
@@ -23,4 +24,8 @@ receive-next-spec =
     (λ c κs. search needs)  -- compare-requires
     (λ c. search needs)  -- same-length
     (λ c. search needs)  -- same-length-2
-    (λ c. (search (needs, pair-history), search (needs, pair-taken))))  -- returns
+    (λ c.
+    let made = c .before .before .before .before .before .before .before .before .before .before .before .receive .ensures in (
+      pair-history _ _ _ _ _ refl refl _ (made .2),
+      pair-taken _ _ _ _ _ refl refl _ _ _ _ _ _ _ (made .2) (made .0) (made .1) (c .before .before .compare .ensures),
+    )))  -- returns

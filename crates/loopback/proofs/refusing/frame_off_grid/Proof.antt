@@ -1,6 +1,5 @@
 -- `loopback::refusing::frame_off_grid` meets its contract.
 -- Assumes nothing.
-use Rattle.bits.specs.PartLaws.{part-long}
 use Rattle.loopback.specs.RefusedLaws.{frame-off-grid}
 use borrow.Author.Needs.{needs}
 use Rattle.loopback.proofs.refusing.frame_off_grid.Statement.{statement}
@@ -16,4 +15,4 @@ frame-off-grid-spec =
     (λ c. search needs)  -- part-frame-end
     (λ c. search needs)  -- slice-aggregate-frame
     (λ c κs. search needs)  -- frame-requires
-    (λ c. search (needs, frame-off-grid, part-long)))  -- returns
+    (λ c. search (needs, frame-off-grid)))  -- returns

@@ -13,7 +13,7 @@ use Rattle.loopback.proofs.refusing.refuse_encodings.Tie as tie
 ruleset kit = (needs, step-none, step-done, refused-more)
 
 abbrev Inv-loop : tie.InvT-loop
-Inv-loop history₀ counts₀ k₀ history counts k = (history ≡ history₀) × (length history ≡ 5120) × (length counts ≡ 40) × Stepping (λ i. refusedTwo) 168 counts₀ k counts
+Inv-loop history₀ counts₀ k₀ history counts k = (history ≡ history₀) × (length history ≡ 5120) × (length counts ≡ 41) × Stepping (λ i. refusedTwo) 168 counts₀ k counts
 
 abbrev μ-loop : tie.MeasureT-loop
 μ-loop history₀ counts₀ k₀ history counts k = 168 - k

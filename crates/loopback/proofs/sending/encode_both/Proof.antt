@@ -19,7 +19,7 @@ use Rattle.loopback.proofs.sending.encode_both.Tie as tie
 ruleset kit = (needs, by-blocks, before-none, step-none, step-done, whole)
 
 abbrev Inv-loop : tie.InvT-loop
-Inv-loop encoder coded₀ counts₀ history₀ q₀ coded counts history q = (length history ≡ 5120) × (length counts ≡ 40) × Blocks (byteOfEach 86016 (sentIn encoder)) 86016 2 q coded × (history ≡ historyBefore encoderOf 168 (payloadIn encoder) q) × Stepping (λ i. frameSent) 2 counts₀ q counts
+Inv-loop encoder coded₀ counts₀ history₀ q₀ coded counts history q = (length history ≡ 5120) × (length counts ≡ 41) × Blocks (byteOfEach 86016 (sentIn encoder)) 86016 2 q coded × (history ≡ historyBefore encoderOf 168 (payloadIn encoder) q) × Stepping (λ i. frameSent) 2 counts₀ q counts
 
 abbrev μ-loop : tie.MeasureT-loop
 μ-loop encoder coded₀ counts₀ history₀ q₀ coded counts history q = 2 - q
@@ -43,8 +43,7 @@ encode-both-spec =
     (λ c. search kit)  -- loop-less
     (λ c.
     let l = c .before .before .before .before .before .before .before .before .before .before .loop in
-    let made = c .before .before .before .before .before .encode-next .ensures in
-    (
+    let made = c .before .before .before .before .before .encode-next .ensures in (
       search needs,
       search needs,
       blocks-next {d = l .coded} (l .q * 86016) (l .q * 86016 + 86016) _ (l .inv .2) (search needs) refl refl (sent-block _ _ _ _ (l .inv .3) (made .0)),
