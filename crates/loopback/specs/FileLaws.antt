@@ -1,14 +1,14 @@
 -- Laws of writing and reading a line file of one super-frame.
 -- Assumes nothing.
-use mathlib.Core.Path.{_≡_, refl, sym, ap, _∙_}
-use mathlib.Core.List.{List}
+use mathlib.Core.Path.{_≡_, refl, sym, ap, ap₂, _∙_}
+use mathlib.Core.List.{List, [], _++_, append-nil}
 use Prim.Native.Nat.{ℕ, _+_, _*_, _<_}
 use native.Mathlib.Omega.{arith}
 use borrow.Author.Tests.{eq-eqb, ne-eqb}
 use borrow.Rule.Slice.PartMut.{putMid}
 use lib.Dec.{lit<}
-use lib.ListN.{length, take, drop}
-use lib.Seq.{take-at}
+use lib.ListN.{length, take, drop, length-drop, length-append}
+use lib.Seq.{take-at, drop-at, drop-drop, drop-length, take-all, length-take-le}
 use Rattle.bits.specs.Lists.{tabulate}
 use Rattle.bits.specs.Parts.{part, byteOfEach, endToEnd}
 use Rattle.bits.specs.PartLaws.{each-block}
@@ -20,14 +20,46 @@ use Rattle.lineformat.specs.ReadingLaws.{stretch-length}
 use Rattle.lineformat.specs.Writing.{numbersFor, headerBytes, writeCall}
 use Rattle.lineformat.specs.WritingLaws.{headerBytes-length, write-done, written-reads, written-whole}
 use Rattle.loopback.specs.File.{takenWhen}
+use Rattle.loopback.specs.Line.{lineFile}
 
--- The header that was written in front stands there.
-pub header-first : (d ys lent : List ℕ) (r : Answer) → after r ys ≡ writeCall 1 lent → length lent ≡ 16
-    → take 16 (putMid 0 16 d ys) ≡ headerBytes (numbersFor 1)
-header-first d ys lent r w l = take-at ys (drop 16 d) 16 (ap length is ∙ headerBytes-length (numbersFor 1)) ∙ is
+-- ---- the file
+
+-- Overhead list and header, written in front of what stands there.
+pub file-begun : (d xs ys lent list : List ℕ) (r : Answer) → length d ≡ 368656 → xs ≡ list → length lent ≡ 16 → after r ys ≡ writeCall 1 lent
+    → putMid 0 16 (putMid 16 12288 d xs) ys ≡ lineFile list (drop 12304 d)
+unfolding lineFile
+file-begun d xs ys lent list r ld ex l w =
+    ap₂ _++_ is (drop-at (take 16 d) (xs ++ drop 12288 (drop 16 d)) 16 (length-take-le 16 d (omega arith)) ∙ ap₂ _++_ ex (drop-drop 12288 16 d))
   where
     is : ys ≡ headerBytes (numbersFor 1)
     is = ap (λ (x : After (List ℕ)). x .written) (w ∙ sym (write-done 1 lent (headerBytes (numbersFor 1)) l (omega arith) (omega arith) refl))
+
+-- The frames were written before.
+pub file-sent : (d d′ xs list line : List ℕ) → length d ≡ 368656 → xs ≡ line → d′ ≡ lineFile list (drop 12304 (putMid 12304 356352 d xs)) → d′ ≡ lineFile list line
+file-sent d d′ xs list line l ex e =
+    e ∙ ap (lineFile list)
+    (drop-at (take 12304 d) (xs ++ drop 356352 (drop 12304 d)) 12304 (length-take-le 12304 d (omega arith)) ∙ ap₂ _++_ ex none ∙ append-nil line)
+  where
+    none : drop 356352 (drop 12304 d) ≡ []
+    none = drop-drop 356352 12304 d ∙ ap (λ n. drop n d) (sym l) ∙ drop-length d
+
+-- What a reader finds in it.
+module _ (d list line : List ℕ) (is : d ≡ lineFile list line) (ll : length list ≡ 12288) where
+  pub file-starts : take 16 d ≡ headerBytes (numbersFor 1)
+  unfolding lineFile
+  file-starts = ap (take 16) is ∙ take-at (headerBytes (numbersFor 1)) (list ++ line) 16 (headerBytes-length (numbersFor 1))
+
+  file-rest : drop 16 d ≡ list ++ line
+  unfolding lineFile
+  file-rest = ap (drop 16) is ∙ drop-at (headerBytes (numbersFor 1)) (list ++ line) 16 (headerBytes-length (numbersFor 1))
+
+  pub file-list : part 16 12288 d ≡ list
+  file-list = ap (take 12288) file-rest ∙ take-at list line 12288 ll
+
+  pub file-line : length d ≡ 368656 → part 12304 356352 d ≡ line
+  file-line l =
+      ap (take 356352) (sym (drop-drop 12288 16 d) ∙ ap (drop 12288) file-rest ∙ drop-at list line 12288 ll)
+      ∙ take-all 356352 line (omega (arith, length-drop 16 d, ap length file-rest ∙ length-append list line))
 
 -- ---- a sub-frame: m is the number that the companion gave, and got the part that was handed back
 

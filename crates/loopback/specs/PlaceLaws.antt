@@ -8,6 +8,7 @@ use native.Mathlib.Decide.{decLt}
 use Rattle.frames.specs.Frames.{payloadCells, payloadStart, payloadCell, subFrameOf, cellOf}
 use Rattle.frames.specs.Layout.{gap, spot}
 use Rattle.frames.specs.LayoutLaws.{payloadStart-closed, payload-zeroth, sizes-zeroth, sizes-other}
+use Rattle.loopback.specs.Noise.{carrier}
 use Rattle.frames.specs.PlaceLaws.{payloadStart-next, subFrameOf-is, payloadCell-spot}
 
 -- Place k of the cells of a sub-frame that are no pilots.
@@ -15,8 +16,8 @@ abbrev off : ℕ → ℕ
 off k = k / 31 * 32 + 1 + k % 31
 
 pub carrier-is : (x : ℕ) → x < 172032 → (r : ℕ) → r ≡ (x + 96) / 3586 * 3712 + ((x + 96) % 3586 + 10) / 31 * 32 + 1 + ((x + 96) % 3586 + 10) % 31
-    → r ≡ subFrameOf x * 3712 + cellOf x
-unfolding cellOf spot
+    → r ≡ carrier x
+unfolding carrier cellOf spot
 carrier-is x l r e = e ∙ sums ∙ go (decLt x 3490)
   where
     sums : (x + 96) / 3586 * 3712 + ((x + 96) % 3586 + 10) / 31 * 32 + 1 + ((x + 96) % 3586 + 10) % 31 ≡ (x + 96) / 3586 * 3712 + off ((x + 96) % 3586 + 10)

@@ -14,9 +14,13 @@ stateAt stream (suc i) = (stateAt stream i * 1103515245 + 12345) % 2147483648
 unfoldable pub drawn : ℕ → ℕ → ℕ → ℕ
 drawn stream d i = stateAt stream (suc i) / 65536 % 256 / d
 
--- The payload of super-frame q of an encoder: a stream for each pair.
-unfoldable pub pairPayload : ℕ → ℕ → ℕ → List ℕ
-pairPayload encoder q k = tabulate 444 (drawn ((q * 168 + k) * 2 + encoder) 1)
+-- The payload of pair k of an encoder, a stream of its own; and of super-frame q.
+unfoldable pub pairPayload : ℕ → ℕ → List ℕ
+pairPayload encoder k = tabulate 444 (drawn (k * 2 + encoder) 1)
 
 unfoldable pub payloadIn : ℕ → ℕ → List ℕ
-payloadIn encoder q = endToEnd 168 444 (pairPayload encoder q)
+payloadIn encoder q = endToEnd 168 444 (λ k. pairPayload encoder (q * 168 + k))
+
+-- The overhead list: sixteenths of a stream.
+unfoldable pub drawnList : List ℕ
+drawnList = tabulate 12288 (drawn 4294967295 16)

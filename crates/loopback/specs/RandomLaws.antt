@@ -16,8 +16,7 @@ use Rattle.bits.specs.ListLaws.{length-tabulate, getD-tabulate}
 use Rattle.bits.specs.Parts.{byteOfEach, endToEnd}
 use Rattle.bits.specs.PartLaws.{each-block}
 use Rattle.cells.specs.Cells.{overheadRule, Legal}
-use Rattle.ofec.specs.Stream.{Gives, Coder, givenOver, historyOver}
-use Rattle.loopback.specs.Random.{stateAt, drawn, pairPayload, payloadIn}
+use Rattle.loopback.specs.Random.{stateAt, drawn, pairPayload, payloadIn, drawnList}
 
 -- The first i of n bytes are drawn.
 pub record Drawing (stream d n i state : ℕ) (buffer : List ℕ) : Type 0 where
@@ -54,26 +53,25 @@ pub ruleset drawing = (draw-none, draw-more, draw-done, draw-fits, draw-times)
 
 -- ---- a payload
 
-pub pair-block : (encoder q k : ℕ) (ys lent : List ℕ) (stream : ℕ) → stream ≡ (q * 168 + k) * 2 + encoder → length lent ≡ 444 → ys ≡ tabulate (length lent) (drawn stream 1)
-    → ys ≡ tabulate 444 (λ i. byteOfEach 444 (pairPayload encoder q) (k * 444 + i))
+pub payload-drawn : (encoder k stream n : ℕ) (d : List ℕ) → stream ≡ k * 2 + encoder → n ≡ 444 → d ≡ tabulate n (drawn stream 1) → d ≡ pairPayload encoder k
 unfolding pairPayload
-pair-block encoder q k ys lent stream es l e =
-    each-block (pairPayload encoder q) 444 k ys (lit< tt) (ap length e ∙ length-tabulate (length lent) (drawn stream 1) ∙ l)
-    (e ∙ ap₂ (λ n s. tabulate n (drawn s 1)) l es)
+payload-drawn encoder k stream n d es l e = e ∙ ap₂ (λ m s. tabulate m (drawn s 1)) l es
 
-pub payload-is : (encoder q : ℕ) (d : List ℕ) → d ≡ tabulate 74592 (byteOfEach 444 (pairPayload encoder q)) → d ≡ payloadIn encoder q
+pub pair-block : (encoder q k : ℕ) (ys lent : List ℕ) (stream : ℕ) → stream ≡ (q * 168 + k) * 2 + encoder → length lent ≡ 444 → ys ≡ tabulate (length lent) (drawn stream 1)
+    → ys ≡ tabulate 444 (λ i. byteOfEach 444 (λ j. pairPayload encoder (q * 168 + j)) (k * 444 + i))
+pair-block encoder q k ys lent stream es l e =
+    each-block (λ j. pairPayload encoder (q * 168 + j)) 444 k ys (lit< tt) (ap length e ∙ length-tabulate (length lent) (drawn stream 1) ∙ l)
+    (payload-drawn encoder (q * 168 + k) stream (length lent) ys es l e)
+
+pub payload-is : (encoder q : ℕ) (d : List ℕ) → d ≡ tabulate 74592 (byteOfEach 444 (λ k. pairPayload encoder (q * 168 + k))) → d ≡ payloadIn encoder q
 unfolding payloadIn endToEnd
 payload-is encoder q d e = e
 
--- A stream of what is known by another name.
-module _ (c : Coder) (m p : ℕ) (d h h′ s s′ : List ℕ) (eh : h ≡ h′) (es : s ≡ s′) where
-  pub given-of : (out : Gives) (w : ℕ) → d ≡ givenOver c out w m h p s → d ≡ givenOver c out w m h′ p s′
-  given-of out w e = e ∙ ap₂ (λ x y. givenOver c out w m x p y) eh es
-
-  pub history-of : d ≡ historyOver c m h p s → d ≡ historyOver c m h′ p s′
-  history-of e = e ∙ ap₂ (λ x y. historyOver c m x p y) eh es
-
 -- ---- an overhead list
+
+pub list-drawn : (lent list : List ℕ) → length lent ≡ 12288 → list ≡ tabulate (length lent) (drawn 4294967295 16) → list ≡ drawnList
+unfolding drawnList
+list-drawn lent list l e = e ∙ ap (λ n. tabulate n (drawn 4294967295 16)) l
 
 -- Sixteenths are legal.
 pub drawn-legal : (stream n : ℕ) (list : List ℕ) → list ≡ tabulate n (drawn stream 16) → Legal overheadRule list

@@ -1,26 +1,52 @@
--- Counting by kinds, and the kinds that are told apart.
+-- Counters, and the kinds of words and bits that they tell apart.
 -- Assumes nothing.
-use mathlib.Core.Path.{_≡_}
 use mathlib.Core.Bool.{cond}
 use mathlib.Core.List.{List}
-use Prim.Native.Nat.{ℕ, _+_, _*_, _^_, _%_, _<_}
+use Prim.Native.Nat.{ℕ, _+_, _*_, _^_, _%_}
 use lib.Dec.{eqb, ltb}
-use lib.ListN.{length, getD}
+use lib.ListN.{getD, set}
 use Rattle.bits.specs.Bits.{bit}
 use Rattle.bits.specs.Count.{count, differs, distance}
+use Rattle.calls.specs.declared.Answer.{Answer}
+use Rattle.calls.specs.declared.Answer.the-variants.{Refused}
+use Rattle.calls.specs.declared.Refusal.the-variants.{Misfit, CountSpent}
+use Rattle.calls.specs.Answers.{refusalOf}
+use Rattle.loopback.specs.Steps.{each}
+
+-- ---- counters
+
+-- n added to the counter at a place, of 32 bits.
+unfoldable pub plus : ℕ → ℕ → List ℕ → List ℕ
+plus at n counts = set counts at ((getD counts at 0 + n) % 2 ^ 32)
+
+-- Thing i counted at the place of its kind; and things 0 to n - 1.
+unfoldable pub oneMore : (ℕ → ℕ) → ℕ → List ℕ → List ℕ
+oneMore kind i counts = plus (kind i) 1 counts
+
+unfoldable pub tallied : ℕ → (ℕ → ℕ) → List ℕ → List ℕ
+tallied n kind counts = each n (oneMore kind) counts
+
+-- How many of them are of kind v.
+unfoldable pub tally : ℕ → (ℕ → ℕ) → ℕ → ℕ
+tally n kind v = count n (λ i. cond (eqb (kind i) v) 1 0)
+
+-- A call counted by its answer: at place 1 where it was done, and behind it by the refusal's number.
+unfoldable pub answered : Answer → List ℕ → List ℕ
+answered a counts = plus (1 + refusalOf a) 1 counts
+
+-- The refused calls before a pair: one with a byte too few, one with the pair number that no call takes.
+abbrev pub refusedTwo : List ℕ → List ℕ
+refusedTwo counts = answered (Refused CountSpent) (answered (Refused Misfit) counts)
+
+-- m pairs that were done, counted as pairs and as calls.
+abbrev pub pairsDone : ℕ → List ℕ → List ℕ
+pairsDone m counts = plus 1 m (plus 0 m counts)
+
+-- ---- kinds
 
 -- 1 where bit k of two buffers differs, and 0 otherwise.
 unfoldable pub wrongAt : List ℕ → List ℕ → ℕ → ℕ
 wrongAt a b k = differs (bit a k) (bit b k)
-
--- How many of f 0, f 1, .., f (n - 1) are v.
-unfoldable pub tally : ℕ → (ℕ → ℕ) → ℕ → ℕ
-tally n f v = count n (λ i. cond (eqb (f i) v) 1 0)
-
--- Counters of 32 bits, each with the number of its kind added.
-pub record Tallied (f : ℕ → ℕ) (n : ℕ) (before after : List ℕ) : Type 0 where
-  pub long : length after ≡ length before
-  pub counts : (v : ℕ) → v < length before → getD after v 0 % 2 ^ 32 ≡ (getD before v 0 + tally n f v) % 2 ^ 32
 
 -- A word marked 3 is lost.
 unfoldable pub lost : ℕ → ℕ
@@ -30,11 +56,6 @@ lost mark = cond (eqb mark 3) 1 0
 unfoldable pub wordKind : List ℕ → List ℕ → ℕ → ℕ
 wordKind sent got mark = 7 + cond (ltb (distance 256 (bit sent) (bit got)) 4) (distance 256 (bit sent) (bit got)) 4 * 4 + mark % 4
 
--- The bits of a word's back half from 27 on: 1 for wrong as received, 2 for wrong as kept, 4 for a lost word.
-unfoldable pub bitKind : List ℕ → List ℕ → List ℕ → ℕ → ℕ → ℕ
-bitKind sent got kept mark i =
-    27 + wrongAt sent got (128 + i) + wrongAt sent kept (128 + i) * 2 + lost mark * 4
-
--- Its payload bits from 35 on: 1 for wrong, 2 for a lost word.
-unfoldable pub payloadKind : List ℕ → List ℕ → ℕ → ℕ → ℕ
-payloadKind sent out mark i = 35 + wrongAt sent out (128 + i) + lost mark * 2
+-- The bits of a word's back half from a place on: 1 for wrong as received, 2 for wrong as kept.
+unfoldable pub bitKind : ℕ → List ℕ → List ℕ → List ℕ → ℕ → ℕ
+bitKind from sent got kept i = from + wrongAt sent got (128 + i) + wrongAt sent kept (128 + i) * 2

@@ -1,13 +1,12 @@
--- Laws of counting by kinds, of the kinds, and of refused calls.
+-- Laws of counters, and of the kinds.
 -- Assumes nothing.
-use mathlib.Core.Path.{_≡_, refl, sym, ap, _∙_, subst}
+use mathlib.Core.Path.{_≡_, refl, sym, ap, ap₂, _∙_}
 use mathlib.Core.Bool.{Bool, cond}
 use mathlib.Core.List.{List}
 use mathlib.Core.Logic.{_≢_}
-use Prim.Native.Nat.{ℕ, _+_, _*_, _^_, _%_, _<_, _≤_}
+use Prim.Native.Nat.{ℕ, zero, suc, _+_, _*_, _^_, _%_, _<_, _≤_}
 use native.Mathlib.Nat.{add-zero}
 use native.Mathlib.Omega.{arith}
-use native.Mathlib.Numerals.{add-one}
 use native.Mathlib.Decide.{ℕ-discrete}
 use borrow.Author.Tests.{eq-eqb, ne-eqb, lt-ltb, le-ltb}
 use lib.Dec.{eqb}
@@ -20,70 +19,92 @@ use Rattle.bits.specs.Count.{count, distance}
 use Rattle.bits.specs.CountLaws.{count-le, differs-le, differs-same, differs-other}
 use Rattle.bits.specs.Folding.{Counting, count-done}
 use Rattle.calls.specs.declared.Answer.{Answer}
-use Rattle.calls.specs.declared.Refusal.the-variants.{Misfit, CountSpent}
-use Rattle.calls.specs.CallLaws.{is-misfit, tests, call-refused}
-use Rattle.ofec.specs.Calls.{Encoded, afterEncode, encodeCall, Received, afterReceive, receiveCall}
-use Rattle.loopback.specs.Tally.{wrongAt, tally, Tallied, lost, wordKind, bitKind, payloadKind}
+use Rattle.calls.specs.declared.Answer.the-variants.{Done, Refused}
+use Rattle.calls.specs.declared.Refusal.the-variants.{Misfit, BadHeader, CountSpent, NoSuchFrame, OffGrid}
+use Rattle.calls.specs.Answers.{refusalOf}
+use Rattle.loopback.specs.Steps.{each}
+use Rattle.loopback.specs.StepLaws.{Stepping, step-more, step-done}
+use Rattle.loopback.specs.Tally.{plus, oneMore, tallied, tally, answered, refusedTwo, wrongAt, lost, wordKind, bitKind}
 
-pub tally-none : (f : ℕ → ℕ) (d : List ℕ) → Tallied f 0 d d
-unfolding tally count
-tally-none f d = record { long = refl; counts = λ v l. ap (λ x. x % 2 ^ 32) (sym (add-zero (getD d v 0))) }
+-- ---- counters
+
+-- Where a number is known by another.
+pub added : (d d′ : List ℕ) (at n x : ℕ) → x ≡ (getD d at 0 + n) % 2 ^ 32 → d′ ≡ set d at x → d′ ≡ plus at n d
+unfolding plus
+added d d′ at n x e is = is ∙ ap (set d at) e
+
+refusal-lt : (a : Answer) → refusalOf a < 6
+refusal-lt (Done v) = omega arith
+refusal-lt (Refused Misfit) = omega arith
+refusal-lt (Refused BadHeader) = omega arith
+refusal-lt (Refused CountSpent) = omega arith
+refusal-lt (Refused NoSuchFrame) = omega arith
+refusal-lt (Refused (OffGrid i)) = omega arith
+
+pub counted : (d d′ : List ℕ) (a : Answer) (r : ℕ) → r ≡ refusalOf a → d′ ≡ plus (1 + r % 6) 1 d → d′ ≡ answered a d
+unfolding answered
+counted d d′ a r e is = let z : 1 + r % 6 ≡ 1 + refusalOf a = omega (arith, refusal-lt a) in is ∙ ap (λ i. plus i 1 d) z
+
+-- Two calls with their refusals known.
+pub two-answered : (d d′ d″ : List ℕ) (a b x y : Answer) → d′ ≡ answered a d → d″ ≡ answered b d′ → a ≡ x → b ≡ y → d″ ≡ answered y (answered x d)
+two-answered d d′ d″ a b x y e f ea eb = cc
+
+pub refused-more : (before d d′ d″ : List ℕ) (k : ℕ) (a b : Answer) → Stepping (λ i. refusedTwo) 168 before k d → k < 168 → d′ ≡ answered a d → d″ ≡ answered b d′
+    → a ≡ Refused Misfit → b ≡ Refused CountSpent → Stepping (λ i. refusedTwo) 168 before (k + 1) d″
+refused-more before d d′ d″ k a b s l e f ea eb = step-more d″ s l (two-answered d d′ d″ a b _ _ e f ea eb)
+
+pub tallied-more : (n : ℕ) (kind : ℕ → ℕ) (before d : List ℕ) (i : ℕ) (d′ : List ℕ) (v : ℕ) → Stepping (oneMore kind) n before i d → i < n → v ≡ kind i → d′ ≡ plus v 1 d
+    → Stepping (oneMore kind) n before (i + 1) d′
+unfolding oneMore
+tallied-more n kind before d i d′ v s l e is = step-more d′ s l (is ∙ ap (λ k. plus k 1 d) e)
+
+pub tallied-done : (n : ℕ) (kind : ℕ → ℕ) (before d : List ℕ) (i : ℕ) → Stepping (oneMore kind) n before i d → n ≤ i → d ≡ tallied n kind before
+unfolding tallied
+tallied-done n kind before d i s l = step-done s l
+
+-- ---- each counter has the number of its kind added
 
 -- What a test adds.
 abbrev unit : Bool → ℕ
 unit t = cond t 1 0
 
+length-plus : (at n : ℕ) (d : List ℕ) → length (plus at n d) ≡ length d
+unfolding plus
+length-plus at n d = length-set d at ((getD d at 0 + n) % 2 ^ 32)
+
+pub length-tallied : (n : ℕ) (kind : ℕ → ℕ) (d : List ℕ) → length (tallied n kind d) ≡ length d
+unfolding tallied each oneMore
+length-tallied zero kind d = refl
+length-tallied (suc n) kind d = length-plus (kind n) 1 (tallied n kind d) ∙ length-tallied n kind d
+
 same : (a b : ℕ) → a % 2 ^ 32 ≡ b % 2 ^ 32 → (a + 1) % 2 ^ 32 % 2 ^ 32 ≡ (b + 1) % 2 ^ 32
 same a b q = omega arith
 
-pub tally-more : {f : ℕ → ℕ} {n : ℕ} {before d : List ℕ} (v : ℕ) (d′ : List ℕ) → Tallied f n before d → v ≡ f n → v < 40 → length before ≡ 40
-    → d′ ≡ set d v ((getD d v 0 + 1) % 2 ^ 32) → Tallied f (n + 1) before d′
-unfolding tally count
-tally-more {f} {n} {before} {d} v d′ t e small long is =
-    record {
-      long = ap length is ∙ length-set d v ((getD d v 0 + 1) % 2 ^ 32) ∙ t .long;
-      counts = λ u lu. ap (λ s. getD s u 0 % 2 ^ 32) is ∙ go u lu (ℕ-discrete u v);
-    }
-  where
-    x : ℕ
-    x = (getD d v 0 + 1) % 2 ^ 32
+module _ (kind : ℕ → ℕ) (d : List ℕ) (inside : (i : ℕ) → kind i < length d) where
+  pub tallied-counts : (n v : ℕ) → getD (tallied n kind d) v 0 % 2 ^ 32 ≡ (getD d v 0 + tally n kind v) % 2 ^ 32
+  unfolding tallied each oneMore tally count plus
+  tallied-counts zero v = ap (λ x. x % 2 ^ 32) (sym (add-zero (getD d v 0)))
+  tallied-counts (suc n) v = go (ℕ-discrete v (kind n)) (tallied-counts n v)
+    where
+      t : List ℕ
+      t = tallied n kind d
 
-    next : (u : ℕ) → tally (n + 1) f u ≡ tally n f u + unit (eqb (f n) u)
-    next u = ap (λ i. tally i f u) (add-one n)
+      x : ℕ
+      x = (getD t (kind n) 0 + 1) % 2 ^ 32
 
-    go : (u : ℕ) → u < length before → Dec (u ≡ v) → getD (set d v x) u 0 % 2 ^ 32 ≡ (getD before u 0 + tally (n + 1) f u) % 2 ^ 32
-    go u lu (yes h) =
-        let one : unit (eqb (f n) u) ≡ 1 = ap unit (eq-eqb (f n) u (sym e ∙ sym h)) in
-        let sum : getD before u 0 + tally n f u + 1 ≡ getD before u 0 + tally (n + 1) f u = omega (arith, next u, one) in
-        ap (λ i. getD (set d v x) i 0 % 2 ^ 32) h
-        ∙ ap (λ y. y % 2 ^ 32) (getD-set-same d v x 0 (omega (arith, t .long)))
-        ∙ same (getD d v 0) (getD before u 0 + tally n f u) (ap (λ i. getD d i 0 % 2 ^ 32) (sym h) ∙ t .counts u lu)
-        ∙ ap (λ y. y % 2 ^ 32) sum
-    go u lu (no h) =
-        let none : unit (eqb (f n) u) ≡ 0 = ap unit (ne-eqb (f n) u (λ q. h (sym q ∙ sym e))) in
-        let sum : getD before u 0 + tally n f u ≡ getD before u 0 + tally (n + 1) f u = omega (arith, next u, none) in
-        ap (λ y. y % 2 ^ 32) (getD-set-other d v u x 0 h) ∙ t .counts u lu ∙ ap (λ y. y % 2 ^ 32) sum
-
-pub tally-one : (f : ℕ → ℕ) (v : ℕ) (d d′ : List ℕ) → v ≡ f 0 → v < 40 → length d ≡ 40 → d′ ≡ set d v ((getD d v 0 + 1) % 2 ^ 32) → Tallied f 1 d d′
-tally-one f v d d′ e small long is = tally-more v d′ (tally-none f d) e small long is
-
-pub tally-done : {f : ℕ → ℕ} {i : ℕ} {before d : List ℕ} (n : ℕ) → Tallied f i before d → i ≤ n → n ≤ i → Tallied f n before d
-tally-done {f} {i} {before} {d} n t l r = let e : i ≡ n = omega arith in subst (λ m. Tallied f m before d) e t
-
-pub tally-long : {f : ℕ → ℕ} {i : ℕ} {before d : List ℕ} → Tallied f i before d → length before ≡ 40 → length d ≡ 40
-tally-long t l = t .long ∙ l
-
-pub ruleset tallying = (tally-none, tally-more, tally-done, tally-long)
-
--- ---- counters
-
--- Where a number is known by another.
-pub added : (d d′ : List ℕ) (at n x : ℕ) → x ≡ (getD d at 0 + n) % 2 ^ 32 → d′ ≡ set d at x → d′ ≡ set d at ((getD d at 0 + n) % 2 ^ 32)
-added d d′ at n x e is = is ∙ ap (set d at) e
-
-pub counted : (d d′ : List ℕ) (at r : ℕ) → at ≡ r → d′ ≡ set d (1 + at % 6) ((getD d (1 + at % 6) 0 + 1) % 2 ^ 32)
-    → d′ ≡ set d (1 + r % 6) ((getD d (1 + r % 6) 0 + 1) % 2 ^ 32)
-counted d d′ at r e is = is ∙ ap (λ i. set d (1 + i % 6) ((getD d (1 + i % 6) 0 + 1) % 2 ^ 32)) e
+      go : Dec (v ≡ kind n) → getD t v 0 % 2 ^ 32 ≡ (getD d v 0 + tally n kind v) % 2 ^ 32
+          → getD (set t (kind n) x) v 0 % 2 ^ 32 ≡ (getD d v 0 + (tally n kind v + unit (eqb (kind n) v))) % 2 ^ 32
+      go (yes h) s =
+          let one : unit (eqb (kind n) v) ≡ 1 = ap unit (eq-eqb (kind n) v (sym h)) in
+          let sum : getD d v 0 + tally n kind v + 1 ≡ getD d v 0 + (tally n kind v + unit (eqb (kind n) v)) = omega (arith, one) in
+          ap (λ i. getD (set t (kind n) x) i 0 % 2 ^ 32) h
+          ∙ ap (λ y. y % 2 ^ 32) (getD-set-same t (kind n) x 0 (omega (arith, inside n, length-tallied n kind d)))
+          ∙ same (getD t (kind n) 0) (getD d v 0 + tally n kind v) (ap (λ i. getD t i 0 % 2 ^ 32) (sym h) ∙ s)
+          ∙ ap (λ y. y % 2 ^ 32) sum
+      go (no h) s =
+          let none : unit (eqb (kind n) v) ≡ 0 = ap unit (ne-eqb (kind n) v (λ q. h (sym q))) in
+          let sum : getD d v 0 + tally n kind v ≡ getD d v 0 + (tally n kind v + unit (eqb (kind n) v)) = omega (arith, none) in
+          ap (λ y. y % 2 ^ 32) (getD-set-other t (kind n) v x 0 h) ∙ s ∙ ap (λ y. y % 2 ^ 32) sum
 
 -- ---- kinds
 
@@ -123,38 +144,9 @@ module _ (sent got : List ℕ) (mark m n : ℕ) (em : m ≡ mark) (en : n ≡ di
   unfolding wordKind
   word-more l = rw em (simp (le-ltb _ _ (rw en at l)))
 
-pub bit-is : (sent got kept : List ℕ) (mark i d e l : ℕ) → d ≡ wrongAt sent got (128 + i) → e ≡ wrongAt sent kept (128 + i) → l ≡ lost mark
-    → 27 + d + e * 2 + l * 4 ≡ bitKind sent got kept mark i
+pub bit-is : (from : ℕ) (sent got kept : List ℕ) (i d e : ℕ) → d ≡ wrongAt sent got (128 + i) → e ≡ wrongAt sent kept (128 + i)
+    → from + d + e * 2 ≡ bitKind from sent got kept i
 unfolding bitKind
-bit-is sent got kept mark i d e l ed ee el = rw (ed, ee, el)
+bit-is from sent got kept i d e ed ee = rw (ed, ee)
 
-pub payload-is : (sent out : List ℕ) (mark i d l : ℕ) → d ≡ wrongAt sent out (128 + i) → l ≡ lost mark → 35 + d + l * 2 ≡ payloadKind sent out mark i
-unfolding payloadKind
-payload-is sent out mark i d l ed el = rw (ed, el)
-
-pub ruleset kinds = (word-few, word-more, bit-is, payload-is)
-
--- ---- refused calls
-
-pub encode-misfit : (r : Answer) (c h payload coded history : List ℕ) (P : ℕ) → afterEncode r c h ≡ encodeCall payload coded history P → length payload ≡ 443 → h ≡ history
-encode-misfit r c h payload coded history P is l =
-    let n : length payload ≢ 444 = λ e. omega (arith, l, e) in
-    ap (λ (x : Encoded). x .written .history) (is ∙ sym (call-refused _ _ _ Misfit (is-misfit _ _ _ n)))
-
-pub encode-late : (r : Answer) (c h payload coded history : List ℕ) → afterEncode r c h ≡ encodeCall payload coded history 4294967295 → length payload ≡ 444
-    → length coded ≡ 512 → length history ≡ 5120 → h ≡ history
-encode-late r c h payload coded history is lp lc lh =
-    ap (λ (x : Encoded). x .written .history) (is ∙ sym (call-refused _ _ _ CountSpent (search tests depth 6)))
-
-pub receive-misfit : (r : Answer) (y m h coded payload marks history : List ℕ) (P : ℕ) → afterReceive r y m h ≡ receiveCall coded payload marks history P → length coded ≡ 511
-    → h ≡ history
-receive-misfit r y m h coded payload marks history P is l =
-    let n : length coded ≢ 512 = λ e. omega (arith, l, e) in
-    ap (λ (x : Received). x .written .history) (is ∙ sym (call-refused _ _ _ Misfit (is-misfit _ _ _ n)))
-
-pub receive-late : (r : Answer) (y m h coded payload marks history : List ℕ) → afterReceive r y m h ≡ receiveCall coded payload marks history 4294967295 → length coded ≡ 512
-    → length payload ≡ 444 → length marks ≡ 32 → length history ≡ 5120 → h ≡ history
-receive-late r y m h coded payload marks history is lc lp lm lh =
-    ap (λ (x : Received). x .written .history) (is ∙ sym (call-refused _ _ _ CountSpent (search tests depth 7)))
-
-pub ruleset refusing = (encode-misfit, encode-late, receive-misfit, receive-late)
+pub ruleset kinds = (word-few, word-more, bit-is)

@@ -3,22 +3,22 @@
 use calls::Answer;
 use libc::STDOUT_FILENO;
 ghost use mathlib.Core.Path.{_≡_};
-ghost use Prim.Native.Nat.{_+_, _^_, _%_, _<_};
-ghost use lib.ListN.{length, getD, set};
-ghost use Rattle.calls.specs.Answers.{refusalOf};
+ghost use Prim.Native.Nat.{_<_};
+ghost use lib.ListN.{length};
+ghost use Rattle.loopback.specs.Tally.{plus, answered};
 
 // Adds to the counter at a place.
 pub fn add(counts: &mut [u32], at: usize, n: u32)
     requires { ⌜ at < length (now counts) ⌝ }
-    ensures { λ _. ⌜ now (counts .exit) ≡ set (now (counts .entry)) at ((getD (now (counts .entry)) at 0 + n) % 2 ^ 32) ⌝ }
+    ensures { λ _. ⌜ now (counts .exit) ≡ plus at n (now (counts .entry)) ⌝ }
 {
     counts[at] = std::num::wrapping_add_u32(counts[at], n);
 }
 
 // Counts a call by its answer.
 pub fn answered(counts: &mut [u32], a: Answer)
-    requires { ⌜ length (now counts) ≡ 40 ⌝ }
-    ensures { λ _. ⌜ now (counts .exit) ≡ set (now (counts .entry)) (1 + refusalOf a % 6) ((getD (now (counts .entry)) (1 + refusalOf a % 6) 0 + 1) % 2 ^ 32) ⌝ }
+    requires { ⌜ length (now counts) ≡ 41 ⌝ }
+    ensures { λ _. ⌜ now (counts .exit) ≡ answered a (now (counts .entry)) ⌝ }
 {
     add(counts, 1 + calls::refusal_of(a) as usize % 6, 1);
 }
@@ -28,12 +28,12 @@ fn number(n: u32) {
 }
 
 // Prints a text with the counts, from a place on, for its number signs.
-fn print(text: &[u8], counts: &[u32; 40], from: usize) {
-    let mut at = from % 40;
+fn print(text: &[u8], counts: &[u32; 41], from: usize) {
+    let mut at = from % 41;
     for i in 0..text.len() {
         if text[i] == b'#' {
             number(counts[at]);
-            at = (at + 1) % 40;
+            at = (at + 1) % 41;
         } else {
             let e = i + 1;
             io::write_all(STDOUT_FILENO, &text[i..e]);
@@ -42,7 +42,7 @@ fn print(text: &[u8], counts: &[u32; 40], from: usize) {
 }
 
 // Prints what an encoder did.
-pub fn print_encoder(counts: &[u32; 40]) {
+pub fn print_encoder(counts: &[u32; 41]) {
     print(
         b"encoder: pairs #, calls done #, refused by number # # # # #\n",
         counts,
@@ -51,7 +51,7 @@ pub fn print_encoder(counts: &[u32; 40]) {
 }
 
 // Prints what the line did.
-pub fn print_line(counts: &[u32; 40]) {
+pub fn print_line(counts: &[u32; 41]) {
     print(
         b"\
 line: refused by number # # # # #
@@ -63,7 +63,7 @@ overhead cells that differ #
 }
 
 // Prints what a receiver did, and what came of it.
-pub fn print_receiver(counts: &[u32; 40]) {
+pub fn print_receiver(counts: &[u32; 41]) {
     print(
         b"\
 receiver: pairs #, calls done #, refused by number # # # # #

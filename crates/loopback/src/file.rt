@@ -1,32 +1,39 @@
 // The line file of one super-frame, 368,656 bytes: header at byte 0, overhead list at 16, frames at 12,304. How it is begun, and what its
 // receiver reads of it.
+use calls::Answer;
 use layout::history::copy;
 ghost use mathlib.Core.Path.{_≡_};
-ghost use lib.ListN.{length, take};
+ghost use lib.ListN.{length, take, drop, replicate};
 ghost use Rattle.bits.specs.Parts.{part};
 ghost use Rattle.lineformat.specs.Opening.{openCall};
 ghost use Rattle.lineformat.specs.Reading.{readRefusalIn, readPartIn};
 ghost use Rattle.lineformat.specs.Writing.{numbersFor, headerBytes};
+ghost use Rattle.interleaving.specs.Calls.{parted};
 ghost use Rattle.loopback.specs.File.{takenWhen};
+ghost use Rattle.loopback.specs.Line.{lineFile, takenOff};
 
 // The whole file.
 type File = [u8; 368656];
 
-pub fn blank() -> File {
+pub fn blank() -> File
+    ensures { λ r. ⌜ r ≡ replicate 368656 0 ⌝ }
+{
     [0u8; 368656]
 }
 
 // Its frames.
 type Frames = [u8; 356352];
 
-fn blank_frames() -> Frames {
+fn blank_frames() -> Frames
+    ensures { λ r. ⌜ r ≡ replicate 356352 0 ⌝ }
+{
     [0u8; 356352]
 }
 
 // Writes header and overhead list.
 pub fn begin(list: &[u8], file: &mut [u8])
     requires { ⌜ (length (now list) ≡ 12288) × (length (now file) ≡ 368656) ⌝ }
-    ensures { λ _. ⌜ take 16 (now (file .exit)) ≡ headerBytes (numbersFor 1) ⌝ }
+    ensures { λ _. ⌜ now (file .exit) ≡ lineFile (now (list .entry)) (drop 12304 (now (file .entry))) ⌝ }
 {
     copy(list, &mut file[16..12304]);
     linefile::write_header(1, &mut file[0..16]);
@@ -62,14 +69,12 @@ fn list_of(file: &[u8]) -> &[u8]
     &file[16..12304]
 }
 
-// Takes the pairs of both encoders off the frames: the number of overhead cells that differ from the file's list.
-pub fn take(file: &[u8], pairs0: &mut [u8], pairs1: &mut [u8]) -> u32
+// Takes the pairs of both encoders off the frames.
+pub fn take(file: &[u8], pairs0: &mut [u8], pairs1: &mut [u8]) -> Answer
     requires { ⌜ (take 16 (now file) ≡ headerBytes (numbersFor 1)) × (length (now file) ≡ 368656) × (length (now pairs0) ≡ 86016) × (length (now pairs1) ≡ 86016) ⌝ }
+    ensures { λ r. ⌜ parted r (now (pairs0 .exit)) (now (pairs1 .exit)) ≡ takenOff (now (file .entry)) (now (pairs0 .entry)) (now (pairs1 .entry)) ⌝ }
 {
     let mut frames = blank_frames();
     read_frames(file, &mut frames);
-    calls::value_or(
-        superframe::take_apart(&frames, list_of(file), pairs0, pairs1),
-        0,
-    )
+    superframe::take_apart(&frames, list_of(file), pairs0, pairs1)
 }

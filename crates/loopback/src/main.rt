@@ -10,11 +10,16 @@ mod receiving;
 mod refusing;
 mod sending;
 
-// The 336 coded pairs of an encoder, with the ten of a fresh history in front.
-type Coded = [u8; 177152];
+ghost use mathlib.Core.Path.{_≡_};
+ghost use lib.ListN.{replicate};
 
-fn blank() -> Coded {
-    [0u8; 177152]
+// The 336 coded pairs of an encoder.
+type Coded = [u8; 172032];
+
+fn blank() -> Coded
+    ensures { λ r. ⌜ r ≡ replicate 172032 0 ⌝ }
+{
+    [0u8; 172032]
 }
 
 fn main() {

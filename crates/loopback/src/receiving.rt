@@ -1,8 +1,8 @@
 // Receiving: the pairs of an encoder in order, each after refused calls, and what came of them. `sent` and `got` are the coded pairs as
-// sent and as received, with the ten of a fresh history in front.
+// sent and as received.
 use crate::comparing::count_bits;
-use crate::comparing::count_payload;
-use crate::comparing::count_word;
+use crate::comparing::lost;
+use crate::comparing::word_kind;
 use crate::counts::add;
 use crate::counts::print_receiver;
 use crate::random;
@@ -10,62 +10,89 @@ use crate::refusing::refuse_receiving;
 use layout::words::held_word;
 use layout::words::open_word;
 ghost use mathlib.Core.Path.{_≡_};
-ghost use Prim.Native.Nat.{_<_};
+ghost use Prim.Native.Nat.{_-_, _<_};
 ghost use lib.ListN.{length};
-ghost use Rattle.bits.specs.Bits.{pack};
-ghost use Rattle.bits.specs.Parts.{part};
-ghost use Rattle.ofec.specs.History.{depth};
-ghost use Rattle.ofec.specs.Receiving.{heldWord};
+ghost use Rattle.bits.specs.Parts.{partOf};
+ghost use Rattle.ofec.specs.Stream.{receiver, historyOver};
+ghost use Rattle.loopback.specs.Random.{pairPayload};
+ghost use Rattle.loopback.specs.Received.{wordIn, keptWord, payloadWord, codedCounted, payloadCounted, pairCompared, pairTaken, pairReceived, nextReceived};
+ghost use Rattle.loopback.specs.Steps.{each};
 
-// Word w of the last of eleven pairs.
-fn word(pairs: &[u8], pair: u32, w: usize) -> [u8; 32]
-    requires { ⌜ (length (now pairs) ≡ 5632) × (w < 32) ⌝ }
-    ensures { λ r. ⌜ r ≡ pack 32 (heldWord depth (part 0 5120 (now (pairs .entry))) pair (part 5120 512 (now (pairs .entry))) w) ⌝ }
+// The first of the ten pairs before pair k. A word of the first ten pairs has zeros in front, whatever stands there.
+fn before(k: usize) -> usize
+    ensures { λ r. ⌜ r ≡ k - 10 ⌝ }
 {
-    held_word(&pairs[0..5120], &pairs[5120..5632], pair, w)
+    if k < 10 {
+        return 0;
+    }
+    k - 10
+}
+
+// Word w of pair k, with the ten pairs before it.
+fn word(pairs: &[u8], k: usize, w: usize) -> [u8; 32]
+    requires { ⌜ (length (now pairs) ≡ 172032) × (k < 336) × (w < 32) ⌝ }
+    ensures { λ r. ⌜ r ≡ wordIn (now (pairs .entry)) k w ⌝ }
+{
+    let a = before(k) * 512;
+    let b = a + 5120;
+    let m = k * 512;
+    let e = m + 512;
+    held_word(&pairs[a..b], &pairs[m..e], k as u32, w)
 }
 
 // Word w of the newest pair of a history, as far as that pair has it: its back half.
-fn kept_word(history: &[u8], pair: u32, w: usize) -> [u8; 32]
-    requires { ⌜ (length (now history) ≡ 5120) × (w < 32) ⌝ }
-    ensures { λ r. ⌜ r ≡ pack 32 (heldWord depth (now (history .entry)) pair (part 4608 512 (now (history .entry))) w) ⌝ }
+fn kept_word(history: &[u8], k: usize, w: usize) -> [u8; 32]
+    requires { ⌜ (length (now history) ≡ 5120) × (k < 336) × (w < 32) ⌝ }
+    ensures { λ r. ⌜ r ≡ keptWord (now (history .entry)) k w ⌝ }
 {
-    held_word(history, &history[4608..5120], pair, w)
+    held_word(history, &history[4608..5120], k as u32, w)
 }
 
-// Compares word w of a pair: as received with the ten pairs before it, and as the receiver's history keeps it.
+// The payload bits of word w, in their places.
+fn payload_word(payload: &[u8], k: usize, w: usize) -> [u8; 32]
+    requires { ⌜ (length (now payload) ≡ 444) × (k < 336) × (w < 32) ⌝ }
+    ensures { λ r. ⌜ r ≡ payloadWord (now (payload .entry)) k w ⌝ }
+{
+    let history = [0u8; 5120];
+    open_word(&history, payload, k as u32, w)
+}
+
+// Compares word w of pair k: as received with the ten pairs before it, and as the receiver's history keeps it.
 fn compare_coded(
+    k: usize,
     w: usize,
-    pair: u32,
     sent: &[u8],
     got: &[u8],
     history: &[u8],
     mark: u8,
     counts: &mut [u32],
 )
-    requires { ⌜ (w < 32) × (length (now sent) ≡ 5632) × (length (now got) ≡ 5632) × (length (now history) ≡ 5120) × (length (now counts) ≡ 40) ⌝ }
+    requires { ⌜ (k < 336) × (w < 32) × (length (now sent) ≡ 172032) × (length (now got) ≡ 172032) × (length (now history) ≡ 5120) × (length (now counts) ≡ 41) ⌝ }
+    ensures { λ _. ⌜ now (counts .exit) ≡ codedCounted k w (now (sent .entry)) (now (got .entry)) (now (history .entry)) mark (now (counts .entry)) ⌝ }
 {
-    let s = word(sent, pair, w);
-    let g = word(got, pair, w);
-    let k = kept_word(history, pair, w);
-    count_word(&s, &g, mark, counts);
-    count_bits(&s, &g, &k, mark, counts);
+    let s = word(sent, k, w);
+    let g = word(got, k, w);
+    let h = kept_word(history, k, w);
+    add(counts, word_kind(&s, &g, mark), 1);
+    count_bits(128, 27 + lost(mark) * 4, &s, &g, &h, counts);
 }
 
-// Compares its payload.
-fn compare_payload(w: usize, pair: u32, sent: &[u8], out: &[u8], mark: u8, counts: &mut [u32])
-    requires { ⌜ (w < 32) × (length (now sent) ≡ 444) × (length (now out) ≡ 444) × (length (now counts) ≡ 40) ⌝ }
+// Compares its payload, which is drawn again.
+fn compare_payload(k: usize, w: usize, encoder: u32, out: &[u8], mark: u8, counts: &mut [u32])
+    requires { ⌜ (k < 336) × (w < 32) × (encoder < 2) × (length (now out) ≡ 444) × (length (now counts) ≡ 41) ⌝ }
+    ensures { λ _. ⌜ now (counts .exit) ≡ payloadCounted k w (pairPayload encoder k) (now (out .entry)) mark (now (counts .entry)) ⌝ }
 {
-    let history = [0u8; 5120];
-    let s = open_word(&history, sent, pair, w);
-    let o = open_word(&history, out, pair, w);
-    count_payload(&s, &o, mark, counts);
+    let mut payload = [0u8; 444];
+    random::fill(&mut payload, k as u32 * 2 + encoder, 1);
+    let s = payload_word(&payload, k, w);
+    let o = payload_word(out, k, w);
+    count_bits(111, 35 + lost(mark) * 2, &s, &o, &s, counts);
 }
 
-// Compares the words of a pair.
+// Compares the words of pair k.
 fn compare(
+    k: usize,
     encoder: u32,
-    pair: u32,
     sent: &[u8],
     got: &[u8],
     history: &[u8],
@@ -73,13 +100,12 @@ fn compare(
     marks: &[u8],
     counts: &mut [u32],
 )
-    requires { ⌜ (encoder < 2) × (pair < 336) × (length (now sent) ≡ 5632) × (length (now got) ≡ 5632) × (length (now history) ≡ 5120) × (length (now out) ≡ 444) × (length (now marks) ≡ 32) × (length (now counts) ≡ 40) ⌝ }
+    requires { ⌜ (k < 336) × (encoder < 2) × (length (now sent) ≡ 172032) × (length (now got) ≡ 172032) × (length (now history) ≡ 5120) × (length (now out) ≡ 444) × (length (now marks) ≡ 32) × (length (now counts) ≡ 41) ⌝ }
+    ensures { λ _. ⌜ now (counts .exit) ≡ pairCompared encoder k (now (sent .entry)) (now (got .entry)) (now (history .entry)) (now (out .entry)) (now (marks .entry)) (now (counts .entry)) ⌝ }
 {
-    let mut payload = [0u8; 444];
-    random::fill(&mut payload, pair * 2 + encoder, 1);
     for w in 0..32 {
-        compare_coded(w, pair, sent, got, history, marks[w], counts);
-        compare_payload(w, pair, &payload, out, marks[w], counts);
+        compare_coded(k, w, sent, got, history, marks[w], counts);
+        compare_payload(k, w, encoder, out, marks[w], counts);
     }
 }
 
@@ -92,24 +118,15 @@ fn receive_next(
     history: &mut [u8],
     counts: &mut [u32],
 )
-    requires { ⌜ (k < 336) × (encoder < 2) × (length (now sent) ≡ 177152) × (length (now got) ≡ 177152) × (length (now history) ≡ 5120) × (length (now counts) ≡ 40) ⌝ }
+    requires { ⌜ (k < 336) × (encoder < 2) × (length (now sent) ≡ 172032) × (length (now got) ≡ 172032) × (length (now history) ≡ 5120) × (length (now counts) ≡ 41) ⌝ }
+    ensures { λ _. ⌜ (now (history .exit) ≡ historyOver receiver 1 (now (history .entry)) k (partOf 512 (now (got .entry)) k)) × (now (counts .exit) ≡ pairTaken encoder (now (sent .entry)) (now (got .entry)) (now (history .entry)) k (now (counts .entry))) ⌝ }
 {
     let a = k * 512;
-    let m = a + 5120;
-    let e = a + 5632;
+    let e = a + 512;
     let mut out = [0u8; 444];
     let mut marks = [0u8; 32];
-    stream::receive(1, &got[m..e], k as u32, history, &mut out, &mut marks);
-    compare(
-        encoder,
-        k as u32,
-        &sent[a..e],
-        &got[a..e],
-        history,
-        &out,
-        &marks,
-        counts,
-    );
+    stream::receive(1, &got[a..e], k as u32, history, &mut out, &mut marks);
+    compare(k, encoder, sent, got, history, &out, &marks, counts);
 }
 
 // The same, after refused calls.
@@ -121,7 +138,8 @@ fn receive_after(
     history: &mut [u8],
     counts: &mut [u32],
 )
-    requires { ⌜ (k < 336) × (encoder < 2) × (length (now sent) ≡ 177152) × (length (now got) ≡ 177152) × (length (now history) ≡ 5120) × (length (now counts) ≡ 40) ⌝ }
+    requires { ⌜ (k < 336) × (encoder < 2) × (length (now sent) ≡ 172032) × (length (now got) ≡ 172032) × (length (now history) ≡ 5120) × (length (now counts) ≡ 41) ⌝ }
+    ensures { λ _. ⌜ (now (history .exit) ≡ historyOver receiver 1 (now (history .entry)) k (partOf 512 (now (got .entry)) k)) × (now (counts .exit) ≡ pairReceived encoder (now (sent .entry)) (now (got .entry)) (now (history .entry)) k (now (counts .entry))) ⌝ }
 {
     refuse_receiving(history, counts);
     receive_next(k, encoder, sent, got, history, counts);
@@ -130,13 +148,21 @@ fn receive_after(
 }
 
 // Receives the pairs of an encoder.
-pub fn receive(encoder: u32, sent: &[u8], got: &[u8])
-    requires { ⌜ (encoder < 2) × (length (now sent) ≡ 177152) × (length (now got) ≡ 177152) ⌝ }
+fn receive_all(encoder: u32, sent: &[u8], got: &[u8], counts: &mut [u32])
+    requires { ⌜ (encoder < 2) × (length (now sent) ≡ 172032) × (length (now got) ≡ 172032) × (length (now counts) ≡ 41) ⌝ }
+    ensures { λ _. ⌜ now (counts .exit) ≡ each 336 (nextReceived encoder (now (sent .entry)) (now (got .entry))) (now (counts .entry)) ⌝ }
 {
     let mut history = [0u8; 5120];
-    let mut counts = [0u32; 40];
     for k in 0..336 {
-        receive_after(k, encoder, sent, got, &mut history, &mut counts);
+        receive_after(k, encoder, sent, got, &mut history, counts);
     }
+}
+
+// The same, and a print of what came of it.
+pub fn receive(encoder: u32, sent: &[u8], got: &[u8])
+    requires { ⌜ (encoder < 2) × (length (now sent) ≡ 172032) × (length (now got) ≡ 172032) ⌝ }
+{
+    let mut counts = [0u32; 41];
+    receive_all(encoder, sent, got, &mut counts);
     print_receiver(&counts);
 }

@@ -3,13 +3,17 @@ use crate::counts::answered;
 use calls::Answer;
 ghost use mathlib.Core.Path.{_≡_};
 ghost use lib.ListN.{length};
+ghost use Rattle.calls.specs.declared.Answer.the-variants.{Refused};
+ghost use Rattle.calls.specs.declared.Refusal.the-variants.{Misfit, CountSpent, NoSuchFrame, OffGrid};
+ghost use Rattle.loopback.specs.Steps.{each};
+ghost use Rattle.loopback.specs.Tally.{answered, refusedTwo};
 
 // The pair number that no call takes.
 const SPENT: u32 = 4294967295;
 
 // A call of encoding with a byte too few.
 fn encode_short(history: &mut [u8]) -> Answer
-    ensures { λ _. ⌜ now (history .exit) ≡ now (history .entry) ⌝ }
+    ensures { λ r. ⌜ (r ≡ Refused Misfit) × (now (history .exit) ≡ now (history .entry)) ⌝ }
 {
     let payload = [0u8; 443];
     let mut coded = [0u8; 512];
@@ -19,7 +23,7 @@ fn encode_short(history: &mut [u8]) -> Answer
 // One with the pair number that no call takes.
 fn encode_spent(history: &mut [u8]) -> Answer
     requires { ⌜ length (now history) ≡ 5120 ⌝ }
-    ensures { λ _. ⌜ now (history .exit) ≡ now (history .entry) ⌝ }
+    ensures { λ r. ⌜ (r ≡ Refused CountSpent) × (now (history .exit) ≡ now (history .entry)) ⌝ }
 {
     let payload = [0u8; 444];
     let mut coded = [0u8; 512];
@@ -28,8 +32,8 @@ fn encode_spent(history: &mut [u8]) -> Answer
 
 // Both, for each pair of a super-frame.
 pub fn refuse_encodings(history: &mut [u8], counts: &mut [u32])
-    requires { ⌜ (length (now history) ≡ 5120) × (length (now counts) ≡ 40) ⌝ }
-    ensures { λ _. ⌜ now (history .exit) ≡ now (history .entry) ⌝ }
+    requires { ⌜ (length (now history) ≡ 5120) × (length (now counts) ≡ 41) ⌝ }
+    ensures { λ _. ⌜ (now (history .exit) ≡ now (history .entry)) × (now (counts .exit) ≡ each 168 (λ k. refusedTwo) (now (counts .entry))) ⌝ }
 {
     for k in 0..168usize {
         answered(counts, encode_short(history));
@@ -39,7 +43,7 @@ pub fn refuse_encodings(history: &mut [u8], counts: &mut [u32])
 
 // A call of receiving with a byte too few.
 fn receive_short(history: &mut [u8]) -> Answer
-    ensures { λ _. ⌜ now (history .exit) ≡ now (history .entry) ⌝ }
+    ensures { λ r. ⌜ (r ≡ Refused Misfit) × (now (history .exit) ≡ now (history .entry)) ⌝ }
 {
     let coded = [0u8; 511];
     let mut payload = [0u8; 444];
@@ -50,7 +54,7 @@ fn receive_short(history: &mut [u8]) -> Answer
 // One with the pair number that no call takes.
 fn receive_spent(history: &mut [u8]) -> Answer
     requires { ⌜ length (now history) ≡ 5120 ⌝ }
-    ensures { λ _. ⌜ now (history .exit) ≡ now (history .entry) ⌝ }
+    ensures { λ r. ⌜ (r ≡ Refused CountSpent) × (now (history .exit) ≡ now (history .entry)) ⌝ }
 {
     let coded = [0u8; 512];
     let mut payload = [0u8; 444];
@@ -60,15 +64,17 @@ fn receive_spent(history: &mut [u8]) -> Answer
 
 // Both.
 pub fn refuse_receiving(history: &mut [u8], counts: &mut [u32])
-    requires { ⌜ (length (now history) ≡ 5120) × (length (now counts) ≡ 40) ⌝ }
-    ensures { λ _. ⌜ now (history .exit) ≡ now (history .entry) ⌝ }
+    requires { ⌜ (length (now history) ≡ 5120) × (length (now counts) ≡ 41) ⌝ }
+    ensures { λ _. ⌜ (now (history .exit) ≡ now (history .entry)) × (now (counts .exit) ≡ refusedTwo (now (counts .entry))) ⌝ }
 {
     answered(counts, receive_short(history));
     answered(counts, receive_spent(history));
 }
 
 // A call of framing for a sub-frame that there is not.
-fn frame_beyond() -> Answer {
+fn frame_beyond() -> Answer
+    ensures { λ r. ⌜ r ≡ Refused NoSuchFrame ⌝ }
+{
     let list = [0u8; 12288];
     let all = &list[..];
     let mut frame = [0u8; 7424];
@@ -76,7 +82,9 @@ fn frame_beyond() -> Answer {
 }
 
 // One with an illegal overhead list.
-fn frame_off_grid() -> Answer {
+fn frame_off_grid() -> Answer
+    ensures { λ r. ⌜ r ≡ Refused (OffGrid 0) ⌝ }
+{
     let list = [16u8; 12288];
     let all = &list[..];
     let mut frame = [0u8; 7424];
@@ -85,7 +93,8 @@ fn frame_off_grid() -> Answer {
 
 // Both.
 pub fn refuse_framing(counts: &mut [u32])
-    requires { ⌜ length (now counts) ≡ 40 ⌝ }
+    requires { ⌜ length (now counts) ≡ 41 ⌝ }
+    ensures { λ _. ⌜ now (counts .exit) ≡ answered (Refused (OffGrid 0)) (answered (Refused NoSuchFrame) (now (counts .entry))) ⌝ }
 {
     answered(counts, frame_beyond());
     answered(counts, frame_off_grid());

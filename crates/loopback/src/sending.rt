@@ -5,14 +5,19 @@ use crate::random;
 use crate::refusing::refuse_encodings;
 ghost use mathlib.Core.Path.{_≡_};
 ghost use Prim.Native.Nat.{_*_, _<_};
-ghost use lib.ListN.{length};
+ghost use lib.ListN.{length, replicate};
+ghost use Rattle.bits.specs.Parts.{endToEnd};
 ghost use Rattle.ofec.specs.Stream.{encoder as encoderOf, codedOf, historyOver};
 ghost use Rattle.loopback.specs.Random.{payloadIn};
+ghost use Rattle.loopback.specs.Sent.{sentIn, frameSent};
+ghost use Rattle.loopback.specs.Steps.{each};
 
 // The payload of an encoder in a super-frame.
 type Payload = [u8; 74592];
 
-fn blank() -> Payload {
+fn blank() -> Payload
+    ensures { λ r. ⌜ r ≡ replicate 74592 0 ⌝ }
+{
     [0u8; 74592]
 }
 
@@ -30,33 +35,36 @@ fn draw(encoder: u32, q: u32, payload: &mut [u8])
 
 // Its coded pairs, after refused calls.
 fn encode_next(encoder: u32, q: u32, history: &mut [u8], coded: &mut [u8], counts: &mut [u32])
-    requires { ⌜ (encoder < 2) × (q < 2) × (length (now history) ≡ 5120) × (length (now coded) ≡ 86016) × (length (now counts) ≡ 40) ⌝ }
-    ensures { λ _. ⌜ (now (coded .exit) ≡ codedOf 168 (now (history .entry)) (q * 168) (payloadIn encoder q)) × (now (history .exit) ≡ historyOver encoderOf 168 (now (history .entry)) (q * 168) (payloadIn encoder q)) ⌝ }
+    requires { ⌜ (encoder < 2) × (q < 2) × (length (now history) ≡ 5120) × (length (now coded) ≡ 86016) × (length (now counts) ≡ 41) ⌝ }
+    ensures { λ _. ⌜ (now (coded .exit) ≡ codedOf 168 (now (history .entry)) (168 * q) (payloadIn encoder q)) × (now (history .exit) ≡ historyOver encoderOf 168 (now (history .entry)) (168 * q) (payloadIn encoder q)) × (now (counts .exit) ≡ frameSent (now (counts .entry))) ⌝ }
 {
     let mut payload = blank();
     draw(encoder, q, &mut payload);
     refuse_encodings(history, counts);
-    stream::encode(168, &payload, q * 168, history, coded);
+    stream::encode(168, &payload, 168 * q, history, coded);
     add(counts, 0, 168);
     add(counts, 1, 168);
 }
 
-// The coded pairs of two super-frames, behind ten pairs.
-pub fn encode(encoder: u32, sent: &mut [u8])
-    requires { ⌜ (encoder < 2) × (length (now sent) ≡ 177152) ⌝ }
+// The coded pairs of two super-frames.
+fn encode_both(encoder: u32, coded: &mut [u8], counts: &mut [u32])
+    requires { ⌜ (encoder < 2) × (length (now coded) ≡ 172032) × (length (now counts) ≡ 41) ⌝ }
+    ensures { λ _. ⌜ (now (coded .exit) ≡ endToEnd 2 86016 (sentIn encoder)) × (now (counts .exit) ≡ each 2 (λ q. frameSent) (now (counts .entry))) ⌝ }
 {
     let mut history = [0u8; 5120];
-    let mut counts = [0u32; 40];
     for q in 0..2 {
-        let f = 5120 + q * 86016;
+        let f = q * 86016;
         let g = f + 86016;
-        encode_next(
-            encoder,
-            q as u32,
-            &mut history,
-            &mut sent[f..g],
-            &mut counts,
-        );
+        encode_next(encoder, q as u32, &mut history, &mut coded[f..g], counts);
     }
+}
+
+// The same, and a print of what was done.
+pub fn encode(encoder: u32, coded: &mut [u8])
+    requires { ⌜ (encoder < 2) × (length (now coded) ≡ 172032) ⌝ }
+    ensures { λ _. ⌜ now (coded .exit) ≡ endToEnd 2 86016 (sentIn encoder) ⌝ }
+{
+    let mut counts = [0u32; 41];
+    encode_both(encoder, coded, &mut counts);
     print_encoder(&counts);
 }

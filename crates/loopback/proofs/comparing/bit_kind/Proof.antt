@@ -18,7 +18,4 @@ bit-kind-spec =
     (λ c κs. search kit)  -- differ-requires-2
     (λ c. search kit)  -- mul-result
     (λ c. search kit)  -- add-result-2
-    (λ c κs. search kit)  -- lost-requires
-    (λ c. search kit)  -- mul-result-2
-    (λ c. search kit)  -- add-result-3
     (λ c. (search kit, search needs)))  -- returns

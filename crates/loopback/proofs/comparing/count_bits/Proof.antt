@@ -1,19 +1,22 @@
 -- `loopback::comparing::count_bits` meets its contract: one bit a turn.
 -- Assumes nothing.
-use Prim.Native.Nat.{_-_, _≤_}
-use Rattle.loopback.specs.Tally.{Tallied, bitKind}
-use Rattle.loopback.specs.TallyLaws.{tallying, tally-more}
+use mathlib.Core.Path.{_≡_}
+use lib.ListN.{length}
+use Prim.Native.Nat.{_-_}
+use Rattle.loopback.specs.StepLaws.{Stepping, step-none}
+use Rattle.loopback.specs.Tally.{oneMore, bitKind}
+use Rattle.loopback.specs.TallyLaws.{tallied-more, tallied-done}
 use borrow.Author.Needs.{needs}
 use Rattle.loopback.proofs.comparing.count_bits.Statement.{statement}
 use Rattle.loopback.proofs.comparing.count_bits.Tie as tie
 
-ruleset kit = (needs, tallying)
+ruleset kit = (needs, step-none, tallied-done)
 
 abbrev Inv-loop : tie.InvT-loop
-Inv-loop sent got kept mark counts₀ i₀ counts i = (i ≤ 128) × Tallied (bitKind sent got kept mark) i counts₀ counts
+Inv-loop n from sent got kept counts₀ i₀ counts i = (length counts ≡ 41) × Stepping (oneMore (bitKind from sent got kept)) n counts₀ i counts
 
 abbrev μ-loop : tie.MeasureT-loop
-μ-loop sent got kept mark counts₀ i₀ counts i = 128 - i
+μ-loop n from sent got kept counts₀ i₀ counts i = n - i
 
 pub count-bits-spec : {M : Type 1} → statement M
 count-bits-spec =
@@ -26,6 +29,6 @@ count-bits-spec =
     (λ c κs. search kit)  -- add-requires
     (λ c. search kit)  -- add-i
     (λ c. search kit)  -- loop-less
-    (λ c. let l = c .before .before .before .before .before .before .loop in (search needs, tally-more _ _ (l .inv .1) (c .before .before .before .bit-kind .ensures .0) (search needs) (search needs) (c .before .before .add .ensures)))  -- loop-again
+    (λ c. let l = c .before .before .before .before .before .before .loop in (search needs, tallied-more _ _ _ _ _ _ _ (l .inv .1) (search needs) (c .before .before .before .bit-kind .ensures .0) (c .before .before .add .ensures)))  -- loop-again
     (λ c. search kit)  -- same-length
     (λ c. search kit))  -- returns

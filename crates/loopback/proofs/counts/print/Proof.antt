@@ -8,7 +8,7 @@ use Rattle.loopback.proofs.counts.print.Statement.{statement}
 use Rattle.loopback.proofs.counts.print.Tie as tie
 
 abbrev Inv-loop : tie.InvT-loop
-Inv-loop text counts from at₀ i₀ i-end at i = at < 40
+Inv-loop text counts from at₀ i₀ i-end at i = at < 41
 
 abbrev μ-loop : tie.MeasureT-loop
 μ-loop text counts from at₀ i₀ i-end at i = i-end - i

@@ -1,17 +1,22 @@
--- `loopback::line::carry_both` is safe and ends: one super-frame a turn.
+-- `loopback::line::carry_both` meets its contract: one super-frame a turn.
 -- Assumes nothing.
-use Prim.Native.Nat.{_-_}
-use mathlib.Core.Path.{_≡_}
+use mathlib.Core.Path.{_≡_, refl}
 use lib.ListN.{length}
+use Prim.Native.Nat.{_+_, _-_, _*_}
+use Rattle.bits.specs.Filling.{Blocks, by-blocks, blocks-next}
+use Rattle.bits.specs.Parts.{byteOfEach}
 use Rattle.bits.specs.PartLaws.{part-long}
+use Rattle.loopback.specs.Line.{pairsOff, lineIn, lineCounted}
+use Rattle.loopback.specs.StepLaws.{Stepping, step-none, step-more, step-done}
+use Rattle.loopback.specs.LineLaws.{off-block, off-whole, line-counted}
 use borrow.Author.Needs.{needs}
 use Rattle.loopback.proofs.line.carry_both.Statement.{statement}
 use Rattle.loopback.proofs.line.carry_both.Tie as tie
 
-ruleset kit = (needs, part-long)
+ruleset kit = (needs, by-blocks, part-long, off-whole, step-none, step-done)
 
 abbrev Inv-loop : tie.InvT-loop
-Inv-loop sent0 sent1 list got0₀ got1₀ counts₀ q₀ got0 got1 counts q = (length got0 ≡ 177152) × (length got1 ≡ 177152) × (length counts ≡ 40)
+Inv-loop sent0 sent1 list got0₀ got1₀ counts₀ q₀ got0 got1 counts q = (length counts ≡ 41) × Blocks (byteOfEach 86016 (λ s. pairsOff (lineIn list sent0 sent1 s) 0)) 86016 2 q got0 × Blocks (byteOfEach 86016 (λ s. pairsOff (lineIn list sent0 sent1 s) 1)) 86016 2 q got1 × Stepping (lineCounted list sent0 sent1) 2 counts₀ q counts
 
 abbrev μ-loop : tie.MeasureT-loop
 μ-loop sent0 sent1 list got0₀ got1₀ counts₀ q₀ got0 got1 counts q = 2 - q
@@ -24,7 +29,6 @@ carry-both-spec =
     μ-loop
     (λ c. search kit)  -- loop-holds
     (λ c. search kit)  -- mul-a
-    (λ c. search kit)  -- add-a
     (λ c. search kit)  -- add-e
     (λ c. search kit)  -- sub-carry-next
     (λ c. search kit)  -- part-carry-next-start
@@ -42,8 +46,15 @@ carry-both-spec =
     (λ c κs. search kit)  -- add-requires
     (λ c. search kit)  -- add-q
     (λ c. search kit)  -- loop-less
-    (λ c. search kit)  -- loop-again
+    (λ c.
+    let l = c .before .before .before .before .before .before .before .before .before .before .before .before .before .before .loop in
+    let made = c .before .before .before .before .before .before .before .before .carry-next .ensures in (
+      search needs,
+      blocks-next {d = l .got0} (l .q * 86016) (l .q * 86016 + 86016) _ (l .inv .1) (search needs) refl refl (off-block _ _ _ (l .q) (l .q * 86016) (l .q * 86016 + 86016) refl refl 0 _ (made .1)),
+      blocks-next {d = l .got1} (l .q * 86016) (l .q * 86016 + 86016) _ (l .inv .2) (search needs) refl refl (off-block _ _ _ (l .q) (l .q * 86016) (l .q * 86016 + 86016) refl refl 1 _ (made .2)),
+      step-more _ (l .inv .3) (search needs) (line-counted _ _ _ (l .q) (l .q * 86016) (l .q * 86016 + 86016) refl refl _ _ _ (made .0) (c .before .before .add .ensures)),
+    ))  -- loop-again
     (λ c. search kit)  -- same-length
     (λ c. search kit)  -- same-length-2
     (λ c. search kit)  -- same-length-3
-    (λ c. search kit))  -- returns
+    (λ c. (search kit, search kit, search kit)))  -- returns

@@ -1,11 +1,11 @@
 -- `loopback::line::overhead` meets its contract.
 -- Assumes nothing.
-use Rattle.loopback.specs.RandomLaws.{drawn-legal}
+use Rattle.loopback.specs.RandomLaws.{list-drawn, drawn-legal}
 use borrow.Author.Needs.{needs}
 use Rattle.loopback.proofs.line.overhead.Statement.{statement}
 use Rattle.loopback.proofs.line.overhead.Tie as tie
 
-ruleset kit = (needs, drawn-legal)
+ruleset kit = (needs, list-drawn)
 
 pub overhead-spec : {M : Type 1} → statement M
 overhead-spec =
@@ -13,4 +13,4 @@ overhead-spec =
     (tie.spec
     (λ c. search kit)  -- slice-aggregate-fill
     (λ c κs. search kit)  -- fill-requires
-    (λ c. search kit))  -- returns
+    (λ c. (search kit, search (needs, drawn-legal))))  -- returns

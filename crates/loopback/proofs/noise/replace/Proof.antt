@@ -2,11 +2,13 @@
 -- Assumes nothing.
 use native.Mathlib.Omega.{arith}
 use lib.ListN.{length-set}
+use Rattle.loopback.specs.Noise.{replaced}
 use borrow.Author.Needs.{needs}
 use Rattle.loopback.proofs.noise.replace.Statement.{statement}
 use Rattle.loopback.proofs.noise.replace.Tie as tie
 
 pub replace-spec : {M : Type 1} → statement M
+unfolding replaced
 replace-spec =
     tie.close
     (tie.spec

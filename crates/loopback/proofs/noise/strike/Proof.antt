@@ -1,14 +1,19 @@
--- `loopback::noise::strike` is safe and ends.
+-- `loopback::noise::strike` meets its contract: one cell a turn.
 -- Assumes nothing.
-use Prim.Native.Nat.{_-_}
 use mathlib.Core.Path.{_≡_}
 use lib.ListN.{length}
+use Prim.Native.Nat.{_-_}
+use Rattle.loopback.specs.StepLaws.{Stepping, step-none, step-done}
+use Rattle.loopback.specs.Noise.{strike}
+use Rattle.loopback.specs.NoiseLaws.{strike-more}
 use borrow.Author.Needs.{needs}
 use Rattle.loopback.proofs.noise.strike.Statement.{statement}
 use Rattle.loopback.proofs.noise.strike.Tie as tie
 
+ruleset kit = (needs, step-none, step-done, strike-more)
+
 abbrev Inv-loop : tie.InvT-loop
-Inv-loop q line₀ v₀ line v = length line ≡ 356352
+Inv-loop q line₀ v₀ line v = (length line ≡ 356352) × Stepping (strike q) 80 line₀ v line
 
 abbrev μ-loop : tie.MeasureT-loop
 μ-loop q line₀ v₀ line v = 80 - v
@@ -19,15 +24,15 @@ strike-spec =
     (tie.spec
     Inv-loop
     μ-loop
-    (λ c. search needs)  -- loop-holds
-    (λ c. search needs)  -- mul-u
-    (λ c. search needs)  -- add-u
-    (λ c κs. search needs)  -- struck-requires
-    (λ c κs. search needs)  -- carrier-requires
-    (λ c. search needs)  -- mul-replace
-    (λ c κs. search needs)  -- replace-requires
-    (λ c. search needs)  -- add-v
-    (λ c. search needs)  -- loop-less
-    (λ c. search needs)  -- loop-again
-    (λ c. search needs)  -- same-length
-    (λ c. search needs))  -- returns
+    (λ c. search kit)  -- loop-holds
+    (λ c. search kit)  -- mul-u
+    (λ c. search kit)  -- add-u
+    (λ c κs. search kit)  -- struck-requires
+    (λ c κs. search kit)  -- carrier-requires
+    (λ c. search kit)  -- mul-replace
+    (λ c κs. search kit)  -- replace-requires
+    (λ c. search kit)  -- add-v
+    (λ c. search kit)  -- loop-less
+    (λ c. (search needs, search kit))  -- loop-again
+    (λ c. search kit)  -- same-length
+    (λ c. search kit))  -- returns

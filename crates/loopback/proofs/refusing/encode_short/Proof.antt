@@ -1,6 +1,6 @@
 -- `loopback::refusing::encode_short` meets its contract.
 -- Assumes nothing.
-use Rattle.loopback.specs.TallyLaws.{refusing}
+use Rattle.loopback.specs.RefusedLaws.{refusing}
 use borrow.Author.Needs.{needs}
 use Rattle.loopback.proofs.refusing.encode_short.Statement.{statement}
 use Rattle.loopback.proofs.refusing.encode_short.Tie as tie
@@ -15,4 +15,4 @@ encode-short-spec =
     (λ c. search kit)  -- slice-aggregate-encode-pair-2
     (λ c κs. search kit)  -- encode-pair-requires
     (λ c. search kit)  -- same-length
-    (λ c. search kit))  -- returns
+    (λ c. (search kit, search kit)))  -- returns

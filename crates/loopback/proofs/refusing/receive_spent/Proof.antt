@@ -1,6 +1,6 @@
 -- `loopback::refusing::receive_spent` meets its contract.
 -- Assumes nothing.
-use Rattle.loopback.specs.TallyLaws.{refusing}
+use Rattle.loopback.specs.RefusedLaws.{refusing}
 use borrow.Author.Needs.{needs}
 use Rattle.loopback.proofs.refusing.receive_spent.Statement.{statement}
 use Rattle.loopback.proofs.refusing.receive_spent.Tie as tie
@@ -16,4 +16,4 @@ receive-spent-spec =
     (λ c. search kit)  -- slice-aggregate-receive-pair-3
     (λ c κs. search kit)  -- receive-pair-requires
     (λ c. search kit)  -- same-length
-    (λ c. search kit))  -- returns
+    (λ c. (search kit, search kit)))  -- returns

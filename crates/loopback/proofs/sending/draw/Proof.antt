@@ -14,7 +14,7 @@ use Rattle.loopback.proofs.sending.draw.Tie as tie
 ruleset kit = (needs, by-blocks, payload-is)
 
 abbrev Inv-loop : tie.InvT-loop
-Inv-loop encoder q payload₀ k₀ payload k = Blocks (byteOfEach 444 (pairPayload encoder q)) 444 168 k payload
+Inv-loop encoder q payload₀ k₀ payload k = Blocks (byteOfEach 444 (λ j. pairPayload encoder (q * 168 + j))) 444 168 k payload
 
 abbrev μ-loop : tie.MeasureT-loop
 μ-loop encoder q payload₀ k₀ payload k = 168 - k

@@ -1,7 +1,7 @@
 -- `loopback::sending::encode_next` meets its contract.
 -- Assumes nothing.
+use Rattle.loopback.specs.StreamLaws.{frame-coded, frame-history, frame-sent}
 use borrow.Author.Needs.{needs}
-use Rattle.loopback.specs.RandomLaws.{given-of, history-of}
 use Rattle.loopback.proofs.sending.encode_next.Statement.{statement}
 use Rattle.loopback.proofs.sending.encode_next.Tie as tie
 
@@ -21,4 +21,4 @@ encode-next-spec =
     (λ c. search needs)  -- same-length
     (λ c. search needs)  -- same-length-2
     (λ c. search needs)  -- same-length-3
-    (λ c. (search (needs, given-of), search (needs, history-of))))  -- returns
+    (λ c. (search (needs, frame-coded), search (needs, frame-history), search (needs, frame-sent))))  -- returns

@@ -1,0 +1,24 @@
+-- `loopback::line::carry_next` meets its contract.
+-- Assumes nothing.
+use Rattle.loopback.specs.FileLaws.{file-starts}
+use Rattle.loopback.specs.LineLaws.{carried-count, carried-pairs0, carried-pairs1}
+use borrow.Author.Needs.{needs}
+use Rattle.loopback.proofs.line.carry_next.Statement.{statement}
+use Rattle.loopback.proofs.line.carry_next.Tie as tie
+
+pub carry-next-spec : {M : Type 1} → statement M
+carry-next-spec =
+    tie.close
+    (tie.spec
+    (λ c κs. search needs)  -- blank-requires
+    (λ c. search needs)  -- slice-aggregate-send
+    (λ c κs. search needs)  -- send-requires
+    (λ c. search needs)  -- slice-aggregate-take
+    (λ c κs. (search (needs, file-starts), search needs, search needs, search needs))  -- take-requires
+    (λ c κs. search needs)  -- value-or-requires
+    (λ c. search needs)  -- same-length
+    (λ c. search needs)  -- same-length-2
+    (λ c.
+    let sent = c .before .before .before .before .before .before .before .before .before .before .send .ensures in
+    let taken = c .before .before .before .before .before .take .ensures in
+    (carried-count _ _ _ _ _ _ _ _ _ _ sent (search needs) (search needs) (search needs) taken _ (c .value-or .ensures), carried-pairs0 _ _ _ _ _ _ _ _ _ _ sent (search needs) (search needs) (search needs) taken, carried-pairs1 _ _ _ _ _ _ _ _ _ _ sent (search needs) (search needs) (search needs) taken)))  -- returns

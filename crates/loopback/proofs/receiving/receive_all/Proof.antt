@@ -1,0 +1,43 @@
+-- `loopback::receiving::receive_all` meets its contract: one pair a turn.
+-- Assumes nothing.
+use mathlib.Core.Path.{_≡_}
+use lib.ListN.{length}
+use Prim.Native.Nat.{_-_}
+use Rattle.bits.specs.Parts.{partOf}
+use Rattle.ofec.specs.Stream.{receiver, historyBefore}
+use Rattle.loopback.specs.Received.{nextReceived}
+use Rattle.loopback.specs.StepLaws.{Stepping, step-none, step-done}
+use Rattle.loopback.specs.StreamLaws.{before-none, before-pair, received-more}
+use borrow.Author.Needs.{needs}
+use Rattle.loopback.proofs.receiving.receive_all.Statement.{statement}
+use Rattle.loopback.proofs.receiving.receive_all.Tie as tie
+
+ruleset kit = (needs, before-none, step-none, step-done)
+
+abbrev Inv-loop : tie.InvT-loop
+Inv-loop encoder sent got counts₀ history₀ k₀ counts history k = (length history ≡ 5120) × (length counts ≡ 41) × (history ≡ historyBefore receiver 1 (partOf 512 got) k) × Stepping (nextReceived encoder sent got) 336 counts₀ k counts
+
+abbrev μ-loop : tie.MeasureT-loop
+μ-loop encoder sent got counts₀ history₀ k₀ counts history k = 336 - k
+
+pub receive-all-spec : {M : Type 1} → statement M
+receive-all-spec =
+    tie.close
+    (tie.spec
+    Inv-loop
+    μ-loop
+    (λ c. search kit)  -- loop-holds
+    (λ c. search kit)  -- slice-aggregate-receive-after
+    (λ c κs. search kit)  -- receive-after-requires
+    (λ c. search kit)  -- add-k
+    (λ c. search kit)  -- loop-less
+    (λ c.
+    let l = c .before .before .before .before .before .before .before .loop in
+    let made = c .before .before .before .receive-after .ensures in (
+      search needs,
+      search needs,
+      before-pair _ _ _ _ _ (l .inv .2) (made .0),
+      received-more _ _ _ _ _ _ _ _ (l .inv .3) (search needs) (l .inv .2) (made .1),
+    ))  -- loop-again
+    (λ c. search kit)  -- same-length
+    (λ c. search kit))  -- returns

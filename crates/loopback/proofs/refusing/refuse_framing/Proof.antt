@@ -1,0 +1,19 @@
+-- `loopback::refusing::refuse_framing` meets its contract.
+-- Assumes nothing.
+use Rattle.loopback.specs.TallyLaws.{two-answered}
+use borrow.Author.Needs.{needs}
+use Rattle.loopback.proofs.refusing.refuse_framing.Statement.{statement}
+use Rattle.loopback.proofs.refusing.refuse_framing.Tie as tie
+
+ruleset kit = (needs, two-answered)
+
+pub refuse-framing-spec : {M : Type 1} → statement M
+refuse-framing-spec =
+    tie.close
+    (tie.spec
+    (λ c κs. search kit)  -- frame-beyond-requires
+    (λ c κs. search kit)  -- answered-requires
+    (λ c κs. search kit)  -- frame-off-grid-requires
+    (λ c κs. search kit)  -- answered-requires-2
+    (λ c. search kit)  -- same-length
+    (λ c. search kit))  -- returns

@@ -1,0 +1,55 @@
+-- `loopback::sending::encode_both` meets its contract: one super-frame a turn.
+-- Assumes nothing.
+use mathlib.Core.Path.{_≡_, refl}
+use lib.ListN.{length}
+use Prim.Native.Nat.{_-_, _*_, _+_}
+use Rattle.bits.specs.Filling.{Blocks, by-blocks, blocks-next}
+use Rattle.bits.specs.Parts.{byteOfEach}
+use Rattle.bits.specs.PartLaws.{part-long}
+use Rattle.ofec.specs.Stream.{encoder as encoderOf, historyBefore}
+use Rattle.loopback.specs.Random.{payloadIn}
+use Rattle.loopback.specs.Sent.{sentIn, frameSent}
+use Rattle.loopback.specs.StepLaws.{Stepping, step-none, step-more, step-done}
+use Rattle.loopback.specs.LineLaws.{whole}
+use Rattle.loopback.specs.StreamLaws.{before-none, before-more, sent-block}
+use borrow.Author.Needs.{needs}
+use Rattle.loopback.proofs.sending.encode_both.Statement.{statement}
+use Rattle.loopback.proofs.sending.encode_both.Tie as tie
+
+ruleset kit = (needs, by-blocks, before-none, step-none, step-done, whole)
+
+abbrev Inv-loop : tie.InvT-loop
+Inv-loop encoder coded₀ counts₀ history₀ q₀ coded counts history q = (length history ≡ 5120) × (length counts ≡ 41) × Blocks (byteOfEach 86016 (sentIn encoder)) 86016 2 q coded × (history ≡ historyBefore encoderOf 168 (payloadIn encoder) q) × Stepping (λ i. frameSent) 2 counts₀ q counts
+
+abbrev μ-loop : tie.MeasureT-loop
+μ-loop encoder coded₀ counts₀ history₀ q₀ coded counts history q = 2 - q
+
+pub encode-both-spec : {M : Type 1} → statement M
+encode-both-spec =
+    tie.close
+    (tie.spec
+    Inv-loop
+    μ-loop
+    (λ c. search kit)  -- loop-holds
+    (λ c. search kit)  -- mul-f
+    (λ c. search kit)  -- add-g
+    (λ c. search kit)  -- cast-encode-next
+    (λ c. search kit)  -- slice-aggregate-encode-next
+    (λ c. search kit)  -- sub-encode-next
+    (λ c. search kit)  -- part-encode-next-start
+    (λ c. search kit)  -- part-encode-next-end
+    (λ c κs. search (kit, part-long))  -- encode-next-requires
+    (λ c. search kit)  -- add-q
+    (λ c. search kit)  -- loop-less
+    (λ c.
+    let l = c .before .before .before .before .before .before .before .before .before .before .loop in
+    let made = c .before .before .before .before .before .encode-next .ensures in (
+      search needs,
+      search needs,
+      blocks-next {d = l .coded} (l .q * 86016) (l .q * 86016 + 86016) _ (l .inv .2) (search needs) refl refl (sent-block _ _ _ _ (l .inv .3) (made .0)),
+      before-more _ _ _ _ _ _ _ (l .inv .3) refl (made .1),
+      step-more _ (l .inv .4) (search needs) (made .2),
+    ))  -- loop-again
+    (λ c. search kit)  -- same-length
+    (λ c. search kit)  -- same-length-2
+    (λ c. search kit))  -- returns

@@ -1,0 +1,126 @@
+-- Laws of what is sent and received, super-frame by super-frame and pair by pair.
+-- Assumes nothing.
+use mathlib.Core.Path.{_≡_, refl, sym, ap, ap₂, _∙_}
+use mathlib.Core.List.{List}
+use Prim.Native.Nat.{ℕ, suc, _+_, _-_, _*_, _<_, _≤_}
+use native.Mathlib.Omega.{arith}
+use native.Mathlib.Numerals.{add-one}
+use lib.Dec.{lit<}
+use lib.ListN.{length, getD, replicate}
+use Rattle.bits.specs.Bits.{pack}
+use Rattle.bits.specs.Lists.{tabulate}
+use Rattle.bits.specs.Parts.{part, partOf, byteOfEach}
+use Rattle.bits.specs.PartLaws.{endToEnd-length, each-block}
+use Rattle.bch.specs.Completion.{firstBits}
+use Rattle.ofec.specs.History.{depth, fresh}
+use Rattle.ofec.specs.Encoding.{openWord}
+use Rattle.ofec.specs.Receiving.{heldWord}
+use Rattle.ofec.specs.Stream.{Coder, encoder, receiver, givenOver, codedOf, payloadsOf, marksOf, historyOver, historyBefore}
+use Rattle.loopback.specs.Random.{pairPayload, payloadIn}
+use Rattle.loopback.specs.Sent.{sentIn, frameSent}
+use Rattle.loopback.specs.Steps.{each}
+use Rattle.loopback.specs.StepLaws.{Stepping, step-more, step-done}
+use Rattle.loopback.specs.Tally.{plus, tallied, refusedTwo, pairsDone, lost, wordKind, bitKind}
+use Rattle.loopback.specs.Received.{wordIn, keptWord, payloadWord, codedCounted, payloadCounted, wordCompared, pairCompared, pairTaken, pairReceived, nextReceived}
+
+-- ---- the history before each super-frame
+
+pub before-none : (c : Coder) (m : ℕ) (S : ℕ → List ℕ) → replicate 5120 0 ≡ historyBefore c m S 0
+unfolding historyBefore fresh
+before-none c m S = refl
+
+pub before-more : (c : Coder) (m : ℕ) (S : ℕ → List ℕ) (q : ℕ) (h h′ : List ℕ) (p : ℕ) → h ≡ historyBefore c m S q → p ≡ m * q → h′ ≡ historyOver c m h p (S q)
+    → h′ ≡ historyBefore c m S (q + 1)
+unfolding historyBefore
+before-more c m S q h h′ p is ep e = e ∙ ap₂ (λ x n. historyOver c m x n (S q)) is ep ∙ ap (historyBefore c m S) (sym (add-one q))
+
+-- ---- sending
+
+pub sent-block : (e q : ℕ) (h ys : List ℕ) → h ≡ historyBefore encoder 168 (payloadIn e) q → ys ≡ codedOf 168 h (168 * q) (payloadIn e q)
+    → ys ≡ tabulate 86016 (λ i. byteOfEach 86016 (sentIn e) (q * 86016 + i))
+unfolding sentIn givenOver
+sent-block e q h ys is es =
+    each-block (sentIn e) 86016 q ys (lit< tt) (ap length es ∙ endToEnd-length 168 512 _) (es ∙ ap (λ x. codedOf 168 x (168 * q) (payloadIn e q)) is)
+
+-- A super-frame sent: the history as it was after the refused calls, and the counters.
+module _ (e q : ℕ) (h h′ s : List ℕ) where
+  pub frame-coded : (y : List ℕ) → h′ ≡ h → s ≡ payloadIn e q → y ≡ codedOf 168 h′ (168 * q) s → y ≡ codedOf 168 h (168 * q) (payloadIn e q)
+  frame-coded y eh es is = cc
+
+  pub frame-history : (y : List ℕ) → h′ ≡ h → s ≡ payloadIn e q → y ≡ historyOver encoder 168 h′ (168 * q) s → y ≡ historyOver encoder 168 h (168 * q) (payloadIn e q)
+  frame-history y eh es is = cc
+
+pub frame-sent : (d d₁ d₂ d₃ : List ℕ) → d₁ ≡ each 168 (λ k. refusedTwo) d → d₂ ≡ plus 0 168 d₁ → d₃ ≡ plus 1 168 d₂ → d₃ ≡ frameSent d
+unfolding frameSent
+frame-sent d d₁ d₂ d₃ e₁ e₂ e₃ = e₃ ∙ ap (plus 1 168) (e₂ ∙ ap (plus 0 168) e₁)
+
+-- ---- the words of a pair
+
+pub word-in : (pairs : List ℕ) (k w n a b m e : ℕ) (r : List ℕ) → n ≡ k - 10 → a ≡ n * 512 → b ≡ a + 5120 → m ≡ k * 512 → e ≡ m + 512
+    → r ≡ pack 32 (heldWord depth (part a (b - a) pairs) k (part m (e - m) pairs) w) → r ≡ wordIn pairs k w
+unfolding wordIn
+word-in pairs k w n a b m e r en ea eb em ee is =
+    let x : b - a ≡ 5120 = omega arith in
+    let y : e - m ≡ 512 = omega arith in
+    let z : a ≡ (k - 10) * 512 = omega arith in
+    is ∙ rw (x, y, z, em)
+
+pub payload-in : (payload : List ℕ) (k w : ℕ) (r : List ℕ) → r ≡ pack 32 (firstBits (openWord depth (replicate 5120 0) k payload w)) → r ≡ payloadWord payload k w
+unfolding payloadWord fresh
+payload-in payload k w r e = e
+
+-- ---- what is counted
+
+pub coded-counted : (k w : ℕ) (sent got history : List ℕ) (mark : ℕ) (s g h : List ℕ) (v l : ℕ) (d d₁ d₂ : List ℕ) → s ≡ wordIn sent k w → g ≡ wordIn got k w
+    → h ≡ keptWord history k w → v ≡ wordKind s g mark → d₁ ≡ plus v 1 d → l ≡ lost mark → d₂ ≡ tallied 128 (bitKind (27 + l * 4) s g h) d₁
+    → d₂ ≡ codedCounted k w sent got history mark d
+unfolding codedCounted
+coded-counted k w sent got history mark s g h v l d d₁ d₂ es eg eh ev e₁ el e₂ = cc
+
+pub payload-counted : (k w encoder : ℕ) (out : List ℕ) (mark : ℕ) (payload s o : List ℕ) (l : ℕ) (d d₁ : List ℕ) → payload ≡ pairPayload encoder k
+    → s ≡ payloadWord payload k w → o ≡ payloadWord out k w → l ≡ lost mark → d₁ ≡ tallied 111 (bitKind (35 + l * 2) s o s) d
+    → d₁ ≡ payloadCounted k w (pairPayload encoder k) out mark d
+unfolding payloadCounted
+payload-counted k w encoder out mark payload s o l d d₁ ep es eo el e₁ = cc
+
+module _ (e k : ℕ) (sent got history out marks before d : List ℕ) (w : ℕ) where
+  pub words-more : (d₁ d₂ : List ℕ) → Stepping (wordCompared e k sent got history out marks) 32 before w d → w < 32
+      → d₁ ≡ codedCounted k w sent got history (getD marks w 0) d → d₂ ≡ payloadCounted k w (pairPayload e k) out (getD marks w 0) d₁
+      → Stepping (wordCompared e k sent got history out marks) 32 before (w + 1) d₂
+  unfolding wordCompared
+  words-more d₁ d₂ s l e₁ e₂ = step-more d₂ s l (e₂ ∙ ap (payloadCounted k w (pairPayload e k) out (getD marks w 0)) e₁)
+
+  pub words-done : Stepping (wordCompared e k sent got history out marks) 32 before w d → 32 ≤ w → d ≡ pairCompared e k sent got history out marks before
+  unfolding pairCompared
+  words-done s l = step-done s l
+
+-- A pair received, from what is known after each call.
+module _ (k a b : ℕ) (got h : List ℕ) (ea : a ≡ k * 512) (eb : b ≡ a + 512) where
+  own-pair : part a (b - a) got ≡ partOf 512 got k
+  own-pair = let size : b - a ≡ 512 = omega arith in ap₂ (λ x y. part x y got) ea size
+
+  pub pair-history : (h₁ : List ℕ) → h₁ ≡ historyOver receiver 1 h k (part a (b - a) got) → h₁ ≡ historyOver receiver 1 h k (partOf 512 got k)
+  pair-history h₁ is = is ∙ ap (historyOver receiver 1 h k) own-pair
+
+  pub pair-taken : (e : ℕ) (sent h₁ out marks d d₁ : List ℕ) → h₁ ≡ historyOver receiver 1 h k (part a (b - a) got) → out ≡ payloadsOf 1 h k (part a (b - a) got)
+      → marks ≡ marksOf 1 h k (part a (b - a) got) → d₁ ≡ pairCompared e k sent got h₁ out marks d → d₁ ≡ pairTaken e sent got h k d
+  unfolding pairTaken
+  pair-taken e sent h₁ out marks d d₁ eh eo em e₁ = cc own-pair
+
+-- The same after refused calls, which leave the history.
+module _ (k : ℕ) (got h h₁ : List ℕ) (left : h₁ ≡ h) where
+  pub history-kept : (h₂ : List ℕ) → h₂ ≡ historyOver receiver 1 h₁ k (partOf 512 got k) → h₂ ≡ historyOver receiver 1 h k (partOf 512 got k)
+  history-kept h₂ is = is ∙ ap (λ x. historyOver receiver 1 x k (partOf 512 got k)) left
+
+  pub pair-received : (e : ℕ) (sent d d₁ d₂ d₃ d₄ : List ℕ) → d₁ ≡ refusedTwo d → d₂ ≡ pairTaken e sent got h₁ k d₁ → d₃ ≡ plus 0 1 d₂ → d₄ ≡ plus 1 1 d₃
+      → d₄ ≡ pairReceived e sent got h k d
+  unfolding pairReceived
+  pair-received e sent d d₁ d₂ d₃ d₄ e₁ e₂ e₃ e₄ = cc
+
+pub before-pair : (c : Coder) (S : ℕ → List ℕ) (k : ℕ) (h h′ : List ℕ) → h ≡ historyBefore c 1 S k → h′ ≡ historyOver c 1 h k (S k) → h′ ≡ historyBefore c 1 S (k + 1)
+before-pair c S k h h′ is e = let one : k ≡ 1 * k = omega arith in before-more c 1 S k h h′ k is one e
+
+pub received-more : (e : ℕ) (sent got before d h : List ℕ) (k : ℕ) (d′ : List ℕ) → Stepping (nextReceived e sent got) 336 before k d → k < 336
+    → h ≡ historyBefore receiver 1 (partOf 512 got) k → d′ ≡ pairReceived e sent got h k d → Stepping (nextReceived e sent got) 336 before (k + 1) d′
+unfolding nextReceived
+received-more e sent got before d h k d′ s l eh is = step-more d′ s l (is ∙ ap (λ x. pairReceived e sent got x k d) eh)
