@@ -2,7 +2,7 @@
 -- Assumes nothing.
 use mathlib.Core.Path.{_≡_, refl, sym, ap, ap₂, _∙_}
 use mathlib.Core.List.{List}
-use Prim.Native.Nat.{ℕ, suc, _+_, _-_, _*_, _<_, _≤_}
+use Prim.Native.Nat.{ℕ, _+_, _-_, _*_, _<_, _≤_}
 use native.Mathlib.Omega.{arith}
 use native.Mathlib.Numerals.{add-one}
 use lib.Dec.{lit<}
@@ -18,7 +18,6 @@ use Rattle.ofec.specs.Receiving.{heldWord}
 use Rattle.superframes.specs.Stream.{Coder, encoder, receiver, givenOver, codedOf, payloadsOf, marksOf, historyOver, historyBefore}
 use Rattle.loopback.specs.Random.{pairPayload, payloadIn}
 use Rattle.loopback.specs.Sent.{sentIn}
-use Rattle.loopback.specs.Steps.{each}
 use Rattle.loopback.specs.StepLaws.{Stepping, step-more, step-done}
 use Rattle.loopback.specs.Tally.{plus, tallied, refusedTwo, lost, wordKind, bitKind}
 use Rattle.loopback.specs.Received.{wordIn, keptWord, payloadWord, codedCounted, payloadCounted, wordCompared, pairCompared, pairTaken, nextReceived}

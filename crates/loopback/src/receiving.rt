@@ -147,6 +147,7 @@ pub fn receive(encoder: u32, sent: &[u8], got: &[u8])
 {
     let mut counts = [0u32; 41];
     receive_all(encoder, sent, got, &mut counts);
+    // The step refuses none of its calls, as its contract says.
     add(&mut counts, 0, 336);
     add(&mut counts, 1, 336);
     print_receiver(&counts);

@@ -64,6 +64,7 @@ pub fn encode(encoder: u32, coded: &mut [u8])
 {
     let mut counts = [0u32; 41];
     encode_both(encoder, coded, &mut counts);
+    // The step refuses none of its calls, as its contract says.
     add(&mut counts, 0, 336);
     add(&mut counts, 1, 336);
     print_encoder(&counts);
