@@ -7,7 +7,7 @@ use native.Mathlib.Omega.{arith}
 use lib.Dec.{lit<}
 use lib.ListN.{length}
 use Rattle.bits.specs.Lists.{tabulate}
-use Rattle.bits.specs.Parts.{part, partOf, byteOfEach, endToEnd}
+use Rattle.bits.specs.Parts.{part, byteOfEach, endToEnd}
 use Rattle.bits.specs.PartLaws.{part-length, endToEnd-length, endToEnd-at, each-block}
 use Rattle.calls.specs.declared.Answer.{Answer}
 use Rattle.calls.specs.declared.Answer.the-variants.{Done}
@@ -16,18 +16,17 @@ use Rattle.interleaving.specs.Calls.{Apart, parted}
 use Rattle.cells.specs.Profile.{Profile, cellsPerBuffer}
 use Rattle.cells.specs.Profiles.{qam16}
 use Rattle.cells.specs.ProfileLaws.{buffer-whole}
-use Rattle.cells.specs.Cells.{overheadRule, payloadRule, Legal}
+use Rattle.cells.specs.Cells.{overheadRule, Legal}
 use Rattle.cells.specs.CellLaws.{none-illegal}
-use Rattle.frames.specs.Frames.{payloadCells, payloadStart, ownOverhead, frameRule, framed}
+use Rattle.frames.specs.Frames.{payloadCells, payloadStart, ownOverhead, frameRule}
 use Rattle.frames.specs.FrameLaws.{framed-length, framed-legal, own-length, own-legal}
 use Rattle.superframes.specs.Superframe.{payload, subFrame, frames, superframe}
 use Rattle.superframes.specs.SuperframeLaws.{part-legal, payload-legal, payload-within}
 use Rattle.superframes.specs.Apart.{takenCells, takenPairs, differingAll, lineRule, takeApart}
 use Rattle.superframes.specs.ApartLaws.{apart-done}
-use Rattle.loopback.specs.Noise.{replaced, damaged}
+use Rattle.loopback.specs.Noise.{damaged}
 use Rattle.loopback.specs.NoiseLaws.{damaged-legal}
 use Rattle.loopback.specs.FileLaws.{file-list, file-line}
-use Rattle.loopback.specs.StepLaws.{Stepping, step-more}
 use Rattle.loopback.specs.Tally.{plus}
 use Rattle.loopback.specs.Line.{lineFile, takenOff, lineOf, pairsOff, lineIn, allOff, lineCounted}
 
@@ -89,16 +88,11 @@ module _ (q : ℕ) (coded0 coded1 list file got0 got1 x y : List ℕ) (r : Answe
       ∙ sym
       (apart-done qam16 line list got0 got1 _ refl (none-illegal overheadRule list hl) _ refl (none-illegal (lineRule qam16) line legal) _ refl)
 
-  pub carried-count : (v : ℕ) → v ≡ valueOr r 0 → v ≡ differingAll (lineOf list q coded0 coded1) list
-  carried-count v e = e ∙ ap (λ (a : Apart). valueOr (a .answer) 0) taken
-
-  pub carried-pairs0 : x ≡ pairsOff (lineOf list q coded0 coded1) 0
+  -- The differing cells and both encoders' pairs.
+  pub carried : (v : ℕ) → v ≡ valueOr r 0
+      → (v ≡ differingAll (lineOf list q coded0 coded1) list) × (x ≡ pairsOff (lineOf list q coded0 coded1) 0) × (y ≡ pairsOff (lineOf list q coded0 coded1) 1)
   unfolding pairsOff
-  carried-pairs0 = ap (λ (a : Apart). a .written .pairs0) taken
-
-  pub carried-pairs1 : y ≡ pairsOff (lineOf list q coded0 coded1) 1
-  unfolding pairsOff
-  carried-pairs1 = ap (λ (a : Apart). a .written .pairs1) taken
+  carried v e = (e ∙ ap (λ (a : Apart). valueOr (a .answer) 0) taken, ap (λ (a : Apart). a .written .pairs0) taken, ap (λ (a : Apart). a .written .pairs1) taken)
 
 -- ---- super-frames end to end
 

@@ -1,14 +1,13 @@
 -- Laws of errors on the line: the invariants of the loops that strike cells; the damaged line of legal frames is legal, so that it is taken
 -- apart and not refused.
 -- Assumes nothing.
-use mathlib.Core.Path.{_≡_, refl, sym, ap, ap₂, _∙_}
+use mathlib.Core.Path.{_≡_, refl, ap, _∙_}
 use mathlib.Core.Bool.{Bool, false}
 use mathlib.Core.List.{List}
-use Prim.Native.Nat.{ℕ, _+_, _-_, _*_, _/_, _%_, _<_, _≤_}
+use Prim.Native.Nat.{ℕ, _+_, _-_, _*_, _/_, _%_, _<_}
 use native.Mathlib.Omega.{arith}
 use native.Mathlib.Decide.{ℕ-discrete}
 use borrow.Author.Tests.{lt-leb}
-use lib.Dec.{leb}
 use lib.ListN.{length, getD, set, length-set}
 use lib.Seq.{getD-set-same, getD-set-other}
 use mir.Syntax.{w64}
@@ -19,7 +18,7 @@ use Rattle.cells.specs.Cells.{Legal}
 use Rattle.frames.specs.Frames.{isOverhead, cellRule, frameRule}
 use Rattle.superframes.specs.Apart.{lineRule}
 use Rattle.loopback.specs.Steps.{each}
-use Rattle.loopback.specs.StepLaws.{Stepping, step-more, step-done, each-keeps}
+use Rattle.loopback.specs.StepLaws.{Stepping, step-more, each-keeps}
 use Rattle.loopback.specs.Noise.{replaced, struck, carrier, strike, strikeCell, damaged}
 
 -- ---- the cells that are struck

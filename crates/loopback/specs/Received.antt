@@ -12,7 +12,7 @@ use Rattle.ofec.specs.Receiving.{heldWord}
 use Rattle.ofec.specs.Stream.{receiver, payloadsOf, marksOf, historyOver, historyBefore}
 use Rattle.loopback.specs.Random.{pairPayload}
 use Rattle.loopback.specs.Steps.{each}
-use Rattle.loopback.specs.Tally.{plus, tallied, refusedTwo, pairsDone, lost, wordKind, bitKind}
+use Rattle.loopback.specs.Tally.{plus, tallied, refusedTwo, lost, wordKind, bitKind}
 
 -- Word w of pair k, with the ten pairs before it; a word of the first ten pairs has zeros in front, whatever stands there.
 unfoldable pub wordIn : List ℕ → ℕ → ℕ → List ℕ
@@ -45,14 +45,11 @@ wordCompared e k sent got history out marks w counts =
 unfoldable pub pairCompared : ℕ → ℕ → List ℕ → List ℕ → List ℕ → List ℕ → List ℕ → List ℕ → List ℕ
 pairCompared e k sent got history out marks counts = each 32 (wordCompared e k sent got history out marks) counts
 
--- Pair k received, h being the history before it; the same after refused calls;
+-- Pair k received, h being the history before it;
 unfoldable pub pairTaken : ℕ → List ℕ → List ℕ → List ℕ → ℕ → List ℕ → List ℕ
 pairTaken e sent got h k counts =
     pairCompared e k sent got (historyOver receiver 1 h k (partOf 512 got k)) (payloadsOf 1 h k (partOf 512 got k)) (marksOf 1 h k (partOf 512 got k)) counts
 
-unfoldable pub pairReceived : ℕ → List ℕ → List ℕ → List ℕ → ℕ → List ℕ → List ℕ
-pairReceived e sent got h k counts = pairsDone 1 (pairTaken e sent got h k (refusedTwo counts))
-
--- and after those before it from fresh on.
+-- and the same after refused calls, and after the pairs before it from fresh on.
 unfoldable pub nextReceived : ℕ → List ℕ → List ℕ → ℕ → List ℕ → List ℕ
-nextReceived e sent got k counts = pairReceived e sent got (historyBefore receiver 1 (partOf 512 got) k) k counts
+nextReceived e sent got k counts = pairTaken e sent got (historyBefore receiver 1 (partOf 512 got) k) k (refusedTwo counts)

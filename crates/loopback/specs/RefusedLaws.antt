@@ -1,10 +1,9 @@
 -- Laws of the refused calls: what each answers, and that it leaves the history as it was.
 -- Assumes nothing.
 use mathlib.Core.Path.{_≡_, refl, sym, ap, _∙_}
-use mathlib.Core.Bool.{true}
 use mathlib.Core.List.{List}
 use mathlib.Core.Logic.{_≢_}
-use Prim.Native.Nat.{ℕ, _*_, _<_}
+use Prim.Native.Nat.{ℕ, _<_}
 use native.Mathlib.Omega.{arith}
 use lib.Dec.{leb}
 use lib.ListN.{length, getD}
@@ -16,7 +15,7 @@ use Rattle.calls.specs.CallLaws.{is-misfit, no-misfit, no-sub-frame, sub-frame,
 use Rattle.bits.specs.Count.{count}
 use Rattle.bits.specs.Seeking.{seek-none, seek-hit}
 use Rattle.cells.specs.Profiles.{qam16}
-use Rattle.cells.specs.Cells.{overheadRule, payloadRule, firstIllegal}
+use Rattle.cells.specs.Cells.{overheadRule, firstIllegal}
 use Rattle.frames.specs.Frames.{payloadCells, overheadStart, ownOverhead}
 use Rattle.frames.specs.FrameLaws.{own-length, own-at}
 use Rattle.frames.specs.LayoutLaws.{overhead-zeroth, payload-zeroth}

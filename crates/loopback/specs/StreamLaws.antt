@@ -2,7 +2,7 @@
 -- Assumes nothing.
 use mathlib.Core.Path.{_≡_, refl, sym, ap, ap₂, _∙_}
 use mathlib.Core.List.{List}
-use Prim.Native.Nat.{ℕ, suc, _+_, _-_, _*_, _<_, _≤_}
+use Prim.Native.Nat.{ℕ, _+_, _-_, _*_, _<_, _≤_}
 use native.Mathlib.Omega.{arith}
 use native.Mathlib.Numerals.{add-one}
 use lib.Dec.{lit<}
@@ -17,11 +17,10 @@ use Rattle.ofec.specs.Encoding.{openWord}
 use Rattle.ofec.specs.Receiving.{heldWord}
 use Rattle.ofec.specs.Stream.{Coder, encoder, receiver, givenOver, codedOf, payloadsOf, marksOf, historyOver, historyBefore}
 use Rattle.loopback.specs.Random.{pairPayload, payloadIn}
-use Rattle.loopback.specs.Sent.{sentIn, frameSent}
-use Rattle.loopback.specs.Steps.{each}
+use Rattle.loopback.specs.Sent.{sentIn}
 use Rattle.loopback.specs.StepLaws.{Stepping, step-more, step-done}
-use Rattle.loopback.specs.Tally.{plus, tallied, refusedTwo, pairsDone, lost, wordKind, bitKind}
-use Rattle.loopback.specs.Received.{wordIn, keptWord, payloadWord, codedCounted, payloadCounted, wordCompared, pairCompared, pairTaken, pairReceived, nextReceived}
+use Rattle.loopback.specs.Tally.{plus, tallied, refusedTwo, lost, wordKind, bitKind}
+use Rattle.loopback.specs.Received.{wordIn, keptWord, payloadWord, codedCounted, payloadCounted, wordCompared, pairCompared, pairTaken, nextReceived}
 
 -- ---- the history before each super-frame
 
@@ -42,17 +41,18 @@ unfolding sentIn givenOver
 sent-block e q h ys is es =
     each-block (sentIn e) 86016 q ys (lit< tt) (ap length es ∙ endToEnd-length 168 512 _) (es ∙ ap (λ x. codedOf 168 x (168 * q) (payloadIn e q)) is)
 
--- A super-frame sent: the history as it was after the refused calls, and the counters.
-module _ (e q : ℕ) (h h′ s : List ℕ) where
-  pub frame-coded : (y : List ℕ) → h′ ≡ h → s ≡ payloadIn e q → y ≡ codedOf 168 h′ (168 * q) s → y ≡ codedOf 168 h (168 * q) (payloadIn e q)
-  frame-coded y eh es is = cc
+-- From payload that is known by another name.
+module _ (e q : ℕ) (h s ys : List ℕ) (es : s ≡ payloadIn e q) where
+  pub coded-of : ys ≡ codedOf 168 h (168 * q) s → ys ≡ codedOf 168 h (168 * q) (payloadIn e q)
+  coded-of is = is ∙ ap (codedOf 168 h (168 * q)) es
 
-  pub frame-history : (y : List ℕ) → h′ ≡ h → s ≡ payloadIn e q → y ≡ historyOver encoder 168 h′ (168 * q) s → y ≡ historyOver encoder 168 h (168 * q) (payloadIn e q)
-  frame-history y eh es is = cc
+  pub history-of : ys ≡ historyOver encoder 168 h (168 * q) s → ys ≡ historyOver encoder 168 h (168 * q) (payloadIn e q)
+  history-of is = is ∙ ap (historyOver encoder 168 h (168 * q)) es
 
-pub frame-sent : (d d₁ d₂ d₃ : List ℕ) → d₁ ≡ each 168 (λ k. refusedTwo) d → d₂ ≡ plus 0 168 d₁ → d₃ ≡ plus 1 168 d₂ → d₃ ≡ frameSent d
-unfolding frameSent
-frame-sent d d₁ d₂ d₃ e₁ e₂ e₃ = e₃ ∙ ap (plus 1 168) (e₂ ∙ ap (plus 0 168) e₁)
+-- A super-frame sent, after refused calls that leave the history.
+module _ (e q : ℕ) (h h₁ ys : List ℕ) (is : h ≡ historyBefore encoder 168 (payloadIn e) q) (left : h₁ ≡ h) where
+  pub frame-block : ys ≡ codedOf 168 h₁ (168 * q) (payloadIn e q) → ys ≡ tabulate 86016 (λ i. byteOfEach 86016 (sentIn e) (q * 86016 + i))
+  frame-block es = sent-block e q h₁ ys (left ∙ is) es
 
 -- ---- the words of a pair
 
@@ -107,20 +107,10 @@ module _ (k a b : ℕ) (got h : List ℕ) (ea : a ≡ k * 512) (eb : b ≡ a + 5
   unfolding pairTaken
   pair-taken e sent h₁ out marks d d₁ eh eo em e₁ = cc own-pair
 
--- The same after refused calls, which leave the history.
-module _ (k : ℕ) (got h h₁ : List ℕ) (left : h₁ ≡ h) where
-  pub history-kept : (h₂ : List ℕ) → h₂ ≡ historyOver receiver 1 h₁ k (partOf 512 got k) → h₂ ≡ historyOver receiver 1 h k (partOf 512 got k)
-  history-kept h₂ is = is ∙ ap (λ x. historyOver receiver 1 x k (partOf 512 got k)) left
-
-  pub pair-received : (e : ℕ) (sent d d₁ d₂ d₃ d₄ : List ℕ) → d₁ ≡ refusedTwo d → d₂ ≡ pairTaken e sent got h₁ k d₁ → d₃ ≡ plus 0 1 d₂ → d₄ ≡ plus 1 1 d₃
-      → d₄ ≡ pairReceived e sent got h k d
-  unfolding pairReceived
-  pair-received e sent d d₁ d₂ d₃ d₄ e₁ e₂ e₃ e₄ = cc
-
 pub before-pair : (c : Coder) (S : ℕ → List ℕ) (k : ℕ) (h h′ : List ℕ) → h ≡ historyBefore c 1 S k → h′ ≡ historyOver c 1 h k (S k) → h′ ≡ historyBefore c 1 S (k + 1)
 before-pair c S k h h′ is e = let one : k ≡ 1 * k = omega arith in before-more c 1 S k h h′ k is one e
 
-pub received-more : (e : ℕ) (sent got before d h : List ℕ) (k : ℕ) (d′ : List ℕ) → Stepping (nextReceived e sent got) 336 before k d → k < 336
-    → h ≡ historyBefore receiver 1 (partOf 512 got) k → d′ ≡ pairReceived e sent got h k d → Stepping (nextReceived e sent got) 336 before (k + 1) d′
+pub received-more : (e : ℕ) (sent got before d d₁ d₂ h h₁ : List ℕ) (k : ℕ) → Stepping (nextReceived e sent got) 336 before k d → k < 336
+    → h ≡ historyBefore receiver 1 (partOf 512 got) k → h₁ ≡ h → d₁ ≡ refusedTwo d → d₂ ≡ pairTaken e sent got h₁ k d₁ → Stepping (nextReceived e sent got) 336 before (k + 1) d₂
 unfolding nextReceived
-received-more e sent got before d h k d′ s l eh is = step-more d′ s l (is ∙ ap (λ x. pairReceived e sent got x k d) eh)
+received-more e sent got before d d₁ d₂ h h₁ k s l eh e₀ e₁ e₂ = step-more d₂ s l (e₂ ∙ ap₂ (λ x y. pairTaken e sent got x k y) (e₀ ∙ eh) e₁)

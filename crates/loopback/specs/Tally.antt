@@ -38,10 +38,6 @@ answered a counts = plus (1 + refusalOf a) 1 counts
 abbrev pub refusedTwo : List ℕ → List ℕ
 refusedTwo counts = answered (Refused CountSpent) (answered (Refused Misfit) counts)
 
--- m pairs that were done, counted as pairs and as calls.
-abbrev pub pairsDone : ℕ → List ℕ → List ℕ
-pairsDone m counts = plus 1 m (plus 0 m counts)
-
 -- ---- kinds
 
 -- 1 where bit k of two buffers differs, and 0 otherwise.

@@ -13,10 +13,12 @@ use borrow.Author.Needs.{needs}
 use Rattle.loopback.proofs.line.carry_both.Statement.{statement}
 use Rattle.loopback.proofs.line.carry_both.Tie as tie
 
-ruleset kit = (needs, by-blocks, part-long, off-whole, step-none, step-done)
+ruleset near = (needs, part-long)
+
+ruleset kit = (needs, by-blocks, off-whole, step-none, step-done)
 
 abbrev Inv-loop : tie.InvT-loop
-Inv-loop sent0 sent1 list got0₀ got1₀ counts₀ q₀ got0 got1 counts q = (length counts ≡ 41) × Blocks (byteOfEach 86016 (λ s. pairsOff (lineIn list sent0 sent1 s) 0)) 86016 2 q got0 × Blocks (byteOfEach 86016 (λ s. pairsOff (lineIn list sent0 sent1 s) 1)) 86016 2 q got1 × Stepping (lineCounted list sent0 sent1) 2 counts₀ q counts
+Inv-loop sent0 sent1 list got0₀ got1₀ counts₀ q₀ got0 got1 counts q = (length got0 ≡ 172032) × (length got1 ≡ 172032) × (length counts ≡ 41) × Blocks (byteOfEach 86016 (λ s. pairsOff (lineIn list sent0 sent1 s) 0)) 86016 2 q got0 × Blocks (byteOfEach 86016 (λ s. pairsOff (lineIn list sent0 sent1 s) 1)) 86016 2 q got1 × Stepping (lineCounted list sent0 sent1) 2 counts₀ q counts
 
 abbrev μ-loop : tie.MeasureT-loop
 μ-loop sent0 sent1 list got0₀ got1₀ counts₀ q₀ got0 got1 counts q = 2 - q
@@ -28,33 +30,35 @@ carry-both-spec =
     Inv-loop
     μ-loop
     (λ c. search kit)  -- loop-holds
-    (λ c. search kit)  -- mul-a
-    (λ c. search kit)  -- add-e
-    (λ c. search kit)  -- sub-carry-next
-    (λ c. search kit)  -- part-carry-next-start
-    (λ c. search kit)  -- part-carry-next-end
-    (λ c. search kit)  -- sub-carry-next-2
-    (λ c. search kit)  -- part-carry-next-start-2
-    (λ c. search kit)  -- part-carry-next-end-2
-    (λ c. search kit)  -- sub-carry-next-3
-    (λ c. search kit)  -- part-carry-next-start-3
-    (λ c. search kit)  -- part-carry-next-end-3
-    (λ c. search kit)  -- sub-carry-next-4
-    (λ c. search kit)  -- part-carry-next-start-4
-    (λ c. search kit)  -- part-carry-next-end-4
-    (λ c κs. (search needs, search kit, search kit, search needs, search needs, search kit, search kit))  -- carry-next-requires
-    (λ c κs. search kit)  -- add-requires
-    (λ c. search kit)  -- add-q
-    (λ c. search kit)  -- loop-less
+    (λ c. search near)  -- mul-a
+    (λ c. search near)  -- add-e
+    (λ c. search near)  -- sub-carry-next
+    (λ c. search near)  -- part-carry-next-start
+    (λ c. search near)  -- part-carry-next-end
+    (λ c. search near)  -- sub-carry-next-2
+    (λ c. search near)  -- part-carry-next-start-2
+    (λ c. search near)  -- part-carry-next-end-2
+    (λ c. search near)  -- sub-carry-next-3
+    (λ c. search near)  -- part-carry-next-start-3
+    (λ c. search near)  -- part-carry-next-end-3
+    (λ c. search near)  -- sub-carry-next-4
+    (λ c. search near)  -- part-carry-next-start-4
+    (λ c. search near)  -- part-carry-next-end-4
+    (λ c κs. (search needs, search near, search near, search needs, search needs, search near, search near))  -- carry-next-requires
+    (λ c κs. search near)  -- add-requires
+    (λ c. search near)  -- add-q
+    (λ c. search near)  -- loop-less
     (λ c.
     let l = c .before .before .before .before .before .before .before .before .before .before .before .before .before .before .loop in
     let made = c .before .before .before .before .before .before .before .before .carry-next .ensures in (
       search needs,
-      blocks-next {d = l .got0} (l .q * 86016) (l .q * 86016 + 86016) _ (l .inv .1) (search needs) refl refl (off-block _ _ _ (l .q) (l .q * 86016) (l .q * 86016 + 86016) refl refl 0 _ (made .1)),
-      blocks-next {d = l .got1} (l .q * 86016) (l .q * 86016 + 86016) _ (l .inv .2) (search needs) refl refl (off-block _ _ _ (l .q) (l .q * 86016) (l .q * 86016 + 86016) refl refl 1 _ (made .2)),
-      step-more _ (l .inv .3) (search needs) (line-counted _ _ _ (l .q) (l .q * 86016) (l .q * 86016 + 86016) refl refl _ _ _ (made .0) (c .before .before .add .ensures)),
+      search needs,
+      search needs,
+      blocks-next {d = l .got0} (l .q * 86016) (l .q * 86016 + 86016) _ (l .inv .3) (search needs) refl refl (off-block _ _ _ (l .q) (l .q * 86016) (l .q * 86016 + 86016) refl refl 0 _ (made .1)),
+      blocks-next {d = l .got1} (l .q * 86016) (l .q * 86016 + 86016) _ (l .inv .4) (search needs) refl refl (off-block _ _ _ (l .q) (l .q * 86016) (l .q * 86016 + 86016) refl refl 1 _ (made .2)),
+      step-more _ (l .inv .5) (search needs) (line-counted _ _ _ (l .q) (l .q * 86016) (l .q * 86016 + 86016) refl refl _ _ _ (made .0) (c .before .before .add .ensures)),
     ))  -- loop-again
-    (λ c. search kit)  -- same-length
-    (λ c. search kit)  -- same-length-2
-    (λ c. search kit)  -- same-length-3
+    (λ c. search near)  -- same-length
+    (λ c. search near)  -- same-length-2
+    (λ c. search near)  -- same-length-3
     (λ c. (search kit, search kit, search kit)))  -- returns

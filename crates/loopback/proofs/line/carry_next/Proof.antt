@@ -1,7 +1,7 @@
 -- `loopback::line::carry_next` meets its contract.
 -- Assumes nothing.
 use Rattle.loopback.specs.FileLaws.{file-starts}
-use Rattle.loopback.specs.LineLaws.{carried-count, carried-pairs0, carried-pairs1}
+use Rattle.loopback.specs.LineLaws.{carried}
 use borrow.Author.Needs.{needs}
 use Rattle.loopback.proofs.line.carry_next.Statement.{statement}
 use Rattle.loopback.proofs.line.carry_next.Tie as tie
@@ -18,7 +18,4 @@ carry-next-spec =
     (λ c κs. search needs)  -- value-or-requires
     (λ c. search needs)  -- same-length
     (λ c. search needs)  -- same-length-2
-    (λ c.
-    let sent = c .before .before .before .before .before .before .before .before .before .before .send .ensures in
-    let taken = c .before .before .before .before .before .take .ensures in
-    (carried-count _ _ _ _ _ _ _ _ _ _ sent (search needs) (search needs) (search needs) taken _ (c .value-or .ensures), carried-pairs0 _ _ _ _ _ _ _ _ _ _ sent (search needs) (search needs) (search needs) taken, carried-pairs1 _ _ _ _ _ _ _ _ _ _ sent (search needs) (search needs) (search needs) taken)))  -- returns
+    (λ c. carried _ _ _ _ _ _ _ _ _ _ (c .before .before .before .before .before .before .before .before .before .before .send .ensures) (search needs) (search needs) (search needs) (c .before .before .before .before .before .take .ensures) _ (c .value-or .ensures)))  -- returns

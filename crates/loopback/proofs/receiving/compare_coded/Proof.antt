@@ -24,4 +24,8 @@ compare-coded-spec =
     (λ c. search needs)  -- slice-aggregate-count-bits-3
     (λ c κs. search needs)  -- count-bits-requires
     (λ c. search needs)  -- same-length
-    (λ c. search (needs, coded-counted)))  -- returns
+    (λ c.
+    coded-counted _ _ _ _ _ _ _ _ _ _ _ _ _ _ (c .before .before .before .before .before .before .before .before .before .before .before .before .before .before .before .before .before .word .ensures)
+    (c .before .before .before .before .before .before .before .before .before .before .before .before .before .before .before .before .word2 .ensures)
+    (c .before .before .before .before .before .before .before .before .before .before .before .before .before .before .before .kept-word .ensures) (c .before .before .before .before .before .before .before .before .before .before .before .word-kind .ensures .0)
+    (c .before .before .before .before .before .before .before .before .before .before .add .ensures) (c .before .before .before .before .before .before .before .lost .ensures .0) (c .before .before .count-bits .ensures)))  -- returns

@@ -1,6 +1,6 @@
 -- `loopback::receiving::receive_all` meets its contract: one pair a turn.
 -- Assumes nothing.
-use mathlib.Core.Path.{_≡_}
+use mathlib.Core.Path.{_≡_, _∙_}
 use lib.ListN.{length}
 use Prim.Native.Nat.{_-_}
 use Rattle.bits.specs.Parts.{partOf}
@@ -27,17 +27,20 @@ receive-all-spec =
     Inv-loop
     μ-loop
     (λ c. search kit)  -- loop-holds
-    (λ c. search kit)  -- slice-aggregate-receive-after
-    (λ c κs. search kit)  -- receive-after-requires
+    (λ c. search kit)  -- slice-aggregate-refuse-receiving
+    (λ c κs. search kit)  -- refuse-receiving-requires
+    (λ c. search kit)  -- slice-aggregate-receive-next
+    (λ c κs. search kit)  -- receive-next-requires
     (λ c. search kit)  -- add-k
     (λ c. search kit)  -- loop-less
     (λ c.
-    let l = c .before .before .before .before .before .before .before .loop in
-    let made = c .before .before .before .receive-after .ensures in (
+    let l = c .before .before .before .before .before .before .before .before .before .before .before .before .before .loop in
+    let left = c .before .before .before .before .before .before .before .before .before .refuse-receiving .ensures in
+    let made = c .before .before .before .receive-next .ensures in (
       search needs,
       search needs,
-      before-pair _ _ _ _ _ (l .inv .2) (made .0),
-      received-more _ _ _ _ _ _ _ _ (l .inv .3) (search needs) (l .inv .2) (made .1),
+      before-pair _ _ _ _ _ (left .0 ∙ l .inv .2) (made .0),
+      received-more _ _ _ _ _ _ _ _ _ _ (l .inv .3) (search needs) (l .inv .2) (left .0) (left .1) (made .1),
     ))  -- loop-again
     (λ c. search kit)  -- same-length
     (λ c. search kit))  -- returns

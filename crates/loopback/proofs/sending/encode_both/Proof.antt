@@ -1,6 +1,6 @@
 -- `loopback::sending::encode_both` meets its contract: one super-frame a turn.
 -- Assumes nothing.
-use mathlib.Core.Path.{_≡_, refl}
+use mathlib.Core.Path.{_≡_, refl, _∙_}
 use lib.ListN.{length}
 use Prim.Native.Nat.{_-_, _*_, _+_}
 use Rattle.bits.specs.Filling.{Blocks, by-blocks, blocks-next}
@@ -11,7 +11,7 @@ use Rattle.loopback.specs.Random.{payloadIn}
 use Rattle.loopback.specs.Sent.{sentIn, frameSent}
 use Rattle.loopback.specs.StepLaws.{Stepping, step-none, step-more, step-done}
 use Rattle.loopback.specs.LineLaws.{whole}
-use Rattle.loopback.specs.StreamLaws.{before-none, before-more, sent-block}
+use Rattle.loopback.specs.StreamLaws.{before-none, before-more, frame-block}
 use borrow.Author.Needs.{needs}
 use Rattle.loopback.proofs.sending.encode_both.Statement.{statement}
 use Rattle.loopback.proofs.sending.encode_both.Tie as tie
@@ -33,6 +33,8 @@ encode-both-spec =
     (λ c. search kit)  -- loop-holds
     (λ c. search kit)  -- mul-f
     (λ c. search kit)  -- add-g
+    (λ c. search kit)  -- slice-aggregate-refuse-encodings
+    (λ c κs. search kit)  -- refuse-encodings-requires
     (λ c. search kit)  -- cast-encode-next
     (λ c. search kit)  -- slice-aggregate-encode-next
     (λ c. search kit)  -- sub-encode-next
@@ -42,13 +44,14 @@ encode-both-spec =
     (λ c. search kit)  -- add-q
     (λ c. search kit)  -- loop-less
     (λ c.
-    let l = c .before .before .before .before .before .before .before .before .before .before .loop in
-    let made = c .before .before .before .before .before .encode-next .ensures in (
+    let l = c .before .before .before .before .before .before .before .before .before .before .before .before .before .loop in
+    let left = c .before .before .before .before .before .before .before .before .before .refuse-encodings .ensures in
+    let made = c .before .before .before .encode-next .ensures in (
       search needs,
       search needs,
-      blocks-next {d = l .coded} (l .q * 86016) (l .q * 86016 + 86016) _ (l .inv .2) (search needs) refl refl (sent-block _ _ _ _ (l .inv .3) (made .0)),
-      before-more _ _ _ _ _ _ _ (l .inv .3) refl (made .1),
-      step-more _ (l .inv .4) (search needs) (made .2),
+      blocks-next {d = l .coded} (l .q * 86016) (l .q * 86016 + 86016) _ (l .inv .2) (search needs) refl refl (frame-block _ _ _ _ _ (l .inv .3) (left .0) (made .0)),
+      before-more _ _ _ _ _ _ _ (left .0 ∙ l .inv .3) refl (made .1),
+      step-more _ (l .inv .4) (search needs) (left .1),
     ))  -- loop-again
     (λ c. search kit)  -- same-length
     (λ c. search kit)  -- same-length-2

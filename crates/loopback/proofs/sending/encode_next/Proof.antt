@@ -1,6 +1,6 @@
 -- `loopback::sending::encode_next` meets its contract.
 -- Assumes nothing.
-use Rattle.loopback.specs.StreamLaws.{frame-coded, frame-history, frame-sent}
+use Rattle.loopback.specs.StreamLaws.{coded-of, history-of}
 use borrow.Author.Needs.{needs}
 use Rattle.loopback.proofs.sending.encode_next.Statement.{statement}
 use Rattle.loopback.proofs.sending.encode_next.Tie as tie
@@ -12,13 +12,9 @@ encode-next-spec =
     (λ c κs. search needs)  -- blank-requires
     (λ c. search needs)  -- slice-aggregate-draw
     (λ c κs. search needs)  -- draw-requires
-    (λ c κs. search needs)  -- refuse-encodings-requires
     (λ c. search needs)  -- slice-aggregate-encode
     (λ c. search needs)  -- mul-encode
     (λ c κs. search needs)  -- encode-requires
-    (λ c κs. search needs)  -- add-requires
-    (λ c κs. search needs)  -- add-requires-2
     (λ c. search needs)  -- same-length
     (λ c. search needs)  -- same-length-2
-    (λ c. search needs)  -- same-length-3
-    (λ c. (search (needs, frame-coded), search (needs, frame-history), search (needs, frame-sent))))  -- returns
+    (λ c. (search (needs, coded-of), search (needs, history-of))))  -- returns
