@@ -532,6 +532,7 @@ fn why_it_refuses() {
     let room = Room::of_zeros(1);
     fs::create_dir(room.path("folder")).expect("a folder");
     room.sized("short", PAYLOAD - 1);
+    room.sized("odd", PAYLOAD + 1);
     room.sized("two", 2 * PAYLOAD);
     room.sized("many", 65 * PAYLOAD);
     let mut list = room.read("overhead");
@@ -572,9 +573,14 @@ fn why_it_refuses() {
             "/dev/null: not a regular file".into(),
         ),
         (
+            &["odd", "odd", v, l],
+            1,
+            "odd: 74593 bytes, expected a multiple of 74592".into(),
+        ),
+        (
             &["short", "short", v, l],
             1,
-            "short: 74591 bytes, expected a multiple of 74592".into(),
+            "short: 74591 bytes, expected at least 74592".into(),
         ),
         (
             &[p, "two", v, l],

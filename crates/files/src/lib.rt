@@ -3,6 +3,7 @@
 mod making;
 pub mod message;
 mod naming;
+mod places;
 mod status;
 
 pub use making::create;
@@ -10,6 +11,7 @@ pub use making::finish;
 pub use making::leads_to;
 pub use naming::name_beside;
 pub use naming::target;
+pub use places::collide;
 pub use status::is_regular;
 pub use status::same;
 

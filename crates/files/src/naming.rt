@@ -46,7 +46,7 @@ fn ended(path: &[u8]) -> [u8; 4096]
 }
 
 // The index behind the last slash.
-fn folder(path: &[u8]) -> usize
+pub fn folder(path: &[u8]) -> usize
     ensures { λ r. ⌜ r ≤ length (now (path .entry)) ⌝ }
 {
     let mut end = path.len();
