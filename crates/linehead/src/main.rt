@@ -1,5 +1,6 @@
 // Reads a file on standard input and prints what its header says, or why it is refused. The bytes are counted and, but for
 // the first sixteen, not kept.
+use libc::STDERR_FILENO;
 use libc::STDIN_FILENO;
 ghost use Prim.Native.Nat.{_≤_};
 
@@ -26,11 +27,34 @@ fn count_on(from: usize) -> usize {
     count
 }
 
+// Whether standard input cannot be read at all: a read of no bytes fails, and waits for none.
+fn is_unreadable() -> bool {
+    let mut none = [0u8; 1];
+    libc::read(STDIN_FILENO, &mut none[0..0]) < 0
+}
+
+// Says why the header is refused, where it is.
+fn explain(first: &[u8; 16], size: usize) {
+    if size == 0 {
+        if is_unreadable() {
+            return os::fail(b"standard input");
+        }
+    }
+    report::explain_header(b"standard input", first, size);
+}
+
 fn main() {
+    if 1 < os::arg_count() {
+        io::write_all(
+            STDERR_FILENO,
+            b"linehead takes no argument: it reads a line file on standard input\n",
+        );
+    }
     let mut first = [0u8; 16];
     let mut size = io::read_full(STDIN_FILENO, &mut first);
     if size == 16 {
         size = count_on(size);
     }
     report::print_header(lineheader::rules::judge(&first, size));
+    explain(&first, size);
 }
