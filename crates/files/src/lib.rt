@@ -1,14 +1,29 @@
-// The files of a program: opened by argument and measured, or made under a name that they take when they are whole.
+// The files of a program: opened by argument and measured, or made under a name that they take when they are whole; and what is
+// said of them on standard error.
+mod folders;
 mod making;
+pub mod message;
+mod naming;
+mod status;
 
+pub use folders::same_name;
+pub use making::close;
 pub use making::create;
 pub use making::finish;
-pub use making::name_beside;
+pub use making::leads_to;
+pub use making::take_name;
+pub use naming::name_beside;
+pub use naming::target;
+pub use status::is_regular;
+pub use status::same;
 
 // Opens the file that an argument names for reading, and answers its descriptor; or says why it cannot, and answers -1.
 pub fn open(argument: usize) -> i32 {
     let mut path = io::buffer();
-    let n = os::arg(argument, &mut path);
+    let n = naming::name_of(argument, &mut path);
+    if n == 0 {
+        return -1;
+    }
     let fd = os::open_read(&path[..n]);
     if fd < 0 {
         os::fail(&path[..n]);
@@ -36,4 +51,19 @@ pub fn size(fd: i32) -> usize {
         return 0;
     }
     bytes
+}
+
+// Takes up a standard descriptor that is closed.
+fn hold() {
+    let fd = os::open_read(b"/dev/null");
+    if 2 < fd {
+        libc::close(fd);
+    }
+}
+
+// Takes up the standard descriptors that are closed, so that none of them becomes a file's.
+pub fn hold_standard() {
+    hold();
+    hold();
+    hold();
 }

@@ -1,47 +1,16 @@
 // A file that is made: written at a path beside its name, which it takes when it is whole. So no half-written file has the name,
 // and a file that had it before is as it was until then.
-ghost use Prim.Native.Nat.{_+_, _≤_};
-ghost use lib.ListN.{length};
-ghost use Rattle.io.specs.Counts.{Counts};
+use crate::status;
 
-// What is put behind the name; create_temp replaces the X's.
-const SUFFIX: [u8; 7] = [b'.', b'X', b'X', b'X', b'X', b'X', b'X'];
-
-// Puts the suffix behind the first so many bytes.
-fn add_suffix(path: &mut [u8], from: usize)
-    requires { ⌜ from + 7 ≤ length (now path) ⌝ }
-{
-    for i in 0..7 {
-        path[from + i] = SUFFIX[i];
-    }
-}
-
-// Puts a path beside the name that an argument gives, ended by X's, at the start of path, and answers its length; 0 where it
-// does not fit.
-pub fn name_beside(argument: usize, path: &mut [u8]) -> usize
-    ensures { λ r. ⌜ Counts r (now (path .exit)) ⌝ }
-{
-    let n = os::arg(argument, path);
-    if path.len() < n + 7 {
-        return 0;
-    }
-    add_suffix(path, n);
-    n + 7
-}
-
-// Whether a new file may take the name: it is free, or a file has it that can be written and is no pipe or device, which cannot be
-// synchronized.
-fn may_take(name: &[u8]) -> bool {
-    if name.len() == 0 {
+// Whether the name leads to the file that is open as fd.
+pub fn leads_to(name: &[u8], fd: i32) -> bool {
+    let old = os::open_update(name);
+    if old < 0 {
         return false;
     }
-    let fd = os::open_update(name);
-    if fd < 0 {
-        return os::errno() == libc::ENOENT;
-    }
-    let is_file = libc::fsync(fd) == 0;
-    libc::close(fd);
-    is_file
+    let is = status::same(old, fd);
+    libc::close(old);
+    is
 }
 
 // Makes a new file at path, whose X's are replaced. The first one only shows that the path is free: create_temp lets no other user
@@ -56,12 +25,8 @@ fn create_at(path: &mut [u8]) -> i32 {
     os::create(path)
 }
 
-// Makes a new file at path, whose X's are replaced, for this name, and answers its descriptor; or says why it cannot, and answers -1.
-pub fn create(name: &[u8], path: &mut [u8]) -> i32 {
-    if !may_take(name) {
-        os::fail(name);
-        return -1;
-    }
+// Makes a new file at path for this name, and answers its descriptor; or says why it cannot, and answers -1.
+fn create_new(name: &[u8], path: &mut [u8]) -> i32 {
     let fd = create_at(path);
     if fd < 0 {
         os::fail(name);
@@ -69,16 +34,61 @@ pub fn create(name: &[u8], path: &mut [u8]) -> i32 {
     fd
 }
 
+// The same with the mode of the file that has the name, which is open; a pipe or a device is not replaced.
+fn create_like(old: i32, name: &[u8], path: &mut [u8]) -> i32 {
+    if !status::is_regular(old) {
+        io::write_all(libc::STDERR_FILENO, name);
+        io::write_all(libc::STDERR_FILENO, b": not a regular file\n");
+        return -1;
+    }
+    let fd = create_new(name, path);
+    libc::fchmod(fd, status::mode(old));
+    fd
+}
+
+// Makes a new file at path, whose X's are replaced, for this name, and answers its descriptor; or says why it cannot, and answers -1.
+// The name is free, or a regular file has it that can be written.
+pub fn create(name: &[u8], path: &mut [u8]) -> i32 {
+    let old = os::open_update(name);
+    if 0 <= old {
+        let fd = create_like(old, name, path);
+        libc::close(old);
+        return fd;
+    }
+    if os::errno() == libc::ENOENT {
+        return create_new(name, path);
+    }
+    os::fail(name);
+    -1
+}
+
+// Closes the file for this name, and answers whether it could, or says why not.
+pub fn close(fd: i32, name: &[u8]) -> bool {
+    if libc::close(fd) == 0 {
+        return true;
+    }
+    os::fail(name);
+    false
+}
+
+// Gives the file at path its name, and answers whether it has it; or says why not, and removes the file.
+pub fn take_name(path: &[u8], name: &[u8]) -> bool {
+    if os::rename(path, name) == 0 {
+        return true;
+    }
+    os::fail(name);
+    os::unlink(path);
+    false
+}
+
 // Closes the file and gives it its name where it is whole, or removes it; answers whether it has the name.
 pub fn finish(fd: i32, whole: bool, path: &[u8], name: &[u8]) -> bool {
-    let closed = libc::close(fd);
     if whole {
-        if closed == 0 {
-            if os::rename(path, name) == 0 {
-                return true;
-            }
+        if close(fd, name) {
+            return take_name(path, name);
         }
-        os::fail(name);
+    } else {
+        libc::close(fd);
     }
     os::unlink(path);
     false

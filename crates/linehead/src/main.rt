@@ -1,5 +1,6 @@
 // Reads a file on standard input and prints what its header says, or why it is refused. The bytes are counted and, but for
 // the first sixteen, not kept.
+use libc::STDERR_FILENO;
 use libc::STDIN_FILENO;
 ghost use Prim.Native.Nat.{_≤_};
 
@@ -27,10 +28,17 @@ fn count_on(from: usize) -> usize {
 }
 
 fn main() {
+    if 1 < os::arg_count() {
+        io::write_all(
+            STDERR_FILENO,
+            b"linehead takes no argument: it reads a line file on standard input\n",
+        );
+    }
     let mut first = [0u8; 16];
     let mut size = io::read_full(STDIN_FILENO, &mut first);
     if size == 16 {
         size = count_on(size);
     }
     report::print_header(lineheader::rules::judge(&first, size));
+    report::explain_header(b"standard input", &first, size);
 }

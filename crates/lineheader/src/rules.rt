@@ -16,7 +16,7 @@ fn two_bytes(first: &[u8], i: usize) -> usize
 }
 
 // Number k of a header, 0 to 3.
-fn number(first: &[u8], k: usize) -> usize
+pub fn number(first: &[u8], k: usize) -> usize
     requires { ⌜ (k < 4) × (16 ≤ length (now first)) ⌝ }
     ensures { λ r. ⌜ (r ≡ header·number (now (first .entry)) k) × (r < 2 ^ 32) ⌝ }
 {

@@ -1,9 +1,12 @@
 // The line file's content: header, overhead list, super-frames.
+use crate::inputs;
 use crate::inputs::Inputs;
 use crate::inputs::MISFIT;
+use crate::inputs::OVERHEAD;
 use crate::superframes::write_all;
 use calls::Answer;
 use calls::Refusal;
+use files::message;
 ghost use mathlib.Core.Path.{_≡_};
 ghost use Prim.Native.Nat.{_≤_};
 ghost use lib.ListN.{length};
@@ -25,9 +28,19 @@ fn prepare(
     overhead: &mut [u8; 12288],
 ) -> u32 {
     if io::read_full(inputs.overhead, overhead) != 12288 {
+        message::line(OVERHEAD, b"the file ended early");
         return MISFIT;
     }
-    calls::refusal_of(linefile::write_header(superframes, header))
+    let refusal = calls::refusal_of(linefile::write_header(superframes, header));
+    if refusal != 0 {
+        inputs::say_too_many(inputs);
+    }
+    refusal
+}
+
+// Says where the list has an illegal byte.
+fn say_illegal(index: usize) {
+    message::line_with(OVERHEAD, b"a byte of 16 or more at index ", index);
 }
 
 // Writes header, list and super-frames: 0, or the refusal.
@@ -36,6 +49,7 @@ fn write_parts(inputs: Inputs, superframes: u32, header: &[u8], overhead: &[u8],
 {
     let illegal = mapper::legal::first_illegal(overhead);
     if illegal < overhead.len() {
+        say_illegal(illegal);
         return calls::refusal_of(Answer::Refused(Refusal::OffGrid(illegal)));
     }
     let headed = put(out, header);

@@ -6,13 +6,10 @@ mod pairs;
 mod superframes;
 
 use inputs::Inputs;
+use inputs::LINE;
 use inputs::MISFIT;
 use libc::STDERR_FILENO;
-use lineformat::Header;
 ghost use Prim.Native.Nat.{_≤_};
-
-// The line file's argument.
-const LINE: usize = 4;
 
 // Makes the line file of this name, at a path beside it: 0, or the refusal.
 fn make_beside(inputs: Inputs, superframes: u32, name: &[u8], path: &mut [u8]) -> u32
@@ -42,22 +39,30 @@ fn make() -> u32 {
         return MISFIT;
     }
     let mut name = io::buffer();
-    let n = os::arg(LINE, &mut name);
+    let n = files::target(LINE, &mut name);
+    if n == 0 {
+        return MISFIT;
+    }
+    if inputs::are_led_to(inputs, &name[..n]) {
+        return MISFIT;
+    }
     let mut path = io::buffer();
-    let k = files::name_beside(LINE, &mut path);
+    let k = files::name_beside(&name[..n], &mut path);
     make_beside(inputs, superframes, &name[..n], &mut path[..k])
 }
 
-// The header of the line file that was made.
-fn made() -> Header {
+// Prints the header of the line file that was made.
+fn print_made() {
     let fd = files::open(LINE);
     let mut first = [0u8; 16];
     io::read_full(fd, &mut first);
-    lineheader::rules::judge(&first, files::length(fd))
+    let length = files::length(fd);
+    report::print_header(lineheader::rules::judge(&first, length));
+    report::explain_header(b"line file", &first, length);
 }
 
 fn main() {
-    if os::arg_count() < 5 {
+    if os::arg_count() != 5 {
         io::write_all(
             STDERR_FILENO,
             b"usage: linemake PAYLOAD0 PAYLOAD1 OVERHEAD LINE\n",
@@ -68,5 +73,5 @@ fn main() {
     if refusal != 0 {
         return report::print_refusal(refusal);
     }
-    report::print_header(made());
+    print_made();
 }

@@ -1,14 +1,14 @@
 // Payload read from its file and encoded, super-frame by super-frame.
 use crate::inputs::MISFIT;
-use libc::STDERR_FILENO;
+use files::message;
 ghost use Prim.Native.Nat.{_<_};
 
-// Reads the payload of the next super-frame, and answers whether the file had it.
-fn read_next(file: i32, payload: &mut [u8; 74592]) -> bool {
+// Reads the payload of the next super-frame from the file of this argument, and answers whether the file had it.
+fn read_next(argument: usize, file: i32, payload: &mut [u8; 74592]) -> bool {
     if io::read_full(file, payload) == 74592 {
         return true;
     }
-    io::write_all(STDERR_FILENO, b"a payload file ended early\n");
+    message::line(argument, b"the file ended early");
     false
 }
 
@@ -20,11 +20,17 @@ fn encode_all(payload: &[u8; 74592], first: u32, history: &mut [u8; 5120], coded
 }
 
 // The coded pairs of the next super-frame of one encoder: 0, or the refusal.
-pub fn encode(file: i32, history: &mut [u8; 5120], first: u32, coded: &mut [u8; 86016]) -> u32
+pub fn encode(
+    argument: usize,
+    file: i32,
+    history: &mut [u8; 5120],
+    first: u32,
+    coded: &mut [u8; 86016],
+) -> u32
     requires { ⌜ first < 65536 ⌝ }
 {
     let mut payload = [0u8; 74592];
-    if !read_next(file, &mut payload) {
+    if !read_next(argument, file, &mut payload) {
         return MISFIT;
     }
     encode_all(&payload, first, history, coded);

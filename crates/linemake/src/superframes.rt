@@ -1,5 +1,7 @@
 // Super-frame after super-frame, both encoders from fresh.
 use crate::inputs::Inputs;
+use crate::inputs::PAYLOAD0;
+use crate::inputs::PAYLOAD1;
 use crate::line::put;
 use crate::pairs::encode;
 use libc::STDERR_FILENO;
@@ -44,12 +46,12 @@ fn write_next(
     requires { ⌜ (first < 65536) × (length (now overhead) ≡ 12288) × Legal overheadRule (now overhead) ⌝ }
 {
     let mut coded0 = [0u8; 86016];
-    let encoded0 = encode(inputs.payload0, history0, first, &mut coded0);
+    let encoded0 = encode(PAYLOAD0, inputs.payload0, history0, first, &mut coded0);
     if encoded0 != 0 {
         return encoded0;
     }
     let mut coded1 = [0u8; 86016];
-    let encoded1 = encode(inputs.payload1, history1, first, &mut coded1);
+    let encoded1 = encode(PAYLOAD1, inputs.payload1, history1, first, &mut coded1);
     if encoded1 != 0 {
         return encoded1;
     }

@@ -10,6 +10,7 @@ write-parts-spec =
     tie.close
     (tie.spec
     (λ c κs. search needs)  -- first-illegal-requires
+    (λ c κs. search needs)  -- say-illegal-requires
     (λ c κs. search needs)  -- refusal-of-requires
     (λ c. search needs)  -- returns
     (λ c κs. search needs)  -- put-requires
