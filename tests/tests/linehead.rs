@@ -25,6 +25,7 @@ fn printed_of_pieces(pieces: &[&[u8]]) -> String {
     let mut child = Command::new(program("linehead"))
         .stdin(Stdio::piped())
         .stdout(Stdio::piped())
+        .stderr(Stdio::null())
         .spawn()
         .expect("the program starts");
     let mut input = child.stdin.take().expect("a pipe");
@@ -69,9 +70,23 @@ fn printed_of_sparse(header: Header, length: u64) -> String {
     let child = Command::new(program("linehead"))
         .stdin(sparse(&header.to_bytes(), length))
         .stdout(Stdio::piped())
+        .stderr(Stdio::null())
         .spawn()
         .expect("the program starts");
     output(child)
+}
+
+/// What is said on standard error for a file of this length behind these bytes, with these arguments.
+fn said(start: &[u8], length: u64, arguments: &[&str]) -> String {
+    let child = Command::new(program("linehead"))
+        .args(arguments)
+        .stdin(sparse(start, length))
+        .stdout(Stdio::null())
+        .stderr(Stdio::piped())
+        .spawn()
+        .expect("the program starts");
+    let output = child.wait_with_output().expect("the program runs");
+    String::from_utf8(output.stderr).expect("text")
 }
 
 /// As the reference says, and this line.
@@ -227,8 +242,102 @@ fn files_of_almost_and_of_more_than_4_gib() {
             .arg(program("linehead"))
             .stdin(file.try_clone().expect("the same open file"))
             .stdout(Stdio::piped())
+            .stderr(Stdio::piped())
             .spawn()
             .expect("the shell starts");
-        assert_eq!(output(child), line);
+        let output = child.wait_with_output().expect("the program runs");
+        assert_eq!(String::from_utf8(output.stdout).expect("text"), line);
+        let why = "standard input: more than 4294967295 bytes, expected ";
+        let said = String::from_utf8(output.stderr).expect("text");
+        assert_eq!(said.starts_with(why), length >= turn, "{said}");
     }
+}
+
+/// One line on standard error for each refusal: the numbers that differ.
+#[test]
+fn why_it_refuses() {
+    let good = Header::written(2);
+    let length = u64::from(good.total);
+    let bytes = good.to_bytes();
+    assert_eq!(said(&bytes, length, &[]), "");
+    for (header, length, why) in [
+        (good, 0, "0 bytes, expected at least 16"),
+        (good, 15, "15 bytes, expected at least 16"),
+        (
+            Header::with_sum(0, 16, 12_304),
+            16,
+            "0 super-frames, expected at least 1",
+        ),
+        (
+            Header::with_sum(65, 16, 12_304),
+            16,
+            "65 super-frames, expected at most 64",
+        ),
+        (
+            Header::with_sum(2, 15, 12_304),
+            16,
+            "overhead at 15, expected at least 16",
+        ),
+        (
+            Header::with_sum(2, 17, 12_304),
+            16,
+            "frames at 12304, expected at least 12305",
+        ),
+        (Header { total: 7, ..good }, 16, "total 7, expected 725008"),
+        (good, 16, "16 bytes, expected 725008"),
+        (good, length - 1, "725007 bytes, expected 725008"),
+        (good, length + 1, "725009 bytes, expected 725008"),
+    ] {
+        let line = format!("standard input: {why}\n");
+        assert_eq!(said(&header.to_bytes(), length, &[]), line);
+    }
+}
+
+/// An argument is named as one too many, and all else is as before.
+#[test]
+fn an_argument() {
+    let good = Header::written(1);
+    let note = "linehead takes no argument: it reads a line file on standard input\n";
+    assert_eq!(said(&good.to_bytes(), good.total.into(), &["line"]), note);
+    let both = format!("{note}standard input: 3 bytes, expected at least 16\n");
+    assert_eq!(said(&good.to_bytes(), 3, &["", "x"]), both);
+    let child = Command::new(program("linehead"))
+        .arg("line")
+        .stdin(sparse(&good.to_bytes(), good.total.into()))
+        .stdout(Stdio::piped())
+        .spawn()
+        .expect("the program starts");
+    assert_eq!(output(child), EXAMPLE);
+}
+
+/// Standard output that cannot be written.
+#[test]
+fn no_room_for_the_output() {
+    for length in [3, 368_656] {
+        let child = Command::new("sh")
+            .args(["-c", "exec \"$0\" > /dev/full"])
+            .arg(program("linehead"))
+            .stdin(sparse(&Header::written(1).to_bytes(), length))
+            .stderr(Stdio::piped())
+            .spawn()
+            .expect("the shell starts");
+        let output = child.wait_with_output().expect("the program runs");
+        let text = String::from_utf8(output.stderr).expect("text");
+        assert!(text.starts_with("standard output: No space left"), "{text}");
+    }
+}
+
+/// 128 KiB of stack, its arguments and environment included, are enough.
+#[test]
+fn stack() {
+    let good = Header::written(1);
+    let child = Command::new("sh")
+        .args(["-c", "ulimit -s 128 && exec \"$0\""])
+        .arg(program("linehead"))
+        .env_clear()
+        .stdin(sparse(&good.to_bytes(), good.total.into()))
+        .stdout(Stdio::piped())
+        .spawn()
+        .expect("the shell starts");
+    assert_eq!(output(child), EXAMPLE);
 }

@@ -2,7 +2,8 @@
 
 use std::fs::{self, File};
 use std::io::{BufRead, BufReader, Read};
-use std::os::unix::fs::{FileTypeExt, PermissionsExt};
+use std::os::unix::fs::{chown, symlink, FileTypeExt, MetadataExt, PermissionsExt};
+use std::os::unix::process::CommandExt;
 use std::path::{Path, PathBuf};
 use std::process::{Child, Command, Stdio};
 use std::sync::atomic::{AtomicU32, Ordering};
@@ -128,6 +129,23 @@ impl Room {
         printed(self.command(arguments).spawn().expect("it starts"))
     }
 
+    /// What a refused run says.
+    fn why(&self, arguments: &[&str], number: u32) -> String {
+        let given = self.run(arguments);
+        assert_eq!(given.out, format!("refused {number}\n"), "{arguments:?}");
+        given.said
+    }
+
+    fn mode(&self, name: &str) -> u32 {
+        let file = fs::metadata(self.path(name)).expect("a file");
+        file.permissions().mode() % 0o10000
+    }
+
+    fn set_mode(&self, name: &str, mode: u32) {
+        let permissions = fs::Permissions::from_mode(mode);
+        fs::set_permissions(self.path(name), permissions).expect("a mode");
+    }
+
     /// A run that is refused with this number, and leaves the folder as it was: with a file under the given
     /// name, and with none.
     fn assert_refused(&self, arguments: &[&str], number: u32) {
@@ -138,7 +156,7 @@ impl Room {
             let before = self.names();
             let given = self.run(arguments);
             assert_eq!(given.out, format!("refused {number}\n"), "{arguments:?}");
-            assert!(!given.said.contains("super-frame"), "{}", given.said);
+            assert_one_line(&given.said);
             assert_eq!(self.names(), before, "{arguments:?}");
             if self.path("line").is_file() && kept {
                 assert_eq!(self.read("line"), KEPT);
@@ -146,6 +164,13 @@ impl Room {
         }
         let _ = fs::remove_file(self.path("line"));
     }
+}
+
+/// One line that says why.
+fn assert_one_line(said: &str) {
+    assert_eq!(said.lines().count(), 1, "{said}");
+    assert!(said.ends_with('\n'), "{said}");
+    assert!(!said.starts_with("super-frame "), "{said}");
 }
 
 fn line(superframes: u32) -> String {
@@ -459,7 +484,8 @@ fn a_payload_file_that_becomes_shorter() {
         let mut rest = String::new();
         said.read_to_string(&mut rest).expect("text");
         assert_eq!(printed(child).out, "refused 1\n");
-        assert!(rest.ends_with("a payload file ended early\n"), "{rest}");
+        let why = format!("{name}: the file ended early\n");
+        assert!(rest.ends_with(&why), "{rest}");
         assert_eq!(room.names(), ["overhead", "payload0", "payload1"]);
     }
 }
@@ -472,6 +498,16 @@ fn a_run_that_is_ended() {
     child.kill().expect("it runs");
     child.wait().expect("it ends");
     assert!(!room.path("line").exists());
+    // What is left has a name by which it can be found and removed.
+    let left = room.names();
+    let beside: Vec<_> = left
+        .iter()
+        .filter(|name| !NAMES.contains(&name.as_str()))
+        .collect();
+    assert!(
+        matches!(beside[..], [name] if name.starts_with("line.part-") && name.len() == 16),
+        "{left:?}"
+    );
     room.sized("payload0", PAYLOAD);
     room.sized("payload1", PAYLOAD);
     assert_eq!(room.run(&NAMES).out, line(1));
@@ -488,4 +524,262 @@ fn closed_standard_descriptors() {
         assert_eq!(room.names(), ["line", "overhead", "payload0", "payload1"]);
         fs::remove_file(room.path("line")).expect("it is there");
     }
+}
+
+/// What standard error says of a refusal, whole.
+#[test]
+fn why_it_refuses() {
+    let room = Room::of_zeros(1);
+    fs::create_dir(room.path("folder")).expect("a folder");
+    room.sized("short", PAYLOAD - 1);
+    room.sized("odd", PAYLOAD + 1);
+    room.sized("two", 2 * PAYLOAD);
+    room.sized("many", 65 * PAYLOAD);
+    let mut list = room.read("overhead");
+    list[443] = 16;
+    room.put("illegal", &list);
+    let long = "n".repeat(5_000);
+    let usage = "usage: linemake PAYLOAD0 PAYLOAD1 OVERHEAD LINE";
+    let none = "No such file or directory";
+    let [p, q, v, l] = NAMES;
+    for (arguments, number, why) in [
+        (&[][..], 1, usage.into()),
+        (&[p, q, v], 1, usage.into()),
+        (&[p, q, v, l, "more"], 1, usage.into()),
+        (&["none", q, v, l], 1, format!("none: {none}")),
+        (&["none", "gone", "", ""], 1, format!("none: {none}")),
+        (&[p, "gone", v, l], 1, format!("gone: {none}")),
+        (&["", q, v, l], 1, "argument 1: the name is empty".into()),
+        (&[p, q, v, ""], 1, "argument 4: the name is empty".into()),
+        (
+            &[p, &long, v, l],
+            1,
+            "argument 2: the name is too long".into(),
+        ),
+        (
+            &[p, q, v, &long],
+            1,
+            "argument 4: the name is too long".into(),
+        ),
+        (
+            &[p, q, v, &long[..256]],
+            1,
+            format!("{}: File name too long", &long[..256]),
+        ),
+        (&["folder", q, v, l], 1, "folder: not a regular file".into()),
+        (
+            &[p, "/dev/null", v, l],
+            1,
+            "/dev/null: not a regular file".into(),
+        ),
+        (
+            &["odd", "odd", v, l],
+            1,
+            "odd: 74593 bytes, expected a multiple of 74592".into(),
+        ),
+        (
+            &["short", "short", v, l],
+            1,
+            "short: 74591 bytes, expected at least 74592".into(),
+        ),
+        (
+            &[p, "two", v, l],
+            1,
+            "two: 149184 bytes, expected as many as the other payload file has, 74592".into(),
+        ),
+        (
+            &[p, q, "two", l],
+            1,
+            "two: 149184 bytes, expected 12288".into(),
+        ),
+        (&[p, q, v, "folder"], 1, "folder: Is a directory".into()),
+        (&[p, q, v, "folder/"], 1, "folder/: Is a directory".into()),
+        (&[p, q, v, "gone/line"], 1, format!("gone/line: {none}")),
+        (
+            &[p, q, v, "/dev/null"],
+            1,
+            "/dev/null: not a regular file".into(),
+        ),
+        (
+            &["many", "many", v, l],
+            2,
+            "many: 65 super-frames, expected at most 64".into(),
+        ),
+        (
+            &[p, q, "illegal", l],
+            5,
+            "illegal: a byte of 16 or more at index 443".into(),
+        ),
+    ] {
+        assert_eq!(
+            room.why(arguments, number),
+            format!("{why}\n"),
+            "{arguments:?}"
+        );
+    }
+}
+
+/// An input under another name, as the name to write: nothing is touched.
+#[test]
+fn an_input_as_the_line_file() {
+    let room = Room::of_zeros(1);
+    let inputs = NAMES[..3].iter().map(|name| room.read(name));
+    let inputs: Vec<_> = inputs.collect();
+    fs::create_dir(room.path("folder")).expect("a folder");
+    fs::hard_link(room.path("payload1"), room.path("hard")).expect("a link");
+    symlink("payload1", room.path("soft")).expect("a link");
+    symlink("../soft", room.path("folder/again")).expect("a link");
+    let whole = room.path("overhead");
+    let whole = whole.to_str().expect("text");
+    let names = room.names();
+    for (name, same) in [
+        ("payload0", "PAYLOAD0"),
+        ("./payload0", "PAYLOAD0"),
+        ("payload1", "PAYLOAD1"),
+        ("hard", "PAYLOAD1"),
+        ("soft", "PAYLOAD1"),
+        ("folder/again", "PAYLOAD1"),
+        ("folder/../overhead", "OVERHEAD"),
+        (whole, "OVERHEAD"),
+    ] {
+        let said = room.why(&["payload0", "payload1", "overhead", name], 1);
+        assert_eq!(said, format!("{name}: the same file as {same}\n"));
+        for (name, bytes) in NAMES.iter().zip(&inputs) {
+            assert!(room.read(name) == *bytes, "{name}");
+        }
+        assert_eq!(room.names(), names);
+    }
+}
+
+/// The file that a symbolic link leads to is replaced, and the link stays.
+#[test]
+fn a_symbolic_link_as_the_line_file() {
+    let (room, file) = filled(1, 6_400);
+    fs::create_dir(room.path("folder")).expect("a folder");
+    room.put("folder/kept", KEPT);
+    let whole = room.path("folder/whole");
+    symlink("folder/kept", room.path("near")).expect("a link");
+    symlink("../near", room.path("folder/far")).expect("a link");
+    symlink(&whole, room.path("absolute")).expect("a link");
+    fs::write(&whole, KEPT).expect("a file");
+    for (name, kept) in [
+        ("near", "folder/kept"),
+        ("folder/far", "folder/kept"),
+        ("absolute", "folder/whole"),
+    ] {
+        room.put(kept, KEPT);
+        let text = fs::read_link(room.path(name)).expect("a link");
+        assert_eq!(
+            room.run(&["payload0", "payload1", "overhead", name]).out,
+            line(1)
+        );
+        assert_eq!(fs::read_link(room.path(name)).expect("the link"), text);
+        assert!(room.read(kept) == file, "{name}");
+        let names = fs::read_dir(room.path("folder")).expect("a folder").count();
+        assert_eq!(names, 3);
+    }
+    // A link that leads nowhere, to itself, to a folder, to a device.
+    symlink("none", room.path("dangling")).expect("a link");
+    symlink("round", room.path("round")).expect("a link");
+    symlink("folder", room.path("inside")).expect("a link");
+    symlink("/dev/null", room.path("device")).expect("a link");
+    for (name, why) in [
+        (
+            "dangling",
+            "dangling: a symbolic link to a file that is not there",
+        ),
+        ("round", "round: Too many levels of symbolic links"),
+        ("inside", "folder: Is a directory"),
+        ("device", "/dev/null: not a regular file"),
+    ] {
+        let names = room.names();
+        let said = room.why(&["payload0", "payload1", "overhead", name], 1);
+        assert_eq!(said, format!("{why}\n"));
+        assert!(fs::read_link(room.path(name)).is_ok(), "{name}");
+        assert_eq!(room.names(), names);
+    }
+}
+
+/// The mode of a file that is replaced stays.
+#[test]
+fn the_mode_of_a_file_that_is_replaced() {
+    let (room, file) = filled(1, 6_500);
+    for mode in [0o600, 0o640, 0o666, 0o755] {
+        room.put("line", KEPT);
+        room.set_mode("line", mode);
+        assert_eq!(room.run(&NAMES).out, line(1));
+        assert!(room.read("line") == file);
+        assert_eq!(room.mode("line"), mode);
+    }
+}
+
+/// Files that this user may not read or write, and a folder where it may make none. The super-user may do all of it, so there the
+/// program runs as another user.
+#[test]
+fn files_that_are_not_permitted() {
+    const OTHER: u32 = 65_534;
+    let room = Room::of_zeros(1);
+    fs::copy(program("linemake"), room.path("linemake")).expect("a copy");
+    room.put("line", KEPT);
+    room.put("secret", KEPT);
+    fs::create_dir(room.path("folder")).expect("a folder");
+    let privileged = fs::metadata("/proc/self").expect("itself").uid() == 0;
+    room.set_mode("linemake", 0o755);
+    room.set_mode("line", 0o444);
+    room.set_mode("secret", 0o000);
+    room.set_mode("folder", 0o555);
+    if privileged {
+        for path in [
+            room.0.clone(),
+            room.path("line"),
+            room.path("secret"),
+            room.path("folder"),
+        ] {
+            chown(path, Some(OTHER), Some(OTHER)).expect("another owner");
+        }
+    }
+    for (arguments, name) in [
+        (["secret", "payload1", "overhead", "new"], "secret"),
+        (["payload0", "payload1", "overhead", "line"], "line"),
+        (
+            ["payload0", "payload1", "overhead", "folder/line"],
+            "folder/line",
+        ),
+    ] {
+        let mut command = Command::new(room.path("linemake"));
+        command.args(arguments);
+        if privileged {
+            command.uid(OTHER).gid(OTHER);
+        }
+        let given = printed(room.piped(command).spawn().expect("it starts"));
+        assert_eq!(given.out, "refused 1\n");
+        assert_eq!(given.said, format!("{name}: Permission denied\n"));
+    }
+    assert_eq!(room.mode("line"), 0o444);
+    assert_eq!(room.read("line"), KEPT);
+    room.set_mode("folder", 0o755);
+}
+
+/// Standard output that cannot be written is reported, and the file is there.
+#[test]
+fn no_room_for_the_output() {
+    let (room, file) = filled(1, 6_600);
+    let mut command = room.shell("exec >/dev/full;", &NAMES);
+    let given = printed(command.spawn().expect("the shell starts"));
+    let why = "standard output: No space left on device\n";
+    assert_eq!(given.said, format!("{}{why}", progress(1)));
+    assert!(room.read("line") == file);
+    let mut command = room.shell("exec >/dev/full;", &NAMES[..3]);
+    let given = printed(command.spawn().expect("the shell starts"));
+    assert!(given.said.ends_with(why), "{}", given.said);
+}
+
+/// A megabyte of stack, its arguments and environment included, is enough.
+#[test]
+fn stack() {
+    let (room, file) = filled(2, 6_700);
+    let mut command = room.shell("ulimit -s 976 &&", &NAMES);
+    let given = printed(command.env_clear().spawn().expect("the shell starts"));
+    assert_eq!(given.out, line(2));
+    assert!(room.read("line") == file);
 }

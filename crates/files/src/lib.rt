@@ -4,6 +4,7 @@ mod folders;
 mod making;
 pub mod message;
 mod naming;
+mod places;
 mod status;
 
 pub use folders::same_name;
@@ -14,6 +15,7 @@ pub use making::leads_to;
 pub use making::take_name;
 pub use naming::name_beside;
 pub use naming::target;
+pub use places::collide;
 pub use status::is_regular;
 pub use status::same;
 

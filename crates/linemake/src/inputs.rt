@@ -55,7 +55,7 @@ pub fn open() -> Inputs {
 // Whether the payload files and the list have sizes that fit together, or says which has not.
 fn fit(inputs: Inputs, bytes: usize) -> bool {
     if bytes < BYTES {
-        message::size(PAYLOAD0, inputs.payload0, bytes, b"a multiple of ", BYTES);
+        message::size(PAYLOAD0, inputs.payload0, bytes, b"at least ", BYTES);
         return false;
     }
     if bytes % BYTES != 0 {

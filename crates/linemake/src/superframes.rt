@@ -46,12 +46,26 @@ fn write_next(
     requires { ⌜ (first < 65536) × (length (now overhead) ≡ 12288) × Legal overheadRule (now overhead) ⌝ }
 {
     let mut coded0 = [0u8; 86016];
-    let encoded0 = encode(PAYLOAD0, inputs.payload0, history0, first, &mut coded0);
+    let encoded0 = encode(
+        PAYLOAD0,
+        inputs.payload0,
+        line,
+        first,
+        history0,
+        &mut coded0,
+    );
     if encoded0 != 0 {
         return encoded0;
     }
     let mut coded1 = [0u8; 86016];
-    let encoded1 = encode(PAYLOAD1, inputs.payload1, history1, first, &mut coded1);
+    let encoded1 = encode(
+        PAYLOAD1,
+        inputs.payload1,
+        line,
+        first,
+        history1,
+        &mut coded1,
+    );
     if encoded1 != 0 {
         return encoded1;
     }

@@ -18,6 +18,12 @@ fn blank() -> Coded {
 }
 
 fn main() {
+    if 1 < os::arg_count() {
+        io::write_all(
+            libc::STDERR_FILENO,
+            b"loopback takes no argument: it reads nothing and makes its own payload\n",
+        );
+    }
     let mut sent0 = blank();
     let mut sent1 = blank();
     sending::encode(0, &mut sent0);

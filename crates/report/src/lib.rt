@@ -119,8 +119,8 @@ fn explain_numbers(file: &[u8], n: usize, o: usize, f: usize, total: usize, size
     explain_size(file, total, size);
 }
 
-// Says on standard error why the header in a file's first sixteen bytes is refused, in one line that begins with the file; nothing where it is
-// not.
+// Says on standard error why the header in a file's first sixteen bytes is refused, in one line that begins with the file; nothing where
+// it is not.
 pub fn explain_header(file: &[u8], first: &[u8; 16], size: usize) {
     if size < 16 {
         return say(file, b": ", size, b" bytes, expected at least ", 16);
