@@ -1,13 +1,11 @@
 // The files of a program: opened by argument and measured, or made under a name that they take when they are whole; and what is
 // said of them on standard error.
-mod folders;
 mod making;
 pub mod message;
 mod naming;
 mod places;
 mod status;
 
-pub use folders::same_name;
 pub use making::close;
 pub use making::create;
 pub use making::finish;

@@ -40,21 +40,21 @@ fn not_made(argument: usize) -> Output {
 // Whether a name is that of an input; says so.
 fn is_input(argument: usize, name: &[u8], line: i32, capture: i32) -> bool {
     if files::leads_to(name, line) {
-        message::line(argument, b"the same file as the line file");
+        message::line(argument, b"the same file as LINE");
         return true;
     }
     if files::leads_to(name, capture) {
-        message::line(argument, b"the same file as the capture");
+        message::line(argument, b"the same file as CAPTURE");
         return true;
     }
     false
 }
 
-// Whether a name is that which another argument gives.
+// Whether a name is that of the file which another argument gives.
 fn is_name_of(other: usize, name: &[u8]) -> bool {
     let mut path = io::buffer();
     let n = files::target(other, &mut path);
-    files::same_name(&path[..n], name)
+    files::collide(&path[..n], name)
 }
 
 // Whether a name is that of an output before it; says so.

@@ -8,12 +8,14 @@ pub fn unequal(line: u32, capture: u32) {
     message::begin(LINE);
     message::number(line as usize);
     message::text(b" super-frames, ");
-    message::line_with(CAPTURE, b"super-frames ", capture as usize);
+    message::begin(CAPTURE);
+    message::number(capture as usize);
+    message::text(b"\n");
 }
 
 // The illegal byte of a file, by its index in it.
 pub fn illegal(argument: usize, index: usize) {
-    message::line_with(argument, b"16 or more is illegal, in byte ", index);
+    message::line_with(argument, b"a byte of 16 or more at index ", index);
 }
 
 // Why the header of an open file is refused.

@@ -21,5 +21,5 @@ unfoldable pub sumOf : (ℕ → ℕ) → List ℕ → ℕ
 sumOf told marks = count (length marks) (λ i. told (getD marks i 0))
 
 -- The flips and the lost words of marks.
-abbrev pub sums : List ℕ → Sums
-sums marks = record { flips = sumOf flipsIn marks; lost = sumOf lostIn marks }
+abbrev pub markSums : List ℕ → Sums
+markSums marks = record { flips = sumOf flipsIn marks; lost = sumOf lostIn marks }

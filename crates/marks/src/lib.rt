@@ -2,7 +2,7 @@
 ghost use mathlib.Core.Path.{_≡_};
 ghost use Prim.Native.Nat.{_*_, _≤_};
 ghost use lib.ListN.{length};
-ghost use Rattle.marks.specs.Marks.{flipsIn, lostIn, sums};
+ghost use Rattle.marks.specs.Marks.{flipsIn, lostIn, markSums};
 
 // The flips in words that were repaired, and the number of lost words.
 pub struct Sums {
@@ -33,7 +33,7 @@ fn lost_in(mark: u8) -> u32
 // The sums over marks.
 pub fn add_up(marks: &[u8]) -> Sums
     requires { ⌜ length (now marks) ≤ 65536 ⌝ }
-    ensures { λ r. ⌜ r ≡ sums (now (marks .entry)) ⌝ }
+    ensures { λ r. ⌜ r ≡ markSums (now (marks .entry)) ⌝ }
 {
     let mut flips = 0u32;
     let mut lost = 0u32;

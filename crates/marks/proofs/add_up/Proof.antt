@@ -3,15 +3,15 @@
 use Prim.Native.Nat.{_-_}
 use lib.ListN.{length}
 use Rattle.marks.specs.Marks.{flipsIn, lostIn}
-use Rattle.marks.specs.MarkLaws.{Adding, adding}
+use Rattle.marks.specs.MarkLaws.{MarkSum, mark-summing}
 use borrow.Author.Needs.{needs}
 use Rattle.marks.proofs.add_up.Statement.{statement}
 use Rattle.marks.proofs.add_up.Tie as tie
 
-ruleset kit = (needs, adding)
+ruleset kit = (needs, mark-summing)
 
 abbrev Inv-loop : tie.InvT-loop
-Inv-loop marks flips₀ lost₀ i₀ i-end flips lost i = Adding flipsIn marks i flips × Adding lostIn marks i lost
+Inv-loop marks flips₀ lost₀ i₀ i-end flips lost i = MarkSum flipsIn marks i flips × MarkSum lostIn marks i lost
 
 abbrev μ-loop : tie.MeasureT-loop
 μ-loop marks flips₀ lost₀ i₀ i-end flips lost i = length marks - i

@@ -1,11 +1,11 @@
 -- `marks::lost_in` meets its contract.
 -- Assumes nothing.
-use Rattle.marks.specs.MarkLaws.{telling}
+use Rattle.marks.specs.MarkLaws.{mark-telling}
 use borrow.Author.Needs.{needs}
 use Rattle.marks.proofs.lost_in.Statement.{statement}
 use Rattle.marks.proofs.lost_in.Tie as tie
 
-ruleset kit = (needs, telling)
+ruleset kit = (needs, mark-telling)
 
 pub lost-in-spec : {M : Type 1} → statement M
 lost-in-spec =
