@@ -293,6 +293,25 @@ fn why_it_refuses() {
     }
 }
 
+/// Standard input that cannot be read.
+#[test]
+fn no_file_to_read() {
+    for (input, why) in [
+        ("< .", "Is a directory"),
+        ("<&-", "Bad file descriptor"),
+        ("< /dev/null", "0 bytes, expected at least 16"),
+    ] {
+        let output = Command::new("sh")
+            .args(["-c", &format!("exec \"$0\" {input}")])
+            .arg(program("linehead"))
+            .output()
+            .expect("the shell runs");
+        assert_eq!(output.stdout, b"refused 1\n");
+        let said = String::from_utf8(output.stderr).expect("text");
+        assert_eq!(said, format!("standard input: {why}\n"));
+    }
+}
+
 /// An argument is named as one too many, and all else is as before.
 #[test]
 fn an_argument() {

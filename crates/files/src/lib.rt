@@ -4,18 +4,17 @@ mod making;
 pub mod message;
 mod naming;
 mod places;
-mod status;
 
+pub use filenames::name_beside;
+pub use filestatus::is_regular;
+pub use filestatus::same;
 pub use making::close;
 pub use making::create;
 pub use making::finish;
 pub use making::leads_to;
 pub use making::take_name;
-pub use naming::name_beside;
 pub use naming::target;
 pub use places::collide;
-pub use status::is_regular;
-pub use status::same;
 
 // Opens the file that an argument names for reading, and answers its descriptor; or says why it cannot, and answers -1.
 pub fn open(argument: usize) -> i32 {

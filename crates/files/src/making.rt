@@ -1,6 +1,5 @@
 // A file that is made: written at a path beside its name, which it takes when it is whole. So no half-written file has the name,
 // and a file that had it before is as it was until then.
-use crate::status;
 
 // Whether the name leads to the file that is open as fd.
 pub fn leads_to(name: &[u8], fd: i32) -> bool {
@@ -8,7 +7,7 @@ pub fn leads_to(name: &[u8], fd: i32) -> bool {
     if old < 0 {
         return false;
     }
-    let is = status::same(old, fd);
+    let is = filestatus::same(old, fd);
     libc::close(old);
     is
 }
@@ -36,13 +35,13 @@ fn create_new(name: &[u8], path: &mut [u8]) -> i32 {
 
 // The same with the mode of the file that has the name, which is open; a pipe or a device is not replaced.
 fn create_like(old: i32, name: &[u8], path: &mut [u8]) -> i32 {
-    if !status::is_regular(old) {
+    if !filestatus::is_regular(old) {
         io::write_all(libc::STDERR_FILENO, name);
         io::write_all(libc::STDERR_FILENO, b": not a regular file\n");
         return -1;
     }
     let fd = create_new(name, path);
-    libc::fchmod(fd, status::mode(old));
+    libc::fchmod(fd, filestatus::mode(old));
     fd
 }
 

@@ -1,5 +1,5 @@
 // One line on standard error that says why a program refuses: it begins with the name of the file.
-use crate::status::is_regular;
+use filestatus::is_regular;
 use libc::STDERR_FILENO;
 
 pub fn text(words: &[u8]) {

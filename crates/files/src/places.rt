@@ -1,7 +1,7 @@
 // Whether two names to write are one file's.
 use crate::making::leads_to;
-use crate::naming::folder;
-use crate::status::same;
+use filenames::folder;
+use filestatus::same;
 
 // Whether two texts are the same.
 fn equal(a: &[u8], b: &[u8]) -> bool {

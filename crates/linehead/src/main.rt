@@ -27,6 +27,22 @@ fn count_on(from: usize) -> usize {
     count
 }
 
+// Whether standard input cannot be read at all: a read of no bytes fails, and waits for none.
+fn is_unreadable() -> bool {
+    let mut none = [0u8; 1];
+    libc::read(STDIN_FILENO, &mut none[0..0]) < 0
+}
+
+// Says why the header is refused, where it is.
+fn explain(first: &[u8; 16], size: usize) {
+    if size == 0 {
+        if is_unreadable() {
+            return os::fail(b"standard input");
+        }
+    }
+    report::explain_header(b"standard input", first, size);
+}
+
 fn main() {
     if 1 < os::arg_count() {
         io::write_all(
@@ -40,5 +56,5 @@ fn main() {
         size = count_on(size);
     }
     report::print_header(lineheader::rules::judge(&first, size));
-    report::explain_header(b"standard input", &first, size);
+    explain(&first, size);
 }

@@ -1,7 +1,7 @@
 use Rattle.io.proofs.Counting.{counts}
 use borrow.Author.Needs.{needs}
-use Rattle.files.proofs.naming.lead.Statement.{statement}
-use Rattle.files.proofs.naming.lead.Tie as tie
+use Rattle.filenames.proofs.lead.Statement.{statement}
+use Rattle.filenames.proofs.lead.Tie as tie
 
 pub lead-spec : {M : Type 1} → statement M
 lead-spec =

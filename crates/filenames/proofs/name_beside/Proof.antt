@@ -1,7 +1,7 @@
 use Rattle.io.proofs.Counting.{counts}
 use borrow.Author.Needs.{needs}
-use Rattle.files.proofs.naming.name_beside.Statement.{statement}
-use Rattle.files.proofs.naming.name_beside.Tie as tie
+use Rattle.filenames.proofs.name_beside.Statement.{statement}
+use Rattle.filenames.proofs.name_beside.Tie as tie
 
 pub name-beside-spec : {M : Type 1} → statement M
 name-beside-spec =

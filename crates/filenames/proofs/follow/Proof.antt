@@ -1,6 +1,6 @@
 use borrow.Author.Needs.{needs}
-use Rattle.files.proofs.naming.follow.Statement.{statement}
-use Rattle.files.proofs.naming.follow.Tie as tie
+use Rattle.filenames.proofs.follow.Statement.{statement}
+use Rattle.filenames.proofs.follow.Tie as tie
 
 pub follow-spec : {M : Type 1} → statement M
 follow-spec =

@@ -1,11 +1,11 @@
--- `files::naming::put` is safe and ends.
+-- `filenames::put` is safe and ends.
 -- Assumes nothing.
 use Prim.Native.Nat.{_-_}
 use mathlib.Core.Path.{_≡_}
 use lib.ListN.{length}
 use borrow.Author.Needs.{needs}
-use Rattle.files.proofs.naming.put.Statement.{statement}
-use Rattle.files.proofs.naming.put.Tie as tie
+use Rattle.filenames.proofs.put.Statement.{statement}
+use Rattle.filenames.proofs.put.Tie as tie
 
 abbrev Inv-loop : tie.InvT-loop
 Inv-loop text path₀ from i₀ i-end path i = length path ≡ length path₀

@@ -1,4 +1,4 @@
--- `files::status::ask` is safe and ends: a walk of its MIR, by hand, since the borrow checker covers no reference to a struct.
+-- `filestatus::ask` is safe and ends: a walk of its MIR, by hand, since the borrow checker covers no reference to a struct.
 -- The struct is lent for a lifetime that is made for the call, and comes back at some value when it is over.
 -- Assumes nothing.
 use mathlib.Core.Path.{_≡_, refl}
@@ -48,10 +48,10 @@ use Rattle.libc.proofs.fstat as fstat
 use Rattle.libc.proofs.fstat.Symbol as fstat-def
 use Rattle.libc.proofs.fstat.Symbol.{name as #libc·fstat}
 use Rattle.libc.proofs.fstat.Met as fstat-thm
-use Rattle.files.proofs.status.ask.Key.{name as #files·ask}
-use Rattle.files.proofs.status.ask as it
-use Rattle.files.proofs.status.ask.Statement as stated
-use Rattle.files.proofs.status.ask.Code as code
+use Rattle.filestatus.proofs.ask.Key.{name as #filestatus·ask}
+use Rattle.filestatus.proofs.ask as it
+use Rattle.filestatus.proofs.ask.Statement as stated
+use Rattle.filestatus.proofs.ask.Code as code
 
 abbrev stayed : Stays (it.ended .signature .params) (it.ended .kept)
 stayed = (stay-none (λ _. i32) yes, (stay-none (λ _. T.the-row) yes, tt))
@@ -159,6 +159,6 @@ pub ask-spec : {M : Type 1} → stated.statement M
 unfolding code.routine tablesOf
 ask-spec 𝓤 H 𝓜 𝓖 𝓡 =
     entered 𝓤 H (tripleOf 𝓤 H (𝓖 .A) it.signature (it.spec 𝓤 H (𝓖 .A) (𝓜 .mem) (𝓡 .run)))
-    (tables 𝓤 H 𝓜 𝓡 code.env .C) (tables 𝓤 H 𝓜 𝓡 code.env .Λ) #files·ask code.function (code.unfolded 𝓤 H 𝓜 𝓡)
+    (tables 𝓤 H 𝓜 𝓡 code.env .C) (tables 𝓤 H 𝓜 𝓡 code.env .Λ) #filestatus·ask code.function (code.unfolded 𝓤 H 𝓜 𝓡)
     (it-meets 𝓤 H (𝓖 .A) (givenOf 𝓤 H 𝓜 𝓖) (𝓜 .mem) (𝓡 .run) (tablesOf 𝓤 H 𝓜 (tables 𝓤 H 𝓜 𝓡 code.env))
     (cited 𝓤 H (Fstat 𝓤 H (𝓖 .A) (𝓜 .mem) (𝓡 .run)) 𝓜 𝓡 code.env #libc·fstat fstat-def.routine code.calls-libc·fstat (fstat-thm.met 𝓤 H 𝓜 𝓖 𝓡)))

@@ -1,4 +1,4 @@
--- `files::naming::follow_all` is safe and ends: one link a turn, and at most 40.
+-- `filenames::follow_all` is safe and ends: one link a turn, and at most 40.
 -- Assumes nothing.
 use Prim.Native.Nat.{_-_}
 use mathlib.Core.Path.{_≡_}
@@ -6,8 +6,8 @@ use lib.ListN.{length}
 use Rattle.io.specs.Counts.{Counts}
 use Rattle.io.proofs.Counting.{counts}
 use borrow.Author.Needs.{needs}
-use Rattle.files.proofs.naming.follow_all.Statement.{statement}
-use Rattle.files.proofs.naming.follow_all.Tie as tie
+use Rattle.filenames.proofs.follow_all.Statement.{statement}
+use Rattle.filenames.proofs.follow_all.Tie as tie
 
 abbrev Inv-loop : tie.InvT-loop
 Inv-loop name₀ n end₀ i₀ name end i = (length name ≡ length name₀) × Counts end name

@@ -1,10 +1,10 @@
--- `files::naming::folder` is safe and ends, and the index lies within the path.
+-- `filenames::folder` is safe and ends, and the index lies within the path.
 -- Assumes nothing.
 use Prim.Native.Nat.{_≤_}
 use lib.ListN.{length}
 use borrow.Author.Needs.{needs}
-use Rattle.files.proofs.naming.folder.Statement.{statement}
-use Rattle.files.proofs.naming.folder.Tie as tie
+use Rattle.filenames.proofs.folder.Statement.{statement}
+use Rattle.filenames.proofs.folder.Tie as tie
 
 abbrev Inv-loop : tie.InvT-loop
 Inv-loop path end₀ end = end ≤ length path
