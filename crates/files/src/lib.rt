@@ -8,9 +8,11 @@ mod places;
 pub use filenames::name_beside;
 pub use filestatus::is_regular;
 pub use filestatus::same;
+pub use making::close;
 pub use making::create;
 pub use making::finish;
 pub use making::leads_to;
+pub use making::take_name;
 pub use naming::target;
 pub use places::collide;
 

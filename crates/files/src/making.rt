@@ -61,16 +61,33 @@ pub fn create(name: &[u8], path: &mut [u8]) -> i32 {
     -1
 }
 
+// Closes the file for this name, and answers whether it could, or says why not.
+pub fn close(fd: i32, name: &[u8]) -> bool {
+    if libc::close(fd) == 0 {
+        return true;
+    }
+    os::fail(name);
+    false
+}
+
+// Gives the file at path its name, and answers whether it has it; or says why not, and removes the file.
+pub fn take_name(path: &[u8], name: &[u8]) -> bool {
+    if os::rename(path, name) == 0 {
+        return true;
+    }
+    os::fail(name);
+    os::unlink(path);
+    false
+}
+
 // Closes the file and gives it its name where it is whole, or removes it; answers whether it has the name.
 pub fn finish(fd: i32, whole: bool, path: &[u8], name: &[u8]) -> bool {
-    let closed = libc::close(fd);
     if whole {
-        if closed == 0 {
-            if os::rename(path, name) == 0 {
-                return true;
-            }
+        if close(fd, name) {
+            return take_name(path, name);
         }
-        os::fail(name);
+    } else {
+        libc::close(fd);
     }
     os::unlink(path);
     false

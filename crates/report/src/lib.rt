@@ -7,9 +7,9 @@ use lineheader::rules::number;
 ghost use Prim.Native.Nat.{_^_, _<_};
 
 // Prints a name and a number, and answers whether it could.
-fn print(name: &[u8], n: u32) -> bool {
+fn print(name: &[u8], n: u64) -> bool {
     if io::write_all(STDOUT_FILENO, name) {
-        return io::print_decimal(STDOUT_FILENO, n as u64);
+        return io::print_decimal(STDOUT_FILENO, n);
     }
     false
 }
@@ -26,21 +26,21 @@ fn end(printed: bool) {
 
 // Prints a refusal's number.
 pub fn print_refusal(number: u32) {
-    end(print(b"refused ", number));
+    end(print(b"refused ", number as u64));
 }
 
 // Prints the numbers of a header, and answers whether it could.
 fn print_numbers(h: Header) -> bool {
-    if !print(b"superframes ", h.superframes) {
+    if !print(b"superframes ", h.superframes as u64) {
         return false;
     }
-    if !print(b" overhead ", h.overhead) {
+    if !print(b" overhead ", h.overhead as u64) {
         return false;
     }
-    if !print(b" frames ", h.frames) {
+    if !print(b" frames ", h.frames as u64) {
         return false;
     }
-    print(b" total ", h.total)
+    print(b" total ", h.total as u64)
 }
 
 // Prints the numbers of a header, or its refusal.
@@ -50,6 +50,25 @@ pub fn print_header(h: Header) {
         return print_refusal(calls::refusal_of(answer));
     }
     end(print_numbers(h));
+}
+
+// Prints what was received, and answers whether it could.
+fn print_counts(superframes: u32, flips: u64, lost: u64, overhead: u64) -> bool {
+    if !print(b"superframes ", superframes as u64) {
+        return false;
+    }
+    if !print(b" flips ", flips) {
+        return false;
+    }
+    if !print(b" lost ", lost) {
+        return false;
+    }
+    print(b" overhead ", overhead)
+}
+
+// Prints what was received: super-frames, flips, lost words, overhead cells that differ.
+pub fn print_received(superframes: u32, flips: u64, lost: u64, overhead: u64) {
+    end(print_counts(superframes, flips, lost, overhead));
 }
 
 // Says on standard error that a file has a number where another is expected.

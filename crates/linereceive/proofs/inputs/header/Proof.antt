@@ -1,0 +1,27 @@
+-- `linereceive::inputs::header` meets its contract: a header that keeps the rules has at most 64 super-frames, and a refused one has zeros.
+-- Assumes nothing.
+use mathlib.Core.Path.{_≡_, ap, _∙_}
+use mathlib.Core.List.{List}
+use mathlib.Core.Logic.{⊎-elim}
+use Prim.Native.Nat.{ℕ, _≤_}
+use native.Mathlib.Omega.{arith}
+use Rattle.lineformat.specs.declared.Header.{Header}
+use Rattle.lineformat.specs.Header.{number, judged}
+use Rattle.lineformat.specs.HeaderLaws.{verdict}
+use borrow.Author.Needs.{needs}
+use Rattle.linereceive.proofs.inputs.header.Statement.{statement}
+use Rattle.linereceive.proofs.inputs.header.Tie as tie
+
+at-most : (bytes : List ℕ) (size : ℕ) (h : Header) → h ≡ judged bytes size → h .superframes ≤ 64
+at-most bytes size h e =
+    ⊎-elim
+    (λ r. let none : h .superframes ≡ 0 = ap (λ (x : Header). x .superframes) (e ∙ r .1) in omega arith)
+    (λ s. let is : h .superframes ≡ number bytes 0 = ap (λ (x : Header). x .superframes) (e ∙ s .is) in omega (arith, s .rules .most))
+    (verdict bytes size)
+
+pub header-spec : {M : Type 1} → statement M
+header-spec =
+    tie.close
+    (tie.spec
+    (λ c κs. search needs)  -- judge-requires
+    (λ c. search (needs, at-most)))  -- returns

@@ -1,0 +1,32 @@
+-- `linereceive::receiving::receive_all` is safe and ends: one super-frame a turn, whose numbers are small.
+-- Assumes nothing.
+use Prim.Native.Nat.{_-_, _*_, _≤_}
+use borrow.Author.Needs.{needs}
+use Rattle.linereceive.proofs.receiving.receive_all.Statement.{statement}
+use Rattle.linereceive.proofs.receiving.receive_all.Tie as tie
+
+abbrev Inv-loop : tie.InvT-loop
+Inv-loop capture overhead outputs history0₀ history1₀ space₀ flips₀ lost₀ differing₀ n q₀ history0 history1 space flips lost differing q =
+    (flips ≤ q * 8589934592) × (lost ≤ q * 8589934592) × (differing ≤ q * 8589934592)
+
+abbrev μ-loop : tie.MeasureT-loop
+μ-loop capture overhead outputs history0₀ history1₀ space₀ flips₀ lost₀ differing₀ n q₀ history0 history1 space flips lost differing q = n - q
+
+pub receive-all-spec : {M : Type 1} → statement M
+receive-all-spec =
+    tie.close
+    (tie.spec
+    Inv-loop
+    μ-loop
+    (λ c. search needs)  -- loop-holds
+    (λ c κs. search needs)  -- receive-next-requires
+    (λ c. search needs)  -- returns
+    (λ c. search needs)  -- add-flips
+    (λ c. search needs)  -- add-lost
+    (λ c. search needs)  -- add-differing
+    (λ c. search needs)  -- add-progress
+    (λ c κs. search needs)  -- progress-requires
+    (λ c. search needs)  -- add-q
+    (λ c. search needs)  -- loop-less
+    (λ c. search needs)  -- loop-again
+    (λ c. search needs))  -- returns-2

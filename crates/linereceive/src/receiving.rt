@@ -1,0 +1,233 @@
+// Super-frame after super-frame, both receivers from fresh.
+use crate::inputs;
+use crate::inputs::CAPTURE;
+use crate::inputs::Input;
+use crate::inputs::MISFIT;
+use crate::outputs::Descriptors;
+use crate::outputs::put;
+use crate::say;
+use calls::Answer;
+use calls::Refusal;
+ghost use mathlib.Core.Path.{_≡_};
+ghost use Prim.Native.Nat.{_*_, _≤_, _<_};
+ghost use lib.ListN.{length};
+
+// What came of receiving: flips, lost words and overhead cells that differ; or the refusal.
+pub struct Received {
+    pub refusal: u32,
+    pub flips: u64,
+    pub lost: u64,
+    pub overhead: u64,
+}
+
+pub fn refused(refusal: u32) -> Received
+    ensures { λ r. ⌜ (r .flips ≡ 0) × (r .lost ≡ 0) × (r .overhead ≡ 0) ⌝ }
+{
+    Received {
+        refusal,
+        flips: 0,
+        lost: 0,
+        overhead: 0,
+    }
+}
+
+// Takes the pairs of both encoders off the frames of a super-frame.
+fn take_apart(
+    frames: &[u8; 356352],
+    overhead: &[u8],
+    pairs0: &mut [u8; 86016],
+    pairs1: &mut [u8; 86016],
+) -> Answer
+    requires { ⌜ length (now overhead) ≡ 12288 ⌝ }
+{
+    superframe::take_apart(frames, overhead, pairs0, pairs1)
+}
+
+// The same of the next super-frame of the capture, which is read into a buffer.
+fn take(
+    capture: Input,
+    overhead: &[u8],
+    frames: &mut [u8; 356352],
+    pairs0: &mut [u8; 86016],
+    pairs1: &mut [u8; 86016],
+) -> Answer
+    requires { ⌜ length (now overhead) ≡ 12288 ⌝ }
+{
+    if !inputs::read_frames(capture, frames) {
+        return Answer::Refused(Refusal::Misfit);
+    }
+    take_apart(frames, overhead, pairs0, pairs1)
+}
+
+// The refusal of super-frame q, and where its illegal byte is in the capture.
+fn judge(taken: Answer, capture: Input, q: u32) -> u32
+    requires { ⌜ q < 64 ⌝ }
+{
+    let refusal = calls::refusal_of(taken);
+    if refusal == 5 {
+        let at = calls::index_of(taken) % 356352;
+        say::illegal(CAPTURE, capture.frames as usize + q as usize * 356352 + at);
+    }
+    refusal
+}
+
+// Receives the pairs of one encoder, numbered from `first` on, and writes payload and marks.
+fn receive_and_write(
+    pairs: &[u8; 86016],
+    first: u32,
+    history: &mut [u8; 5120],
+    payload: &mut [u8],
+    payload_file: i32,
+    marks_file: i32,
+) -> Received
+    requires { ⌜ (first < 65536) × (length (now payload) ≡ 74592) ⌝ }
+    ensures { λ r. ⌜ (r .flips < 4294967296) × (r .lost < 4294967296) ⌝ }
+{
+    let mut marks = [0u8; 5376];
+    stream::receive(168, pairs, first, history, payload, &mut marks);
+    if !put(payload_file, payload, b"payload file") {
+        return refused(MISFIT);
+    }
+    if !put(marks_file, &marks, b"marks file") {
+        return refused(MISFIT);
+    }
+    let sums = marks::add_up(&marks);
+    Received {
+        refusal: 0,
+        flips: sums.flips as u64,
+        lost: sums.lost as u64,
+        overhead: 0,
+    }
+}
+
+// The same with a buffer that has room for the frames of a super-frame: the payload takes its front, so that no stack is needed for it.
+fn receive(
+    pairs: &[u8; 86016],
+    first: u32,
+    history: &mut [u8; 5120],
+    space: &mut [u8],
+    payload_file: i32,
+    marks_file: i32,
+) -> Received
+    requires { ⌜ (first < 65536) × (length (now space) ≡ 356352) ⌝ }
+    ensures { λ r. ⌜ (r .flips < 4294967296) × (r .lost < 4294967296) ⌝ }
+{
+    receive_and_write(
+        pairs,
+        first,
+        history,
+        &mut space[0..74592],
+        payload_file,
+        marks_file,
+    )
+}
+
+// Receives the pairs of both encoders.
+fn receive_both(
+    pairs0: &[u8; 86016],
+    pairs1: &[u8; 86016],
+    first: u32,
+    history0: &mut [u8; 5120],
+    history1: &mut [u8; 5120],
+    space: &mut [u8; 356352],
+    outputs: Descriptors,
+) -> Received
+    requires { ⌜ first < 65536 ⌝ }
+    ensures { λ r. ⌜ (r .flips < 8589934592) × (r .lost < 8589934592) ⌝ }
+{
+    let received0 = receive(
+        pairs0,
+        first,
+        history0,
+        space,
+        outputs.payload0,
+        outputs.marks0,
+    );
+    if received0.refusal != 0 {
+        return received0;
+    }
+    let received1 = receive(
+        pairs1,
+        first,
+        history1,
+        space,
+        outputs.payload1,
+        outputs.marks1,
+    );
+    Received {
+        refusal: received1.refusal,
+        flips: received0.flips + received1.flips,
+        lost: received0.lost + received1.lost,
+        overhead: 0,
+    }
+}
+
+// Receives super-frame q.
+fn receive_next(
+    capture: Input,
+    q: u32,
+    overhead: &[u8],
+    history0: &mut [u8; 5120],
+    history1: &mut [u8; 5120],
+    space: &mut [u8; 356352],
+    outputs: Descriptors,
+) -> Received
+    requires { ⌜ (q < 64) × (length (now overhead) ≡ 12288) ⌝ }
+    ensures { λ r. ⌜ (r .flips < 8589934592) × (r .lost < 8589934592) × (r .overhead < 8589934592) ⌝ }
+{
+    let mut pairs0 = [0u8; 86016];
+    let mut pairs1 = [0u8; 86016];
+    let taken = take(capture, overhead, space, &mut pairs0, &mut pairs1);
+    let refusal = judge(taken, capture, q);
+    if refusal != 0 {
+        return refused(refusal);
+    }
+    let mut received = receive_both(
+        &pairs0,
+        &pairs1,
+        q * 168,
+        history0,
+        history1,
+        space,
+        outputs,
+    );
+    received.overhead = calls::value_or(taken, 0) as u64;
+    received
+}
+
+// Receives all super-frames.
+pub fn receive_all(capture: Input, overhead: &[u8], outputs: Descriptors) -> Received
+    requires { ⌜ (capture .superframes ≤ 64) × (length (now overhead) ≡ 12288) ⌝ }
+{
+    let mut history0 = [0u8; 5120];
+    let mut history1 = [0u8; 5120];
+    let mut space = [0u8; 356352];
+    let mut flips = 0u64;
+    let mut lost = 0u64;
+    let mut differing = 0u64;
+    let n = capture.superframes;
+    for q in 0..n {
+        let next = receive_next(
+            capture,
+            q,
+            overhead,
+            &mut history0,
+            &mut history1,
+            &mut space,
+            outputs,
+        );
+        if next.refusal != 0 {
+            return next;
+        }
+        flips = flips + next.flips;
+        lost = lost + next.lost;
+        differing = differing + next.overhead;
+        say::progress(q + 1, n);
+    }
+    Received {
+        refusal: 0,
+        flips,
+        lost,
+        overhead: differing,
+    }
+}
