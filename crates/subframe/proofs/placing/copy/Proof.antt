@@ -1,28 +1,29 @@
--- `subframe::placing::put_group` meets its contract: the part is filled from the front.
+-- `subframe::placing::copy` meets its contract: the part is filled from the front.
 -- Assumes nothing.
-use Prim.Native.Nat.{_-_}
+use Prim.Native.Nat.{_+_, _-_}
 use lib.ListN.{getD}
 use Rattle.bits.specs.Filling.{Filling, fill}
 use borrow.Author.Needs.{needs}
-use Rattle.subframe.proofs.placing.put_group.Statement.{statement}
-use Rattle.subframe.proofs.placing.put_group.Tie as tie
+use Rattle.subframe.proofs.placing.copy.Statement.{statement}
+use Rattle.subframe.proofs.placing.copy.Tie as tie
 
 ruleset kit = (needs, fill)
 
 abbrev Inv-loop : tie.InvT-loop
-Inv-loop to₀ group k₀ to k = Filling (λ n. getD group n 0) 64 k to
+Inv-loop from at n to₀ k₀ to k = Filling (λ j. getD from (at + j) 0) n k to
 
 abbrev μ-loop : tie.MeasureT-loop
-μ-loop to₀ group k₀ to k = 64 - k
+μ-loop from at n to₀ k₀ to k = n - k
 
-pub put-group-spec : {M : Type 1} → statement M
-put-group-spec =
+pub copy-spec : {M : Type 1} → statement M
+copy-spec =
     tie.close
     (tie.spec
     Inv-loop
     μ-loop
     (λ c. search kit)  -- loop-holds
-    (λ c. search kit)  -- array-read-to
+    (λ c. search kit)  -- add-to
+    (λ c. search kit)  -- shared-slice-read-to
     (λ c. search kit)  -- slice-write-to
     (λ c. search kit)  -- add-k
     (λ c. search kit)  -- loop-less
