@@ -3,14 +3,14 @@
 use mathlib.Core.Path.{_≡_, refl, sym, ap, ap₂, _∙_}
 use mathlib.Core.List.{List}
 use mathlib.Core.Logic.{_≢_}
-use Prim.Native.Nat.{ℕ, _+_, _-_, _*_, _/_, _%_, _<_, _≤_}
+use Prim.Native.Nat.{ℕ, zero, suc, _+_, _-_, _*_, _/_, _%_, _<_, _≤_}
 use native.Mathlib.Omega.{arith}
-use borrow.Rule.Slice.PartMut.{putMid, same-len-mid}
-use lib.ListN.{length, getD, set, drop, length-set, length-drop}
-use lib.Seq.{length-take-le}
+use borrow.Rule.Slice.PartMut.{putMid}
+use lib.ListN.{length, getD, set, length-set}
+use lib.Seq.{getD-set-same, getD-set-other}
 use Rattle.bits.specs.Lists.{tabulate}
-use Rattle.bits.specs.ListLaws.{length-tabulate, getD-tabulate, tabulate-ext}
-use Rattle.bits.specs.Filling.{Filling, fill-none, fill-more, fill-part, fill-done}
+use Rattle.bits.specs.ListLaws.{length-tabulate, getD-tabulate, is-tabulate, tabulate-ext}
+use Rattle.bits.specs.Filling.{Filling, fill-none, fill-part, fill-done}
 use Rattle.frames.specs.Frames.{overheadCells, payloadCells, frameByte, frameAt, framed, payloadAt, unframed}
 use Rattle.frames.specs.Layout.{edge, gap}
 use Rattle.frames.specs.LayoutLaws.{First, zeroth, other, which, edge-le, cells-all, overheadCells-gap}
@@ -22,11 +22,15 @@ use Rattle.frames.specs.ByteLaws.{byte-low, byte-pilot, byte-rest, paylo
 abbrev pub groupAt : ℕ → List ℕ → List ℕ → ℕ → ℕ → ℕ
 groupAt s payload own i k = frameAt s payload own (i * 64 + k)
 
+-- What was copied number by number is what was there.
+pub copied : (n : ℕ) (f : ℕ → ℕ) (t d : List ℕ) → d ≡ tabulate n (λ k. getD t k 0) → t ≡ tabulate n f → d ≡ tabulate n f
+copied n f t d e p = e ∙ tabulate-ext n (λ k. getD t k 0) f (λ k l. ap (λ z. getD z k 0) p ∙ getD-tabulate n f k l)
+
 -- The payload before a group past the edge.
-pub run-from : (s i g : ℕ) → g ≡ gap s → edge s ≤ i * 32 → g * 2 ≤ i * 62
+pub run-from : (s i g : ℕ) → g ≡ gap s → edge s ≤ i * 32 → (g + 1) * 2 ≤ i * 62
 run-from s i g e l = go (which s)
   where
-    go : First s → g * 2 ≤ i * 62
+    go : First s → (g + 1) * 2 ≤ i * 62
     go (zeroth z p q) = omega arith
     go (other z p q) = omega arith
 
@@ -41,47 +45,42 @@ module _ (s : ℕ) (payload own : List ℕ) (i g : ℕ) (gis : g ≡ gap s) (l :
       ∙ byte-pilot s payload own (i * 32) k (edge s) refl g gis l (omega arith)
       ∙ ap₂ (frameByte s payload own) d r
 
-  group-run : (k : ℕ) → k < 62 → getD payload (i * 62 - g * 2 + k) 0 ≡ groupAt s payload own i (2 + k)
+  group-run : (k : ℕ) → 2 ≤ k → k < 64 → getD payload (i * 62 - (g + 1) * 2 + k) 0 ≡ groupAt s payload own i k
   unfolding frameAt
-  group-run k b =
-      let m : ℕ = (i * 64 + (2 + k)) / 2 in
-      let q : m / 32 ≡ i = omega arith in
-      let n : i * 62 - g * 2 + k ≡ (m - (m / 32 + 1 + g)) * 2 + (i * 64 + (2 + k)) % 2 = omega (arith, run-from s i g gis l) in
-      ap (λ j. getD payload j 0) n ∙ byte-rest s payload own m ((i * 64 + (2 + k)) % 2) (edge s) refl g gis (omega arith) (omega arith)
+  group-run k a b =
+      let q : (i * 64 + k) / 2 / 32 ≡ i = omega arith in
+      let n : i * 62 - (g + 1) * 2 + k ≡ ((i * 64 + k) / 2 - ((i * 64 + k) / 2 / 32 + 1 + g)) * 2 + (i * 64 + k) % 2 = omega (arith, run-from s i g gis l) in
+      ap (λ m. getD payload m 0) n
+      ∙ byte-rest s payload own ((i * 64 + k) / 2) ((i * 64 + k) % 2) (edge s) refl g gis (omega arith) (omega arith)
 
-  pub run-inside : i < 116 → length payload ≡ payloadCells s * 2 → i * 62 - g * 2 + 62 ≤ length payload
+  pub run-inside : i < 116 → length payload ≡ payloadCells s * 2 → i * 62 - (g + 1) * 2 + 64 ≤ length payload
   run-inside li lp = omega (arith, run-from s i g gis l, cells-all s, overheadCells-gap s)
 
-  pub run-space : (d : List ℕ) (u v : ℕ) → length d ≡ 64 → 64 ≤ length (set (set d 0 u) 1 v)
-  run-space d u v e = omega (arith, length-set (set d 0 u) 1 v, length-set d 0 u)
+  -- The run is put with the cell before it, and then the pilot in that cell's place.
+  pub group-put : (t d : List ℕ) → t ≡ tabulate 64 (λ k. getD payload (i * 62 - (g + 1) * 2 + k) 0) → d ≡ tabulate 64 (λ k. getD t k 0)
+      → set (set d 0 (getD own ((i + g) * 2) 0)) 1 (getD own ((i + g) * 2 + 1) 0) ≡ tabulate 64 (groupAt s payload own i)
+  group-put t d et ed = is-tabulate (set (set d 0 u) 1 v) 64 (groupAt s payload own i) (length-set (set d 0 u) 1 v ∙ length-set d 0 u ∙ long) byte
+    where
+      u : ℕ
+      u = getD own ((i + g) * 2) 0
 
-  -- The pilot is put first, and then the run.
-  pub group-put : (d ys : List ℕ) → length d ≡ 64 → ys ≡ tabulate 62 (λ k. getD payload (i * 62 - g * 2 + k) 0)
-      → putMid 2 (64 - 2) (set (set d 0 (getD own ((i + g) * 2) 0)) 1 (getD own ((i + g) * 2 + 1) 0)) ys ≡ tabulate 64 (groupAt s payload own i)
-  group-put d ys e t =
-      let z : (i + g) * 2 ≡ (i + g) * 2 + 0 = omega arith in
-      fill-done
-      (fill-part 62 ys
-      (fill-more (getD own ((i + g) * 2 + 1) 0)
-      (fill-more (getD own ((i + g) * 2) 0) (fill-none (groupAt s payload own i) 64 d e) (omega arith) (ap (λ n. getD own n 0) z ∙ group-pilot 0 (omega arith)))
-      (omega arith) (group-pilot 1 (omega arith)))
-      (omega arith) (t ∙ tabulate-ext 62 (λ k. getD payload (i * 62 - g * 2 + k) 0) (λ k. groupAt s payload own i (2 + k)) group-run))
-      (omega arith)
+      v : ℕ
+      v = getD own ((i + g) * 2 + 1) 0
 
-pub group-long : (d ys : List ℕ) (u v : ℕ) (f : ℕ → ℕ) → length d ≡ 64 → ys ≡ tabulate 62 f → length (putMid 2 (64 - 2) (set (set d 0 u) 1 v) ys) ≡ length d
-group-long d ys u v f e t =
-    same-len-mid 2 62 (set (set d 0 u) 1 v) ys
-    (ap length t ∙ length-tabulate 62 f ∙ sym (length-take-le 62 (drop 2 (set (set d 0 u) 1 v)) (omega (arith, length-drop 2 (set (set d 0 u) 1 v), long))))
-    ∙ long
-  where
-    long : length (set (set d 0 u) 1 v) ≡ length d
-    long = length-set (set d 0 u) 1 v ∙ length-set d 0 u
+      long : length d ≡ 64
+      long = ap length ed ∙ length-tabulate 64 (λ k. getD t k 0)
 
--- What was copied number by number is what was there.
-pub copied : (n : ℕ) (f : ℕ → ℕ) (t d : List ℕ) → d ≡ tabulate n (λ k. getD t k 0) → t ≡ tabulate n f → d ≡ tabulate n f
-copied n f t d e p = e ∙ tabulate-ext n (λ k. getD t k 0) f (λ k l. ap (λ z. getD z k 0) p ∙ getD-tabulate n f k l)
+      byte : (k : ℕ) → k < 64 → getD (set (set d 0 u) 1 v) k 0 ≡ groupAt s payload own i k
+      byte zero lk =
+          let z : (i + g) * 2 ≡ (i + g) * 2 + 0 = omega arith in
+          getD-set-other (set d 0 u) 1 0 v 0 (omega arith) ∙ getD-set-same d 0 u 0 (omega (arith, long)) ∙ ap (λ n. getD own n 0) z ∙ group-pilot 0 (omega arith)
+      byte (suc zero) lk = getD-set-same (set d 0 u) 1 v 0 (omega (arith, length-set d 0 u, long)) ∙ group-pilot 1 (omega arith)
+      byte (suc (suc k)) lk =
+          getD-set-other (set d 0 u) 1 (suc (suc k)) v 0 (omega arith) ∙ getD-set-other d 0 (suc (suc k)) u 0 (omega arith)
+          ∙ ap (λ z. getD z (suc (suc k)) 0) (copied 64 (λ n. getD payload (i * 62 - (g + 1) * 2 + n) 0) t d ed et)
+          ∙ getD-tabulate 64 (λ n. getD payload (i * 62 - (g + 1) * 2 + n) 0) (suc (suc k)) lk ∙ group-run (suc (suc k)) (omega arith) lk
 
-pub ruleset by-groups = (run-from, run-inside, run-space, group-put)
+pub ruleset by-groups = (run-from, run-inside, group-put)
 
 -- The first m numbers of a buffer were lent to a call that filled them with f's.
 fill-first : {f : ℕ → ℕ} {n : ℕ} (m : ℕ) (d ys : List ℕ) → length d ≡ n → m ≤ n → ys ≡ tabulate m f → Filling f n m (putMid 0 (m - 0) d ys)
@@ -161,7 +160,7 @@ pub ruleset by-framing = (edge-inside, edge-room, groups-none, groups-next, grou
 -- Past the edge, a run of 62 bytes of a frame is one of its payload.
 pub run-payload : (s : ℕ) (frame : List ℕ) (i k : ℕ) → edge s ≤ i * 32 → i < 116 → k < 62 → getD frame (i * 64 + 2 + k) 0 ≡ payloadAt s frame (i * 62 - gap s * 2 + k)
 run-payload s frame i k l li lk =
-    let b : gap s * 2 ≤ i * 62 = run-from s i (gap s) refl l in
+    let b : (gap s + 1) * 2 ≤ i * 62 = run-from s i (gap s) refl l in
     let j : (i * 62 - gap s * 2 + k) / 2 + gap s ≡ i * 31 + k / 2 = omega arith in
     let h : (i * 62 - gap s * 2 + k) % 2 ≡ k % 2 = omega arith in
     let q : (i * 31 + k / 2) / 31 ≡ i = omega arith in

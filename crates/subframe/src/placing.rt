@@ -62,16 +62,37 @@ fn place_rest(number: u32, payload: &[u8], own: &[u8], frame: &mut [u8]) -> usiz
     w
 }
 
-// Group i past the edge: a pilot and a run of 31 payload cells.
+// 64 bytes, from a byte on.
+fn group_of(from: &[u8], at: usize) -> [u8; 64]
+    requires { ⌜ at + 64 ≤ length (now from) ⌝ }
+    ensures { λ r. ⌜ r ≡ tabulate 64 (λ k. getD (now (from .entry)) (at + k) 0) ⌝ }
+{
+    let mut group = [0u8; 64];
+    for k in 0..64 {
+        group[k] = from[at + k];
+    }
+    group
+}
+
+fn put_group(group: [u8; 64], to: &mut [u8])
+    requires { ⌜ length (now to) ≡ 64 ⌝ }
+    ensures { λ _. ⌜ now (to .exit) ≡ tabulate 64 (λ k. getD group k 0) ⌝ }
+{
+    for k in 0..64 {
+        to[k] = group[k];
+    }
+}
+
+// Group i past the edge: a run of 31 payload cells with the cell before it, which is whole vectors, and a pilot in that cell's place.
 fn place_group(number: u32, payload: &[u8], own: &[u8], i: usize, group: &mut [u8])
     requires { ⌜ (length (now payload) ≡ payloadCells number * 2) × (length (now own) ≡ overheadCells number * 2) × (i < 116) × (edge number ≤ i * 32) × (length (now group) ≡ 64) ⌝ }
     ensures { λ _. ⌜ now (group .exit) ≡ tabulate 64 (groupAt number (now (payload .entry)) (now (own .entry)) i) ⌝ }
 {
     let g = gap(number);
     let pilot = (i + g) * 2;
+    put_group(group_of(payload, i * 62 - (g + 1) * 2), group);
     group[0] = own[pilot];
     group[1] = own[pilot + 1];
-    copy_run(payload, i * 62 - g * 2, &mut group[2..64]);
 }
 
 // Places payload and overhead, group by group.

@@ -1,6 +1,8 @@
--- `subframe::placing::place_group` meets its contract: the pilot, then the run.
+-- `subframe::placing::place_group` meets its contract: the run, then the pilot.
 -- Assumes nothing.
-use Rattle.frames.specs.RunLaws.{by-groups, group-long}
+use native.Mathlib.Omega.{arith}
+use lib.ListN.{length-set}
+use Rattle.frames.specs.RunLaws.{by-groups}
 use borrow.Author.Needs.{needs}
 use Rattle.subframe.proofs.placing.place_group.Statement.{statement}
 use Rattle.subframe.proofs.placing.place_group.Tie as tie
@@ -14,17 +16,16 @@ place-group-spec =
     (λ c κs. search kit)  -- gap-requires
     (λ c. search kit)  -- add-pilot
     (λ c. search kit)  -- mul-pilot
+    (λ c. search kit)  -- mul-group-of
+    (λ c. search kit)  -- add-group-of
+    (λ c. search kit)  -- mul-group-of-2
+    (λ c. search kit)  -- sub-group-of
+    (λ c κs. search kit)  -- group-of-requires
+    (λ c κs. search kit)  -- put-group-requires
     (λ c. search kit)  -- shared-slice-read-group
     (λ c. search kit)  -- slice-write-group
     (λ c. search kit)  -- add-group
     (λ c. search kit)  -- shared-slice-read-group-2
-    (λ c. search kit)  -- slice-write-group-2
-    (λ c. search kit)  -- mul-copy-run
-    (λ c. search kit)  -- mul-copy-run-2
-    (λ c. search kit)  -- sub-copy-run
-    (λ c. search kit)  -- sub-copy-run-2
-    (λ c. search kit)  -- part-copy-run-start
-    (λ c. search kit)  -- part-copy-run-end
-    (λ c κs. search kit)  -- copy-run-requires
-    (λ c. search (group-long, c .before .before .before .before .before .before .before .before .before .before .pre .4, c .before .before .copy-run .ensures))  -- same-length
+    (λ c. simp length-set (omega arith))  -- slice-write-group-2
+    (λ c. simp length-set (search needs))  -- same-length
     (λ c. search kit))  -- returns

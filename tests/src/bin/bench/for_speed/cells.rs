@@ -36,8 +36,9 @@ pub fn bits_to_cells(bits: &[u8], cells: &mut [u8]) -> Outcome {
     if [bits.len(), cells.len()] != [21504, 43008] {
         return Outcome::refused(MISFIT);
     }
-    for (&byte, own) in bits.iter().zip(cells.chunks_exact_mut(2)) {
-        own.copy_from_slice(&cell(byte).to_le_bytes());
+    let (cells, _) = cells.as_chunks_mut();
+    for (&byte, own) in bits.iter().zip(cells) {
+        *own = cell(byte).to_le_bytes();
     }
     Outcome::accepted(0)
 }
@@ -50,8 +51,9 @@ pub fn cells_to_bits(cells: &[u8], bits: &mut [u8]) -> Outcome {
     if let Some(index) = first_illegal(cells) {
         return Outcome::off_grid(index);
     }
-    for (own, byte) in cells.chunks_exact(2).zip(bits) {
-        *byte = symbol(u16::from_le_bytes([own[0], own[1]])) as u8;
+    let (cells, _) = cells.as_chunks();
+    for (own, byte) in cells.iter().zip(bits) {
+        *byte = symbol(u16::from_le_bytes(*own)) as u8;
     }
     Outcome::accepted(0)
 }

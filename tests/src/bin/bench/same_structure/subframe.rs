@@ -84,12 +84,26 @@ fn place_rest(number: u32, payload: &[u8], own: &[u8], frame: &mut [u8]) -> usiz
     w
 }
 
+fn group_of(from: &[u8], at: usize) -> [u8; 64] {
+    let mut group = [0; 64];
+    for k in 0..64 {
+        group[k] = from[at + k];
+    }
+    group
+}
+
+fn put_group(group: [u8; 64], to: &mut [u8]) {
+    for k in 0..64 {
+        to[k] = group[k];
+    }
+}
+
 fn place_group(number: u32, payload: &[u8], own: &[u8], i: usize, group: &mut [u8]) {
     let g = gap(number);
     let pilot = (i + g) * 2;
+    put_group(group_of(payload, i * 62 - (g + 1) * 2), group);
     group[0] = own[pilot];
     group[1] = own[pilot + 1];
-    copy_run(payload, i * 62 - g * 2, &mut group[2..64]);
 }
 
 pub fn place(number: u32, payload: &[u8], own: &[u8], frame: &mut [u8]) {
