@@ -23,7 +23,7 @@ fn pairs_words(pairs: &[u8], k: BlockRow) -> [u16; 128]
 {
     let mut words = [0u16; 128];
     for x in 0..128 {
-        let at = pairs_byte(k, x % 8, BitRow(x / 8));
+        let at = pairs_byte(k, 0, BitRow(0)) + 2 * x;
         words[x] = (bits::widen(pairs[at + 1]) * 256 + bits::widen(pairs[at])) as u16;
     }
     words
