@@ -59,7 +59,7 @@ fn lay(row: &mut BlockRow, block: usize, b: Block) {
 fn pairs_words(pairs: &[u8; 10752], block_row: usize) -> BlockRow {
     let mut words = [0; 128];
     for x in 0..128 {
-        let at = 256 * (block_row / 2) + 16 * (x / 8) + 2 * (x % 8);
+        let at = 256 * (block_row / 2) + 2 * x;
         words[x] = (usize::from(pairs[at + 1]) * 256 + usize::from(pairs[at])) as u16;
     }
     words
