@@ -4,53 +4,61 @@ ghost use Prim.Native.Nat.{_+_, _*_, _<_};
 ghost use lib.ListN.{length};
 ghost use Rattle.bits.specs.Bits.{pack};
 ghost use Rattle.bits.specs.Lists.{tabulate};
-ghost use Rattle.interleaving.specs.BlockBuffer.{pairsBlock, sentBlock, reorderedRow, outputBit, columnByte};
+ghost use Rattle.interleaving.specs.BlockBuffer.{laid, pairsWords, sentWords, wordsBlock, reorderedIn, reorderedRow, outputBit, columnByte};
 ghost use Rattle.interleaving.specs.Laying.{Held};
 use crate::buffer::held_word;
 use crate::buffer::lay;
 use crate::rows::block_row_of;
 use crate::rows::pairs_byte;
 use blocks::block::reorder;
+use blocks::block::turn;
 use interleaving::BitRow;
 use interleaving::BlockRow;
 use interleaving::SubsetBitRow;
 
-// Block C of a block row, from its encoder's pairs.
-fn pairs_block(pairs: &[u8], k: BlockRow, block: usize) -> [u16; 16]
-    requires { ⌜ (length (now pairs) ≡ 10752) × (k .0 < 84) × (block < 8) ⌝ }
-    ensures { λ b. ⌜ b ≡ pairsBlock (now (pairs .entry)) k block ⌝ }
+// The words of a block row from its encoder's pairs, the second byte of a word the upper: so the compiler reads eight words at once.
+fn pairs_words(pairs: &[u8], k: BlockRow) -> [u16; 128]
+    requires { ⌜ (length (now pairs) ≡ 10752) × (k .0 < 84) ⌝ }
+    ensures { λ w. ⌜ w ≡ pairsWords (now (pairs .entry)) k ⌝ }
+{
+    let mut words = [0u16; 128];
+    for x in 0..128 {
+        let at = pairs_byte(k, 0, BitRow(0)) + 2 * x;
+        words[x] = (bits::widen(pairs[at + 1]) * 256 + bits::widen(pairs[at])) as u16;
+    }
+    words
+}
+
+// The same by its encoder.
+fn sent_words(pairs0: &[u8], pairs1: &[u8], k: BlockRow) -> [u16; 128]
+    requires { ⌜ (length (now pairs0) ≡ 10752) × (length (now pairs1) ≡ 10752) × (k .0 < 84) ⌝ }
+    ensures { λ w. ⌜ w ≡ sentWords (now (pairs0 .entry)) (now (pairs1 .entry)) k ⌝ }
+{
+    if k.0 % 2 == 0 {
+        return pairs_words(pairs0, k);
+    }
+    pairs_words(pairs1, k)
+}
+
+// Block C of these words, its bytes exchanged.
+fn block_in(words: &[u16; 128], block: usize) -> [u16; 16]
+    requires { ⌜ block < 8 ⌝ }
+    ensures { λ b. ⌜ b ≡ wordsBlock (now (words .entry)) block ⌝ }
 {
     let mut b = [0u16; 16];
     for r in 0..16 {
-        let at = pairs_byte(k, block, BitRow(r));
-        b[r] = (bits::widen(pairs[at]) * 256 + bits::widen(pairs[at + 1])) as u16;
+        b[r] = turn(words[8 * r + block], 8);
     }
     b
 }
 
-// Block C of a block row.
-fn sent_block(pairs0: &[u8], pairs1: &[u8], k: BlockRow, block: usize) -> [u16; 16]
-    requires { ⌜ (length (now pairs0) ≡ 10752) × (length (now pairs1) ≡ 10752) × (k .0 < 84) × (block < 8) ⌝ }
-    ensures { λ b. ⌜ b ≡ sentBlock (now (pairs0 .entry)) (now (pairs1 .entry)) k block ⌝ }
-{
-    if k.0 % 2 == 0 {
-        return pairs_block(pairs0, k, block);
-    }
-    pairs_block(pairs1, k, block)
-}
-
 // The reordered blocks of a block row, by columns.
-fn reordered_row(pairs0: &[u8], pairs1: &[u8], k: BlockRow) -> [u16; 128]
-    requires { ⌜ (length (now pairs0) ≡ 10752) × (length (now pairs1) ≡ 10752) × (k .0 < 84) ⌝ }
-    ensures { λ r. ⌜ r ≡ reorderedRow (now (pairs0 .entry)) (now (pairs1 .entry)) (k .0) ⌝ }
+fn reordered_row(words: &[u16; 128]) -> [u16; 128]
+    ensures { λ r. ⌜ r ≡ laid (reorderedIn (now (words .entry))) ⌝ }
 {
     let mut row = [0u16; 128];
     for block in 0..8 {
-        lay(
-            &mut row,
-            block,
-            reorder(sent_block(pairs0, pairs1, k, block)),
-        );
+        lay(&mut row, block, reorder(block_in(words, block)));
     }
     row
 }
@@ -63,7 +71,8 @@ pub fn reordered_rows(pairs0: &[u8], pairs1: &[u8]) -> [[u16; 128]; 84]
     let none = [0u16; 128];
     let mut rows = [none; 84];
     for k in 0..84 {
-        rows[k] = reordered_row(pairs0, pairs1, BlockRow(k));
+        let words = sent_words(pairs0, pairs1, BlockRow(k));
+        rows[k] = reordered_row(&words);
     }
     rows
 }

@@ -27,7 +27,7 @@ fn row(b: &[u16; 16], i: BitRow) -> u16
 }
 
 // A row turned left by n columns.
-fn turn(x: u16, n: usize) -> u16
+pub fn turn(x: u16, n: usize) -> u16
     requires { ⌜ n < 16 ⌝ }
     ensures { λ r. ⌜ r ≡ turned x n ⌝ }
 {

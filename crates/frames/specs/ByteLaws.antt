@@ -12,7 +12,7 @@ use Rattle.bits.specs.TestLaws.{either, cond-yes, cond-no}
 use Rattle.frames.specs.Frames.{isOverhead, overheadBefore, overheadCells, payloadCells, overheadStart, ownOverhead, frameByte, payloadAt, cellDiffers, overheadDiffers}
 use Rattle.frames.specs.Layout.{edge, gap, spot}
 use Rattle.frames.specs.LayoutLaws.{which, low-is, pilot-is, rest-is, overhead-low, overhead-pilot, payload-rest}
-use Rattle.frames.specs.PlaceLaws.{payload-index-lt, payloadCell-spot}
+use Rattle.frames.specs.PlaceLaws.{payloadCell-spot}
 use Rattle.frames.specs.FrameLaws.{own-length, cellDiffers-le}
 
 -- ---- a byte of a frame
@@ -35,16 +35,6 @@ module _ (s : ℕ) (payload own : List ℕ) (m h e : ℕ) (is : e ≡ edge s) wh
     byte-rest z =
         ap (λ k. getD payload (k * 2 + h) 0) (omega (arith, payload-rest s m (omega arith) z))
         ∙ sym (cond-no (isOverhead s m) _ _ (rest-is s m (which s) (omega arith) z))
-
-module _ (s m e g : ℕ) (is : e ≡ edge s) (gis : g ≡ gap s) (l : e ≤ m) (z : m % 32 ≢ 0) where
-  pub rest-from : m / 32 + 1 + g ≤ m
-  rest-from = omega (arith, payload-rest s m (omega arith) z)
-
-  pub rest-inside : (payload : List ℕ) (h : ℕ) → length payload ≡ payloadCells s * 2 → m < 3712 → h < 2 → (m - (m / 32 + 1 + g)) * 2 + h < length payload
-  rest-inside payload h lp lm lh =
-      omega (arith, payload-rest s m (omega arith) z, payload-index-lt s m lm (rest-is s m (which s) (omega arith) z))
-
-pub ruleset frame-bytes = (byte-low, byte-pilot, byte-rest, rest-from, rest-inside)
 
 -- ---- a byte of the payload
 

@@ -12,7 +12,7 @@ use Rattle.interleaving.specs.declared.BlockRow.{BlockRow}
 use Rattle.interleaving.specs.declared.SubsetBitRow.{SubsetBitRow}
 use Rattle.interleaving.specs.Rows.{blockRow, encoderIn, rowIn, blockRowOf, within}
 use Rattle.interleaving.specs.Block.{block, reordered, restored}
-use Rattle.interleaving.specs.Moves.{transposed}
+use Rattle.interleaving.specs.Moves.{turned, transposed}
 use Rattle.interleaving.specs.Positions.{outColumn, tOf, subsetOf, bOf}
 use Rattle.interleaving.specs.PositionLaws.{outputAt}
 use Rattle.interleaving.specs.Interleaving.{pairsBit, pairsOf}
@@ -44,7 +44,25 @@ pairsPlace pairs k C r c = bit pairs (pairsBit (rowIn k) C r c)
 abbrev pub pairsBlock : List ℕ → BlockRow → ℕ → List ℕ
 pairsBlock pairs k C = block (pairsPlace pairs k C)
 
--- The same by its encoder; that block reordered, by columns; and block row number k of such blocks.
+-- Word x of block row k as two bytes of the pairs give it, the second of them the upper: bit row x/8 of block x mod 8, turned by 8
+-- columns. And all 128, by the encoder.
+unfoldable pub pairsWord : List ℕ → BlockRow → ℕ → ℕ
+pairsWord pairs k x = fromBits 16 (λ c. pairsPlace pairs k (x % 8) (x / 8) ((c + 8) % 16))
+
+unfoldable pub pairsWords : List ℕ → BlockRow → List ℕ
+pairsWords pairs k = tabulate 128 (pairsWord pairs k)
+
+unfoldable pub sentWords : List ℕ → List ℕ → BlockRow → List ℕ
+sentWords pairs0 pairs1 k = pairsWords (pairsOf pairs0 pairs1 (encoderIn k)) k
+
+-- Block C of such words, and that block reordered, by columns.
+unfoldable pub wordsBlock : List ℕ → ℕ → List ℕ
+wordsBlock words C = tabulate 16 (λ r. turned (getD words (8 * r + C) 0) 8)
+
+unfoldable pub reorderedIn : List ℕ → ℕ → List ℕ
+reorderedIn words C = transposed (reordered (wordsBlock words C))
+
+-- The block by its encoder; that block reordered, by columns; and block row number k of such blocks.
 unfoldable pub sentBlock : List ℕ → List ℕ → BlockRow → ℕ → List ℕ
 sentBlock pairs0 pairs1 k C = pairsBlock (pairsOf pairs0 pairs1 (encoderIn k)) k C
 

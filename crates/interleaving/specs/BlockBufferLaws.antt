@@ -8,22 +8,22 @@ use borrow.Author.Tests.{eq-eqb, ne-eqb}
 use borrow.Rule.Slice.PartMut.{putMid}
 use lib.ListN.{length, getD, set, length-set}
 use Rattle.bits.specs.Bits.{bitOf, bit, fromBits, byteOf, pack}
-use Rattle.bits.specs.BitLaws.{bit-lt, fromBits-ext, pack-ext}
+use Rattle.bits.specs.BitLaws.{bit-lt, bitOf-fromBits, fromBits-ext, pack-ext}
 use Rattle.bits.specs.Filling.{Filling, fill-none, fill-more, fill-done, Blocks, blocks-next}
 use Rattle.bits.specs.ListLaws.{getD-tabulate, tabulate-ext}
 use Rattle.bits.specs.Lists.{tabulate}
 use Rattle.interleaving.specs.declared.BlockRow.{BlockRow}
 use Rattle.interleaving.specs.NumberLaws.{two-bytes, half-is}
-use Rattle.interleaving.specs.Rows.{blockRow, rowIn, blockRowOf}
+use Rattle.interleaving.specs.Rows.{blockRow, encoderIn, rowIn, blockRowOf}
 use Rattle.interleaving.specs.Block.{bitAt, rowWord, block, sourceRow, sourceColumn, reordered, restored}
 use Rattle.interleaving.specs.BlockLaws.{bitAt-block-of, block-ext, bitAt-reordered, bitAt-restored, targetRow, targetColumn, targetRow-lt, targetColumn-lt, sourceRow-lt, sourceColumn-lt}
-use Rattle.interleaving.specs.Moves.{moved, transposed}
+use Rattle.interleaving.specs.Moves.{turned, moved, transposed}
 use Rattle.interleaving.specs.MoveLaws.{transposed-bit}
 use Rattle.interleaving.specs.Positions.{outColumn, tOf, bOf, outBlockRow, placeRow, placeColumn, encoderOf, rowOf, blockOf, bitRowOf, columnOf}
 use Rattle.interleaving.specs.PositionLaws.{part-column, part-t, part-subset, part-b, outputAt, output-upper, output-lower, outputFor, outBlockRow-lt}
 use Rattle.interleaving.specs.Interleaving.{pairsBit, pairsOf, sourceOf, interleavedBit, interleaved, outputOf, apart}
 use Rattle.interleaving.specs.InterleavingLaws.{outputFrom, outputOf-is}
-use Rattle.interleaving.specs.BlockBuffer.{laidWord, laid, heldWord, pairsPlace, pairsBlock, sentBlock, reorderedBlock, reorderedRow, partsBit, outputBit, columnByte, linePlace, lineBlock, lineColumn, lineColumns, restoredBlock, restoredRow, rowByte, heldBit}
+use Rattle.interleaving.specs.BlockBuffer.{laidWord, laid, heldWord, pairsPlace, pairsWord, pairsWords, sentWords, wordsBlock, reorderedIn, sentBlock, reorderedBlock, reorderedRow, partsBit, outputBit, columnByte, linePlace, lineBlock, lineColumn, lineColumns, restoredBlock, restoredRow, rowByte, heldBit}
 use Rattle.interleaving.specs.Laying.{Held}
 
 -- ---- a word of the buffer by its block row, block and number
@@ -46,30 +46,58 @@ held-is f g by rows h k C i j lk lC li =
 
 -- ---- from pairs to bits, as code finds them
 
--- Bit row r of a block is two bytes of the pairs.
-pub pairs-row : (s : List ℕ) (k : BlockRow) (C r at x y : ℕ) → at * 8 ≡ pairsBit (rowIn k) C r 0 → x ≡ getD s at 0
-    → y ≡ getD s (at + 1) 0 → x < 256 → y < 256
-    → x * 256 + y ≡ rowWord (pairsPlace s k C) r
-unfolding rowWord pairsPlace pairsBit
-pairs-row s k C r at x y e p q lx ly =
-    two-bytes s at (at + 1) x y (pairsPlace s k C r) p q lx ly (λ j l. ap (bit s) (omega arith)) (λ j l. ap (bit s) (omega arith))
+-- A word is two bytes of the pairs.
+pub pairs-word : (s : List ℕ) (k : BlockRow) (at x u v : ℕ) → at * 8 ≡ pairsBit (rowIn k) (x % 8) (x / 8) 0 → u ≡ getD s (at + 1) 0
+    → v ≡ getD s at 0 → u < 256 → v < 256 → u * 256 + v ≡ pairsWord s k x
+unfolding pairsWord pairsPlace pairsBit
+pairs-word s k at x u v e p q lu lv =
+    two-bytes s (at + 1) at u v (λ c. pairsPlace s k (x % 8) (x / 8) ((c + 8) % 16)) p q lu lv
+    (λ j l. let n : (j + 8) % 16 ≡ 8 + j = omega arith in rw n (ap (bit s) (omega arith)))
+    (λ j l. let n : (8 + j + 8) % 16 ≡ j = omega arith in rw n (ap (bit s) (omega arith)))
 
 -- By its encoder.
-pub sent-0 : (pairs0 pairs1 : List ℕ) (k : BlockRow) (C : ℕ) (b : List ℕ) → k .0 % 2 ≡ 0 → b ≡ pairsBlock pairs0 k C
-    → b ≡ sentBlock pairs0 pairs1 k C
-unfolding sentBlock pairsOf
-sent-0 pairs0 pairs1 k C b e p = p ∙ simp (eq-eqb (k .0 % 2) 0 e)
+pub sent-0 : (pairs0 pairs1 : List ℕ) (k : BlockRow) (w : List ℕ) → k .0 % 2 ≡ 0 → w ≡ pairsWords pairs0 k → w ≡ sentWords pairs0 pairs1 k
+unfolding sentWords pairsOf
+sent-0 pairs0 pairs1 k w e p = p ∙ simp (eq-eqb (k .0 % 2) 0 e)
 
-pub sent-1 : (pairs0 pairs1 : List ℕ) (k : BlockRow) (C : ℕ) (b : List ℕ) → (k .0 % 2 ≡ 0 → ⊥) → b ≡ pairsBlock pairs1 k C
-    → b ≡ sentBlock pairs0 pairs1 k C
-unfolding sentBlock pairsOf
-sent-1 pairs0 pairs1 k C b e p = p ∙ simp (ne-eqb (k .0 % 2) 0 e)
+pub sent-1 : (pairs0 pairs1 : List ℕ) (k : BlockRow) (w : List ℕ) → (k .0 % 2 ≡ 0 → ⊥) → w ≡ pairsWords pairs1 k → w ≡ sentWords pairs0 pairs1 k
+unfolding sentWords pairsOf
+sent-1 pairs0 pairs1 k w e p = p ∙ simp (ne-eqb (k .0 % 2) 0 e)
 
-pub reordered-block : (pairs0 pairs1 : List ℕ) (k : BlockRow) (C : ℕ) (b r : List ℕ) → b ≡ sentBlock pairs0 pairs1 k C
-    → r ≡ transposed (reordered b)
-    → r ≡ reorderedBlock pairs0 pairs1 k C
-unfolding reorderedBlock
-reordered-block pairs0 pairs1 k C b r p q = q ∙ ap (λ s. transposed (reordered s)) p
+-- Turned by 8 columns more, the words of block C are its bit rows.
+block-words : (pairs0 pairs1 : List ℕ) (k : BlockRow) (C : ℕ) → C < 8 → wordsBlock (sentWords pairs0 pairs1 k) C ≡ sentBlock pairs0 pairs1 k C
+unfolding wordsBlock sentWords sentBlock pairsWords pairsWord block rowWord turned
+block-words pairs0 pairs1 k C lC = tabulate-ext 16 (λ r. turned (getD (pairsWords s k) (8 * r + C) 0) 8) (rowWord (pairsPlace s k C)) row
+  where
+    s : List ℕ
+    s = pairsOf pairs0 pairs1 (encoderIn k)
+
+    twice : (x : ℕ) → x % 2 % 2 ≡ x % 2
+    twice x = omega arith
+
+    row : (r : ℕ) → r < 16 → turned (getD (pairsWords s k) (8 * r + C) 0) 8 ≡ rowWord (pairsPlace s k C) r
+    row r lr =
+        ap (λ z. turned z 8)
+        (getD-tabulate 128 (pairsWord s k) (8 * r + C) (omega arith)
+        ∙ ap₂ (λ x y. fromBits 16 (λ c. pairsPlace s k x y ((c + 8) % 16))) (word-block r C lC) (word-number r C lC))
+        ∙ fromBits-ext 16 (λ c. bitOf 16 (fromBits 16 (λ d. pairsPlace s k C r ((d + 8) % 16))) ((c + 8) % 16)) (pairsPlace s k C r)
+        (λ c lc.
+        let n : ((c + 8) % 16 + 8) % 16 ≡ c = omega arith in
+        ap (λ z. z % 2)
+        (bitOf-fromBits 16 (λ d. pairsPlace s k C r ((d + 8) % 16)) ((c + 8) % 16) (omega arith) ∙ ap (λ d. pairsPlace s k C r d % 2) n)
+        ∙ twice (pairsPlace s k C r c))
+
+pub reordered-in : (words : List ℕ) (C : ℕ) (b r : List ℕ) → b ≡ wordsBlock words C → r ≡ transposed (reordered b) → r ≡ reorderedIn words C
+unfolding reorderedIn
+reordered-in words C b r p q = q ∙ ap (λ s. transposed (reordered s)) p
+
+pub reordered-words : (pairs0 pairs1 : List ℕ) (k : ℕ) (words row : List ℕ) → words ≡ sentWords pairs0 pairs1 (record { 0 = k })
+    → row ≡ laid (reorderedIn words) → row ≡ reorderedRow pairs0 pairs1 k
+unfolding reorderedRow laid laidWord reorderedIn reorderedBlock
+reordered-words pairs0 pairs1 k words row p q =
+    q ∙ ap (λ w. laid (reorderedIn w)) p
+    ∙ tabulate-ext 128 (laidWord (reorderedIn (sentWords pairs0 pairs1 (record { 0 = k })))) (laidWord (reorderedBlock pairs0 pairs1 (record { 0 = k })))
+    (λ x l. ap (λ b. getD (transposed (reordered b)) (x / 8) 0) (block-words pairs0 pairs1 (record { 0 = k }) (x % 8) (omega arith)))
 
 -- Byte y of the eight of a column in which block row x of each subset stands: half y div 4 of a word of subset y mod 4.
 pub eight-byte : (rows : List (List ℕ)) (column x y : ℕ) (k : BlockRow) (w : ℕ) → k ≡ blockRowOf (y % 4) (record { 0 = 16 * x })

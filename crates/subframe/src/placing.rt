@@ -3,95 +3,31 @@ use crate::layout::edge;
 use crate::layout::first_whole;
 use crate::layout::gap;
 ghost use mathlib.Core.Path.{_≡_};
-ghost use Prim.Native.Nat.{_+_, _*_, _/_, _%_, _<_, _≤_};
+ghost use Prim.Native.Nat.{_+_, _*_, _<_, _≤_};
 ghost use lib.ListN.{length, getD};
 ghost use Rattle.bits.specs.Lists.{tabulate};
-ghost use Rattle.frames.specs.Frames.{overheadCells, payloadCells, frameByte, framed, unframed};
+ghost use Rattle.frames.specs.Frames.{overheadCells, payloadCells, framed, unframed};
 ghost use Rattle.frames.specs.Layout.{edge};
-ghost use Rattle.frames.specs.RunLaws.{groupAt, Runs};
+ghost use Rattle.frames.specs.RunLaws.{groupAt, Groups, Runs};
 
-// Byte h of cell m of a sub-frame.
-fn frame_byte(number: u32, payload: &[u8], own: &[u8], m: usize, h: usize) -> u8
-    requires { ⌜ (length (now payload) ≡ payloadCells number * 2) × (length (now own) ≡ overheadCells number * 2) × (m < 3712) × (h < 2) ⌝ }
-    ensures { λ r. ⌜ r ≡ frameByte number (now (payload .entry)) (now (own .entry)) m h ⌝ }
+// Copies n bytes, from a byte on.
+fn copy(from: &[u8], at: usize, n: usize, to: &mut [u8])
+    requires { ⌜ (at + n ≤ length (now from)) × (length (now to) ≡ n) ⌝ }
+    ensures { λ _. ⌜ now (to .exit) ≡ tabulate n (λ k. getD (now (from .entry)) (at + k) 0) ⌝ }
 {
-    if m < edge(number) {
-        return own[m * 2 + h];
-    }
-    if m % 32 == 0 {
-        return own[(m / 32 + gap(number)) * 2 + h];
-    }
-    payload[(m - (m / 32 + 1 + gap(number))) * 2 + h]
-}
-
-// Group i of a sub-frame byte by byte, for those that reach below the edge.
-fn edge_group(number: u32, payload: &[u8], own: &[u8], i: usize, group: &mut [u8])
-    requires { ⌜ (length (now payload) ≡ payloadCells number * 2) × (length (now own) ≡ overheadCells number * 2) × (i < 116) × (length (now group) ≡ 64) ⌝ }
-    ensures { λ _. ⌜ now (group .exit) ≡ tabulate 64 (groupAt number (now (payload .entry)) (now (own .entry)) i) ⌝ }
-{
-    for k in 0..64 {
-        group[k] = frame_byte(number, payload, own, i * 32 + k / 2, k % 2);
+    for k in 0..n {
+        to[k] = from[at + k];
     }
 }
 
-// Group i past the edge: a pilot and a run of 31 payload cells.
-fn whole_group(number: u32, payload: &[u8], own: &[u8], i: usize) -> [u8; 64]
-    requires { ⌜ (length (now payload) ≡ payloadCells number * 2) × (length (now own) ≡ overheadCells number * 2) × (i < 116) × (edge number ≤ i * 32) ⌝ }
-    ensures { λ r. ⌜ r ≡ tabulate 64 (groupAt number (now (payload .entry)) (now (own .entry)) i) ⌝ }
-{
-    let g = gap(number);
-    let pilot = (i + g) * 2;
-    let from = i * 62 - (g + 1) * 2;
-    let mut group = [0u8; 64];
-    group[0] = own[pilot];
-    group[1] = own[pilot + 1];
-    for k in 2..64 {
-        group[k] = payload[from + k];
-    }
-    group
-}
-
-fn put_group(group: [u8; 64], to: &mut [u8])
-    requires { ⌜ length (now to) ≡ 64 ⌝ }
-    ensures { λ _. ⌜ now (to .exit) ≡ tabulate 64 (λ k. getD group k 0) ⌝ }
-{
-    for k in 0..64 {
-        to[k] = group[k];
-    }
-}
-
-// Group i.
-fn place_group(number: u32, payload: &[u8], own: &[u8], i: usize, group: &mut [u8])
-    requires { ⌜ (length (now payload) ≡ payloadCells number * 2) × (length (now own) ≡ overheadCells number * 2) × (i < 116) × (length (now group) ≡ 64) ⌝ }
-    ensures { λ _. ⌜ now (group .exit) ≡ tabulate 64 (groupAt number (now (payload .entry)) (now (own .entry)) i) ⌝ }
-{
-    if i * 32 < edge(number) {
-        edge_group(number, payload, own, i, group);
-        return;
-    }
-    put_group(whole_group(number, payload, own, i), group);
-}
-
-// Places payload and overhead, 116 groups of 32 cells.
-pub fn place(number: u32, payload: &[u8], own: &[u8], frame: &mut [u8])
-    requires { ⌜ (length (now payload) ≡ payloadCells number * 2) × (length (now own) ≡ overheadCells number * 2) × (length (now frame) ≡ 7424) ⌝ }
-    ensures { λ _. ⌜ now (frame .exit) ≡ framed number (now (payload .entry)) (now (own .entry)) ⌝ }
-{
-    for i in 0..116 {
-        let a = i * 64;
-        let e = a + 64;
-        place_group(number, payload, own, i, &mut frame[a..e]);
-    }
-}
-
-// A run of 31 cells.
-fn run_of(frame: &[u8], at: usize) -> [u8; 62]
-    requires { ⌜ at + 62 ≤ length (now frame) ⌝ }
-    ensures { λ r. ⌜ r ≡ tabulate 62 (λ k. getD (now (frame .entry)) (at + k) 0) ⌝ }
+// A run of 31 cells, from a byte on.
+fn run_of(from: &[u8], at: usize) -> [u8; 62]
+    requires { ⌜ at + 62 ≤ length (now from) ⌝ }
+    ensures { λ r. ⌜ r ≡ tabulate 62 (λ k. getD (now (from .entry)) (at + k) 0) ⌝ }
 {
     let mut run = [0u8; 62];
     for k in 0..62 {
-        run[k] = frame[at + k];
+        run[k] = from[at + k];
     }
     run
 }
@@ -105,26 +41,82 @@ fn put_run(run: [u8; 62], to: &mut [u8])
     }
 }
 
-// Takes a run out.
-fn extract_run(frame: &[u8], at: usize, to: &mut [u8])
-    requires { ⌜ (at + 62 ≤ length (now frame)) × (length (now to) ≡ 62) ⌝ }
-    ensures { λ _. ⌜ now (to .exit) ≡ tabulate 62 (λ k. getD (now (frame .entry)) (at + k) 0) ⌝ }
+// Copies a run; by way of an array, since the compiler cannot know that the two buffers are apart.
+fn copy_run(from: &[u8], at: usize, to: &mut [u8])
+    requires { ⌜ (at + 62 ≤ length (now from)) × (length (now to) ≡ 62) ⌝ }
+    ensures { λ _. ⌜ now (to .exit) ≡ tabulate 62 (λ k. getD (now (from .entry)) (at + k) 0) ⌝ }
 {
-    put_run(run_of(frame, at), to);
+    put_run(run_of(from, at), to);
 }
 
-// Takes out the payload before the first whole run, and gives the group of that.
+// Places what stands before the first whole group, overhead up to the edge and payload from there on, and gives that group.
+fn place_rest(number: u32, payload: &[u8], own: &[u8], frame: &mut [u8]) -> usize
+    requires { ⌜ (length (now payload) ≡ payloadCells number * 2) × (length (now own) ≡ overheadCells number * 2) × (length (now frame) ≡ 7424) ⌝ }
+    ensures { λ r. ⌜ Groups number (now (payload .entry)) (now (own .entry)) r (now (frame .exit)) ⌝ }
+{
+    let w = first_whole(number);
+    let e = edge(number) * 2;
+    let a = w * 64;
+    copy(own, 0, e, &mut frame[0..e]);
+    copy(payload, 0, a - e, &mut frame[e..a]);
+    w
+}
+
+// 64 bytes, from a byte on.
+fn group_of(from: &[u8], at: usize) -> [u8; 64]
+    requires { ⌜ at + 64 ≤ length (now from) ⌝ }
+    ensures { λ r. ⌜ r ≡ tabulate 64 (λ k. getD (now (from .entry)) (at + k) 0) ⌝ }
+{
+    let mut group = [0u8; 64];
+    for k in 0..64 {
+        group[k] = from[at + k];
+    }
+    group
+}
+
+fn put_group(group: [u8; 64], to: &mut [u8])
+    requires { ⌜ length (now to) ≡ 64 ⌝ }
+    ensures { λ _. ⌜ now (to .exit) ≡ tabulate 64 (λ k. getD group k 0) ⌝ }
+{
+    for k in 0..64 {
+        to[k] = group[k];
+    }
+}
+
+// Group i past the edge: a run of 31 payload cells with the cell before it, which is whole vectors, and a pilot in that cell's place.
+fn place_group(number: u32, payload: &[u8], own: &[u8], i: usize, group: &mut [u8])
+    requires { ⌜ (length (now payload) ≡ payloadCells number * 2) × (length (now own) ≡ overheadCells number * 2) × (i < 116) × (edge number ≤ i * 32) × (length (now group) ≡ 64) ⌝ }
+    ensures { λ _. ⌜ now (group .exit) ≡ tabulate 64 (groupAt number (now (payload .entry)) (now (own .entry)) i) ⌝ }
+{
+    let g = gap(number);
+    let pilot = (i + g) * 2;
+    put_group(group_of(payload, i * 62 - (g + 1) * 2), group);
+    group[0] = own[pilot];
+    group[1] = own[pilot + 1];
+}
+
+// Places payload and overhead, group by group.
+pub fn place(number: u32, payload: &[u8], own: &[u8], frame: &mut [u8])
+    requires { ⌜ (length (now payload) ≡ payloadCells number * 2) × (length (now own) ≡ overheadCells number * 2) × (length (now frame) ≡ 7424) ⌝ }
+    ensures { λ _. ⌜ now (frame .exit) ≡ framed number (now (payload .entry)) (now (own .entry)) ⌝ }
+{
+    let w = place_rest(number, payload, own, frame);
+    for i in w..116 {
+        let a = i * 64;
+        let e = a + 64;
+        place_group(number, payload, own, i, &mut frame[a..e]);
+    }
+}
+
+// Takes out the payload before the first whole group, and gives that group.
 fn extract_rest(number: u32, frame: &[u8], payload: &mut [u8]) -> usize
     requires { ⌜ (length (now frame) ≡ 7424) × (length (now payload) ≡ payloadCells number * 2) ⌝ }
     ensures { λ r. ⌜ Runs number (now (frame .entry)) r (now (payload .exit)) ⌝ }
 {
-    let e = edge(number);
-    let g = gap(number);
     let w = first_whole(number);
-    let rest = w * 62 - g * 2;
-    for j in 0..rest {
-        payload[j] = frame[e * 2 + j];
-    }
+    let e = edge(number) * 2;
+    let rest = w * 64 - e;
+    copy(frame, e, rest, &mut payload[0..rest]);
     w
 }
 
@@ -138,6 +130,6 @@ pub fn extract(number: u32, frame: &[u8], payload: &mut [u8])
     for i in w..116 {
         let a = i * 62 - g * 2;
         let e = a + 62;
-        extract_run(frame, i * 64 + 2, &mut payload[a..e]);
+        copy_run(frame, i * 64 + 2, &mut payload[a..e]);
     }
 }

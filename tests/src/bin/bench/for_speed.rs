@@ -3,4 +3,6 @@
 // Rows and columns are numbers.
 #![allow(clippy::needless_range_loop)]
 
+pub mod cells;
+pub mod frames;
 pub mod interleaver;

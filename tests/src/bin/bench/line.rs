@@ -9,8 +9,8 @@ use ofec_tests::outcome::Outcome;
 use ofec_tests::random::Random;
 
 use crate::for_speed::interleaver::{by_rows, packed};
-use crate::same_structure;
-use crate::table::{for_speed, head_for_speed, three, two};
+use crate::{for_speed as fast, same_structure};
+use crate::table::{for_speed, head_for_speed, three};
 
 pub fn run(random: &mut Random) {
     let pairs = [0; 2].map(|_| random.bytes(PAIRS_BYTES));
@@ -31,36 +31,40 @@ pub fn run(random: &mut Random) {
         |[pairs0, pairs1]| done(same_structure::deinterleave(&bits, pairs0, pairs1)),
     );
 
-    two(
+    three(
         "bits to cells, a buffer",
         vec![0; CELLS_BYTES],
         |cells| done(capi::bits_to_cells(&bits, cells)),
         |cells| done(cells::bits_to_cells(&bits, cells)),
+        |cells| done(same_structure::bits_to_cells(&bits, cells)),
     );
 
     let cells = random.cells(CELLS_BYTES);
-    two(
+    three(
         "cells to bits, a buffer",
         vec![0; BUFFER_BYTES],
         |bits| done(capi::cells_to_bits(&cells, bits)),
         |bits| done(cells::cells_to_bits(&cells, bits)),
+        |bits| done(same_structure::cells_to_bits(&cells, bits)),
     );
 
     let overhead = random.cells(OVERHEAD_BYTES);
     let payload = random.cells(8 * CELLS_BYTES);
-    two(
+    three(
         "frame a super-frame",
         vec![0; SUBFRAMES as usize * FRAME_BYTES],
         |frames| frame_all(LIBRARY.frame, &payload, &overhead, frames),
         |frames| frame_all(frames::frame, &payload, &overhead, frames),
+        |frames| frame_all(same_structure::frame, &payload, &overhead, frames),
     );
 
     let received = random.cells(SUBFRAMES as usize * FRAME_BYTES);
-    two(
+    three(
         "unframe a super-frame",
-        vec![0; 8 * CELLS_BYTES],
-        |payload| unframe_all(LIBRARY.unframe, &received, &overhead, payload),
-        |payload| unframe_all(frames::unframe, &received, &overhead, payload),
+        (vec![0; 8 * CELLS_BYTES], 0),
+        |out| unframe_all(LIBRARY.unframe, &received, &overhead, out),
+        |out| unframe_all(frames::unframe, &received, &overhead, out),
+        |out| unframe_all(same_structure::unframe, &received, &overhead, out),
     );
 }
 
@@ -92,6 +96,50 @@ pub fn beside_speed(random: &mut Random) {
             &|[pairs0, pairs1]| packed::deinterleave(bits, sized_mut(pairs0), sized_mut(pairs1)),
         ],
     );
+
+    for_speed(
+        "bits to cells, a buffer",
+        vec![0; CELLS_BYTES],
+        [
+            &|cells| done(capi::bits_to_cells(bits, cells)),
+            &|cells| done(same_structure::bits_to_cells(bits, cells)),
+            &|cells| done(fast::cells::bits_to_cells(bits, cells)),
+        ],
+    );
+
+    let cells = random.cells(CELLS_BYTES);
+    for_speed(
+        "cells to bits, a buffer",
+        vec![0; BUFFER_BYTES],
+        [
+            &|bits| done(capi::cells_to_bits(&cells, bits)),
+            &|bits| done(same_structure::cells_to_bits(&cells, bits)),
+            &|bits| done(fast::cells::cells_to_bits(&cells, bits)),
+        ],
+    );
+
+    let overhead = random.cells(OVERHEAD_BYTES);
+    let payload = random.cells(8 * CELLS_BYTES);
+    for_speed(
+        "frame a super-frame",
+        vec![0; SUBFRAMES as usize * FRAME_BYTES],
+        [
+            &|frames| frame_all(LIBRARY.frame, &payload, &overhead, frames),
+            &|frames| frame_all(same_structure::frame, &payload, &overhead, frames),
+            &|frames| frame_all(fast::frames::frame, &payload, &overhead, frames),
+        ],
+    );
+
+    let received = random.cells(SUBFRAMES as usize * FRAME_BYTES);
+    for_speed(
+        "unframe a super-frame",
+        (vec![0; 8 * CELLS_BYTES], 0),
+        [
+            &|out| unframe_all(LIBRARY.unframe, &received, &overhead, out),
+            &|out| unframe_all(same_structure::unframe, &received, &overhead, out),
+            &|out| unframe_all(fast::frames::unframe, &received, &overhead, out),
+        ],
+    );
 }
 
 fn sized<const N: usize>(bytes: &[u8]) -> &[u8; N] {
@@ -114,10 +162,16 @@ fn frame_all(frame: Framing, mut payload: &[u8], overhead: &[u8], frames: &mut [
     }
 }
 
-fn unframe_all(unframe: Framing, frames: &[u8], overhead: &[u8], mut payload: &mut [u8]) {
+/// The payload of a super-frame, and how many of its overhead cells differ.
+fn unframe_all(unframe: Framing, frames: &[u8], overhead: &[u8], out: &mut (Vec<u8>, u32)) {
+    let (payload, differing) = out;
+    let mut payload = &mut payload[..];
+    *differing = 0;
     for (number, frame) in (0..).zip(frames.chunks(FRAME_BYTES)) {
         let own;
         (own, payload) = payload.split_at_mut(payload_bytes(number));
-        done(unframe(number, frame, overhead, own));
+        let answer = unframe(number, frame, overhead, own);
+        assert_eq!(answer.refusal, 0);
+        *differing += answer.value;
     }
 }

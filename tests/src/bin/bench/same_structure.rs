@@ -1,6 +1,6 @@
 //! The library's functions once more, in plain Rust with the same loops: what is left between the two
 //! when the structure is the same. It follows crates/codec, pairs, layout, checkword, gf256, interleaver,
-//! blockrows and blocks function by function, and changes with them.
+//! blockrows, blocks, symbols, mapper, framing and subframe function by function, and changes with them.
 //!
 //! Lengths of buffers that contracts of the library require are in the types here, and no call is inlined
 //! into the code that times it.
@@ -12,12 +12,14 @@
     clippy::assign_op_pattern
 )]
 
-use ofec_tests::outcome::{Outcome, COUNT_SPENT, MISFIT};
+use ofec_tests::outcome::{Outcome, COUNT_SPENT, MISFIT, NO_SUCH_FRAME};
 
 mod blocks;
 mod checkword;
 mod layout;
+mod mapper;
 mod pairs;
+mod subframe;
 
 /// Bit i of a buffer.
 fn bit(s: &[u8], i: usize) -> u8 {
@@ -88,4 +90,78 @@ pub fn deinterleave(bits: &[u8], pairs0: &mut [u8], pairs1: &mut [u8]) -> Outcom
     blocks::write_pairs(&rows, 0, pairs0);
     blocks::write_pairs(&rows, 1, pairs1);
     Outcome::accepted(0)
+}
+
+#[inline(never)]
+pub fn bits_to_cells(bits: &[u8], cells: &mut [u8]) -> Outcome {
+    let (Ok(bits), Ok(cells)) = (bits.try_into(), cells.try_into()) else {
+        return Outcome::refused(MISFIT);
+    };
+    mapper::map(bits, cells);
+    Outcome::accepted(0)
+}
+
+#[inline(never)]
+pub fn cells_to_bits(cells: &[u8], bits: &mut [u8]) -> Outcome {
+    let (Ok(whole), Ok(bits)) = (cells.try_into(), bits.try_into()) else {
+        return Outcome::refused(MISFIT);
+    };
+    let at = mapper::first_illegal(cells);
+    if at < cells.len() {
+        return Outcome::off_grid(at);
+    }
+    mapper::demap(whole, bits);
+    Outcome::accepted(0)
+}
+
+/// What framing and unframing test first.
+fn judge(number: u32, overhead: &[u8], frame: &[u8], payload: &[u8]) -> Outcome {
+    if overhead.len() != 12288 {
+        return Outcome::refused(MISFIT);
+    }
+    if frame.len() != 7424 {
+        return Outcome::refused(MISFIT);
+    }
+    if 47 < number {
+        return Outcome::refused(NO_SUCH_FRAME);
+    }
+    if payload.len() != subframe::payload_cells(number) * 2 {
+        return Outcome::refused(MISFIT);
+    }
+    let own = subframe::own_overhead(number, overhead);
+    let at = mapper::first_illegal(own);
+    if at < own.len() {
+        return Outcome::off_grid(subframe::overhead_start(number) * 2 + at);
+    }
+    Outcome::accepted(0)
+}
+
+#[inline(never)]
+pub fn frame(number: u32, payload: &[u8], overhead: &[u8], frame: &mut [u8]) -> Outcome {
+    let judged = judge(number, overhead, frame, payload);
+    if judged.refusal != 0 {
+        return judged;
+    }
+    let to = mapper::first_illegal(payload);
+    if to < payload.len() {
+        return Outcome::off_grid(to);
+    }
+    let own = subframe::own_overhead(number, overhead);
+    subframe::place(number, payload, own, frame);
+    Outcome::accepted(0)
+}
+
+#[inline(never)]
+pub fn unframe(number: u32, frame: &[u8], overhead: &[u8], payload: &mut [u8]) -> Outcome {
+    let judged = judge(number, overhead, frame, payload);
+    if judged.refusal != 0 {
+        return judged;
+    }
+    let to = mapper::first_illegal(frame);
+    if to < frame.len() {
+        return Outcome::off_grid(to);
+    }
+    subframe::extract(number, frame, payload);
+    let own = subframe::own_overhead(number, overhead);
+    Outcome::accepted(subframe::differing(number, frame, own))
 }

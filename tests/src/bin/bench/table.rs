@@ -83,18 +83,22 @@ fn agreed<T: Clone + PartialEq, const N: usize>(
 /// The head of the table of short works beside Rust code of the library's structure and Rust code written for speed.
 pub fn head_for_speed() {
     println!("\nBeside Rust code written for speed; medians of {SHORT_ROUNDS} runs, which take turns; a ratio is the library's time to that of the column before.\n");
-    println!("| work | library | same structure | ratio | by rows | ratio | packed | ratio |");
+    println!("| work | library | same structure | ratio | for speed | ratio | packed | ratio |");
     println!("|---|---:|---:|---:|---:|---:|---:|---:|");
 }
 
-/// The row of a work, by the library and then the others in the order of that table.
-pub fn for_speed<T: Clone + PartialEq>(name: &str, out: T, works: [&dyn Fn(&mut T); 4]) {
-    let ([library, others @ ..], _) = agreed(name, SHORT_ROUNDS, out, works);
-    print!("| {name} | {} ", microseconds(library));
-    for other in others {
-        print!("| {} | {:.2} ", microseconds(other), ratio(library, other));
+/// The row of a work, by the library, by the same structure and then by the one or two forms written for speed.
+pub fn for_speed<T: Clone + PartialEq, const N: usize>(
+    name: &str,
+    out: T,
+    works: [&dyn Fn(&mut T); N],
+) {
+    let (times, _) = agreed(name, SHORT_ROUNDS, out, works);
+    print!("| {name} | {} ", microseconds(times[0]));
+    for other in &times[1..] {
+        print!("| {} | {:.2} ", microseconds(*other), ratio(times[0], *other));
     }
-    println!("|");
+    println!("|{}", " | |".repeat(4 - N));
 }
 
 fn compared(library: Duration, apart: Duration) -> String {

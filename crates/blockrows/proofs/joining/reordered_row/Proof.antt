@@ -1,23 +1,22 @@
 -- `blockrows::joining::reordered_row` meets its contract: block after block is laid in.
 -- Assumes nothing.
 use Prim.Native.Nat.{_-_}
-use Rattle.interleaving.specs.BlockBuffer.{reorderedBlock, reorderedRow}
-use Rattle.interleaving.specs.BlockBufferLaws.{reordered-block}
+use Rattle.interleaving.specs.BlockBuffer.{reorderedIn}
+use Rattle.interleaving.specs.BlockBufferLaws.{reordered-in}
 use Rattle.interleaving.specs.Laying.{Laid, laying}
 use borrow.Author.Needs.{needs}
 use Rattle.blockrows.proofs.joining.reordered_row.Statement.{statement}
 use Rattle.blockrows.proofs.joining.reordered_row.Tie as tie
 
-ruleset kit = (needs, laying, reordered-block)
+ruleset kit = (needs, laying, reordered-in)
 
 abbrev Inv-loop : tie.InvT-loop
-Inv-loop pairs0 pairs1 k row₀ block₀ row block = Laid (reorderedBlock pairs0 pairs1 k) block row
+Inv-loop words row₀ block₀ row block = Laid (reorderedIn words) block row
 
 abbrev μ-loop : tie.MeasureT-loop
-μ-loop pairs0 pairs1 k row₀ block₀ row block = 8 - block
+μ-loop words row₀ block₀ row block = 8 - block
 
 pub reordered-row-spec : {M : Type 1} → statement M
-unfolding reorderedRow
 reordered-row-spec =
     tie.close
     (tie.spec
@@ -25,7 +24,7 @@ reordered-row-spec =
     μ-loop
     (λ c. search kit)  -- loop-holds
     (λ c. search kit)  -- slice-aggregate-lay
-    (λ c κs. search kit)  -- sent-block-requires
+    (λ c κs. search kit)  -- block-in-requires
     (λ c κs. search kit)  -- reorder-requires
     (λ c κs. search kit)  -- lay-requires
     (λ c. search kit)  -- add-block

@@ -2,12 +2,13 @@
 -- Assumes nothing.
 use Prim.Native.Nat.{_-_}
 use Rattle.interleaving.specs.BlockBuffer.{reorderedRow}
+use Rattle.interleaving.specs.BlockBufferLaws.{reordered-words}
 use Rattle.interleaving.specs.Laying.{Held, hold}
 use borrow.Author.Needs.{needs}
 use Rattle.blockrows.proofs.joining.reordered_rows.Statement.{statement}
 use Rattle.blockrows.proofs.joining.reordered_rows.Tie as tie
 
-ruleset kit = (needs, hold)
+ruleset kit = (needs, hold, reordered-words)
 
 abbrev Inv-loop : tie.InvT-loop
 Inv-loop pairs0 pairs1 rows₀ k₀ rows k = Held (reorderedRow pairs0 pairs1) k rows
@@ -22,6 +23,7 @@ reordered-rows-spec =
     Inv-loop
     μ-loop
     (λ c. search kit)  -- loop-holds
+    (λ c κs. search kit)  -- sent-words-requires
     (λ c κs. search kit)  -- reordered-row-requires
     (λ c. search kit)  -- mul-rows
     (λ c. search kit)  -- array-set-from-rows

@@ -27,12 +27,12 @@ extract-spec =
     (λ c. search kit)  -- mul-a-2
     (λ c. search kit)  -- sub-a
     (λ c. search kit)  -- add-e
-    (λ c. search kit)  -- mul-extract-run
-    (λ c. search kit)  -- add-extract-run
-    (λ c. search kit)  -- sub-extract-run
-    (λ c. search kit)  -- part-extract-run-start
-    (λ c. search kit)  -- part-extract-run-end
-    (λ c κs. search kit)  -- extract-run-requires
+    (λ c. search kit)  -- mul-copy-run
+    (λ c. search kit)  -- add-copy-run
+    (λ c. search kit)  -- sub-copy-run
+    (λ c. search kit)  -- part-copy-run-start
+    (λ c. search kit)  -- part-copy-run-end
+    (λ c κs. search kit)  -- copy-run-requires
     (λ c. search kit)  -- add-i
     (λ c. search kit)  -- loop-less
     (λ c. search kit)  -- loop-again

@@ -1,27 +1,26 @@
 -- `subframe::placing::place` meets its contract: the groups are put one after the other.
 -- Assumes nothing.
 use Prim.Native.Nat.{_-_}
-use Rattle.bits.specs.Filling.{Blocks, by-blocks}
-use Rattle.frames.specs.Frames.{frameAt, framed}
+use Rattle.frames.specs.RunLaws.{Groups, by-framing}
 use borrow.Author.Needs.{needs}
 use Rattle.subframe.proofs.placing.place.Statement.{statement}
 use Rattle.subframe.proofs.placing.place.Tie as tie
 
-ruleset kit = (needs, by-blocks)
+ruleset kit = (needs, by-framing)
 
 abbrev Inv-loop : tie.InvT-loop
-Inv-loop number payload own frame₀ i₀ frame i = Blocks (frameAt number payload own) 64 116 i frame
+Inv-loop number payload own frame₀ w i₀ frame i = Groups number payload own i frame
 
 abbrev μ-loop : tie.MeasureT-loop
-μ-loop number payload own frame₀ i₀ frame i = 116 - i
+μ-loop number payload own frame₀ w i₀ frame i = 116 - i
 
 pub place-spec : {M : Type 1} → statement M
-unfolding framed
 place-spec =
     tie.close
     (tie.spec
     Inv-loop
     μ-loop
+    (λ c κs. search kit)  -- place-rest-requires
     (λ c. search kit)  -- loop-holds
     (λ c. search kit)  -- mul-a
     (λ c. search kit)  -- add-e

@@ -10,10 +10,10 @@ use Rattle.subframe.proofs.placing.run_of.Tie as tie
 ruleset kit = (needs, fill)
 
 abbrev Inv-loop : tie.InvT-loop
-Inv-loop frame at run₀ k₀ run k = Filling (λ n. getD frame (at + n) 0) 62 k run
+Inv-loop from at run₀ k₀ run k = Filling (λ n. getD from (at + n) 0) 62 k run
 
 abbrev μ-loop : tie.MeasureT-loop
-μ-loop frame at run₀ k₀ run k = 62 - k
+μ-loop from at run₀ k₀ run k = 62 - k
 
 pub run-of-spec : {M : Type 1} → statement M
 run-of-spec =

@@ -56,30 +56,34 @@ fn lay(row: &mut BlockRow, block: usize, b: Block) {
     }
 }
 
-fn pairs_block(pairs: &[u8; 10752], block_row: usize, block: usize) -> Block {
+fn pairs_words(pairs: &[u8; 10752], block_row: usize) -> BlockRow {
+    let mut words = [0; 128];
+    for x in 0..128 {
+        let at = 256 * (block_row / 2) + 2 * x;
+        words[x] = (usize::from(pairs[at + 1]) * 256 + usize::from(pairs[at])) as u16;
+    }
+    words
+}
+
+fn sent_words(pairs0: &[u8; 10752], pairs1: &[u8; 10752], block_row: usize) -> BlockRow {
+    if block_row.is_multiple_of(2) {
+        return pairs_words(pairs0, block_row);
+    }
+    pairs_words(pairs1, block_row)
+}
+
+fn block_in(words: &BlockRow, block: usize) -> Block {
     let mut b = [0; 16];
     for r in 0..16 {
-        let at = 256 * (block_row / 2) + 16 * r + 2 * block;
-        b[r] = (usize::from(pairs[at]) * 256 + usize::from(pairs[at + 1])) as u16;
+        b[r] = turn(words[8 * r + block], 8);
     }
     b
 }
 
-fn sent_block(pairs0: &[u8; 10752], pairs1: &[u8; 10752], block_row: usize, block: usize) -> Block {
-    if block_row.is_multiple_of(2) {
-        return pairs_block(pairs0, block_row, block);
-    }
-    pairs_block(pairs1, block_row, block)
-}
-
-fn reordered_row(pairs0: &[u8; 10752], pairs1: &[u8; 10752], block_row: usize) -> BlockRow {
+fn reordered_row(words: &BlockRow) -> BlockRow {
     let mut row = [0; 128];
     for block in 0..8 {
-        lay(
-            &mut row,
-            block,
-            reorder(sent_block(pairs0, pairs1, block_row, block)),
-        );
+        lay(&mut row, block, reorder(block_in(words, block)));
     }
     row
 }
@@ -87,7 +91,8 @@ fn reordered_row(pairs0: &[u8; 10752], pairs1: &[u8; 10752], block_row: usize) -
 pub fn reordered_rows(pairs0: &[u8; 10752], pairs1: &[u8; 10752]) -> [BlockRow; 84] {
     let mut rows = [[0; 128]; 84];
     for k in 0..84 {
-        rows[k] = reordered_row(pairs0, pairs1, k);
+        let words = sent_words(pairs0, pairs1, k);
+        rows[k] = reordered_row(&words);
     }
     rows
 }

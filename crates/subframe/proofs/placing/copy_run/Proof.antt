@@ -1,14 +1,14 @@
--- `subframe::placing::extract_run` meets its contract: what is put is what was read.
+-- `subframe::placing::copy_run` meets its contract: what is put is what was read.
 -- Assumes nothing.
 use Rattle.frames.specs.RunLaws.{copied}
 use borrow.Author.Needs.{needs}
-use Rattle.subframe.proofs.placing.extract_run.Statement.{statement}
-use Rattle.subframe.proofs.placing.extract_run.Tie as tie
+use Rattle.subframe.proofs.placing.copy_run.Statement.{statement}
+use Rattle.subframe.proofs.placing.copy_run.Tie as tie
 
 ruleset kit = (needs, copied)
 
-pub extract-run-spec : {M : Type 1} → statement M
-extract-run-spec =
+pub copy-run-spec : {M : Type 1} → statement M
+copy-run-spec =
     tie.close
     (tie.spec
     (λ c κs. search kit)  -- run-of-requires
