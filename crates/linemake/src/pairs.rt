@@ -16,7 +16,7 @@ fn read_next(file: i32, payload: &mut [u8; 74592]) -> bool {
 fn encode_all(payload: &[u8; 74592], first: u32, history: &mut [u8; 5120], coded: &mut [u8; 86016])
     requires { ⌜ first < 65536 ⌝ }
 {
-    superframe::pairs::encode(168, payload, first, history, coded);
+    stream::encode(168, payload, first, history, coded);
 }
 
 // The coded pairs of the next super-frame of one encoder: 0, or the refusal.

@@ -16,7 +16,7 @@ use Rattle.bits.specs.ListLaws.{length-tabulate, getD-tabulate}
 use Rattle.bits.specs.Parts.{byteOfEach, endToEnd}
 use Rattle.bits.specs.PartLaws.{each-block}
 use Rattle.cells.specs.Cells.{overheadRule, Legal}
-use Rattle.superframes.specs.Stream.{Gives, Coder, givenOver, historyOver}
+use Rattle.ofec.specs.Stream.{Gives, Coder, givenOver, historyOver}
 use Rattle.loopback.specs.Random.{stateAt, drawn, pairPayload, payloadIn}
 
 -- The first i of n bytes are drawn.

@@ -99,7 +99,7 @@ fn receive_next(
     let e = a + 5632;
     let mut out = [0u8; 444];
     let mut marks = [0u8; 32];
-    superframe::pairs::receive(1, &got[m..e], k as u32, history, &mut out, &mut marks);
+    stream::receive(1, &got[m..e], k as u32, history, &mut out, &mut marks);
     compare(
         encoder,
         k as u32,

@@ -6,7 +6,7 @@ use crate::refusing::refuse_encodings;
 ghost use mathlib.Core.Path.{_≡_};
 ghost use Prim.Native.Nat.{_*_, _<_};
 ghost use lib.ListN.{length};
-ghost use Rattle.superframes.specs.Stream.{encoder as encoderOf, codedOf, historyOver};
+ghost use Rattle.ofec.specs.Stream.{encoder as encoderOf, codedOf, historyOver};
 ghost use Rattle.loopback.specs.Random.{payloadIn};
 
 // The payload of an encoder in a super-frame.
@@ -36,7 +36,7 @@ fn encode_next(encoder: u32, q: u32, history: &mut [u8], coded: &mut [u8], count
     let mut payload = blank();
     draw(encoder, q, &mut payload);
     refuse_encodings(history, counts);
-    superframe::pairs::encode(168, &payload, q * 168, history, coded);
+    stream::encode(168, &payload, q * 168, history, coded);
     add(counts, 0, 168);
     add(counts, 1, 168);
 }

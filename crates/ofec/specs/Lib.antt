@@ -20,3 +20,6 @@ pub mod StateLaws
 pub mod ResultLaws
 pub mod Promise
 pub mod PromiseLaws
+pub mod Stream
+pub mod StreamLaws
+pub mod StreamRunLaws

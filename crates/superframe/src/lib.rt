@@ -1,7 +1,5 @@
-// Super-frames of the line: payload encoded (`pairs`), the coded pairs of both encoders made into frames, by the calls of interleaving,
-// cells and framing for every buffer and sub-frame; and the way back, from frames to coded pairs and from these to payload and marks.
-pub mod pairs;
-
+// Super-frames of the line: the coded pairs of both encoders made into frames, by the calls of interleaving, cells and framing for every
+// buffer and sub-frame; and the way back, from frames to coded pairs. `stream` has the step between payload and coded pairs.
 use calls::Answer;
 use calls::Refusal;
 use mapper::legal::first_illegal;

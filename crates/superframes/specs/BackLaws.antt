@@ -16,11 +16,9 @@ use Rattle.bits.specs.PartLaws.{partOf-length, partOf-at, endToEnd-length, endT
 use Rattle.calls.specs.declared.Answer.the-variants.{Done}
 use Rattle.calls.specs.Answers.{valueOr}
 use Rattle.calls.specs.Sequences.{At, Run, accepted}
-use Rattle.ofec.specs.History.{depth}
-use Rattle.ofec.specs.Receiving.{payloadOut, marks}
-use Rattle.ofec.specs.ReceivingLaws.{length-payloadOut, length-marks, receiverHistory}
-use Rattle.ofec.specs.Calls.{State, start, Received, Receiving, receive, Receivings}
-use Rattle.ofec.specs.PromiseLaws.{received-made}
+use Rattle.ofec.specs.Calls.{State, start, Receiving, receive, Receivings}
+use Rattle.ofec.specs.Stream.{receiver, historyAt, payloadsOf, marksOf, historyBefore}
+use Rattle.ofec.specs.StreamRunLaws.{stream-payload, stream-marks, stream-history}
 use Rattle.interleaving.specs.Interleaving.{apart}
 use Rattle.interleaving.specs.Calls.{parted}
 use Rattle.cells.specs.Profile.{Profile, cellsPerBuffer, buffersIn}
@@ -38,8 +36,6 @@ use Rattle.line.specs.InwardLaws.{unframing-is, pairs-is, length-received}
 use Rattle.superframes.specs.Apart.{takenByte, takenCells, bufferPairs, takenPairs, differingIn, differingAll, lineRule, takeApart}
 use Rattle.superframes.specs.ApartLaws.{apart-done}
 use Rattle.superframes.specs.LineLaws.{pairs}
-use Rattle.superframes.specs.Stream.{receiver, historyAt, givenAt, givenOver, payloadsOf, marksOf, historyBefore}
-use Rattle.superframes.specs.StreamLaws.{given-in, history-in}
 
 module _ (p : Profile) (n : ℕ) (h : Heard p n) where
   -- The frames of super-frame q, end to end, and the pairs received of an encoder.
@@ -183,45 +179,23 @@ module _ (p : Profile) (n : ℕ) (h : Heard p n) where
   pair-of e q k lq lk =
       part-endToEnd (pairs p) 512 (λ i. receivedPair p n h e (pairs p * q + i)) k (lit< tt) lk (length-received p n h e (pairs p * q + k))
 
-  -- A list of receiving calls from fresh, whose accepted calls take the pairs received in order.
+  -- A list of receiving calls from fresh, whose accepted calls take the pairs received in order: accepted call k of super-frame q gives pair
+  -- k's part of what the stream gives for it, from fresh on super-frame by super-frame, and leaves the stream's history.
   module _ (e : Side) (cs : List Receiving) {t : State} (run : Run Receivings start cs t)
-      (in-order : (P : ℕ) (c : Receiving) → At (accepted Receivings cs) P c → c .coded ≡ receivedPair p n h e P) where
+      (in-order : (P : ℕ) (c : Receiving) → At (accepted Receivings cs) P c → c .coded ≡ receivedPair p n h e P)
+      (q k : ℕ) (lq : q < n) (lk : k < pairs p) (c : Receiving) (a : At (accepted Receivings cs) (pairs p * q + k) c) where
     -- The history before super-frame q.
-    abbrev before : ℕ → List ℕ
-    before = historyBefore receiver (pairs p) (λ q. heardPairs q e)
+    abbrev before : List ℕ
+    before = historyBefore receiver (pairs p) (λ r. heardPairs r e) q
 
-    module _ (q k : ℕ) (lq : q < n) (lk : k < pairs p) (c : Receiving) (a : At (accepted Receivings cs) (pairs p * q + k) c) where
-      -- Accepted call k of super-frame q gives pair k's part of what `receive` gives for it, from fresh on super-frame by super-frame;
-      pub receive-payload : receive c .payload ≡ partOf 444 (payloadsOf (pairs p) (before q) (pairs p * q) (heardPairs q e)) k
-      unfolding givenOver receiverHistory
-      receive-payload =
-          ap (λ (x : Received). x .payload) (received-made cs (receivedPair p n h e) in-order run (pairs p * q + k) c a)
-          ∙ sym (part-endToEnd (pairs p) 444 (givenAt receiver (before q) (pairs p * q) (partOf 512 (heardPairs q e)) (payloadOut depth)) k (lit< tt) lk (ap length is ∙ length-payloadOut depth _ _ _) ∙ is)
-        where
-          is : givenAt receiver (before q) (pairs p * q) (partOf 512 (heardPairs q e)) (payloadOut depth) k
-              ≡ payloadOut depth (receiverHistory depth (receivedPair p n h e) (pairs p * q + k)) (pairs p * q + k) (receivedPair p n h e (pairs p * q + k))
-          is = given-in receiver (pairs p) n (receivedPair p n h e) (λ r. heardPairs r e) (pair-of e) (payloadOut depth) q k lq lk
+    pub receive-payload : receive c .payload ≡ partOf 444 (payloadsOf (pairs p) before (pairs p * q) (heardPairs q e)) k
+    receive-payload = stream-payload cs (receivedPair p n h e) in-order run (pairs p) n (λ r. heardPairs r e) (pair-of e) q k lq lk c a
 
-      pub receive-marks : receive c .marks ≡ partOf 32 (marksOf (pairs p) (before q) (pairs p * q) (heardPairs q e)) k
-      unfolding givenOver receiverHistory
-      receive-marks =
-          ap (λ (x : Received). x .marks) (received-made cs (receivedPair p n h e) in-order run (pairs p * q + k) c a)
-          ∙ sym (part-endToEnd (pairs p) 32 (givenAt receiver (before q) (pairs p * q) (partOf 512 (heardPairs q e)) (marks depth)) k (lit< tt) lk (ap length is ∙ length-marks depth _ _ _) ∙ is)
-        where
-          is : givenAt receiver (before q) (pairs p * q) (partOf 512 (heardPairs q e)) (marks depth) k
-              ≡ marks depth (receiverHistory depth (receivedPair p n h e) (pairs p * q + k)) (pairs p * q + k) (receivedPair p n h e (pairs p * q + k))
-          is = given-in receiver (pairs p) n (receivedPair p n h e) (λ r. heardPairs r e) (pair-of e) (marks depth) q k lq lk
+    pub receive-marks : receive c .marks ≡ partOf 32 (marksOf (pairs p) before (pairs p * q) (heardPairs q e)) k
+    receive-marks = stream-marks cs (receivedPair p n h e) in-order run (pairs p) n (λ r. heardPairs r e) (pair-of e) q k lq lk c a
 
-      -- and leaves the history that the stream has after it: after the last pair, that before the next super-frame.
-      pub receive-history : receive c .history ≡ historyAt receiver (before q) (pairs p * q) (partOf 512 (heardPairs q e)) (suc k)
-      unfolding receiverHistory
-      receive-history =
-          ap (λ (x : Received). x .history) (received-made cs (receivedPair p n h e) in-order run (pairs p * q + k) c a)
-          ∙ ap (receiverHistory depth (receivedPair p n h e)) next
-          ∙ sym (history-in receiver (pairs p) n (receivedPair p n h e) (λ r. heardPairs r e) (pair-of e) q (suc k) lq lk)
-        where
-          next : suc (pairs p * q + k) ≡ pairs p * q + suc k
-          next = omega arith
+    pub receive-history : receive c .history ≡ historyAt receiver before (pairs p * q) (partOf 512 (heardPairs q e)) (suc k)
+    receive-history = stream-history cs (receivedPair p n h e) in-order run (pairs p) n (λ r. heardPairs r e) (pair-of e) q k lq lk c a
 
 -- Demand 3's receivers are such lists.
 module _ (p : Profile) (o : Outward p) (i : Inward p o) (e : Side) (q k : ℕ) (lq : q < o .superframes) (lk : k < pairs p) (c : Receiving)

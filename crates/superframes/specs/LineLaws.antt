@@ -11,14 +11,10 @@ use lib.ListN.{length, getD}
 use Rattle.bits.specs.DigitLaws.{digit-lt, digits, group-of, place-of, place-lt, group-lt}
 use Rattle.bits.specs.ListLaws.{is-tabulate}
 use Rattle.bits.specs.Parts.{part, partOf, endToEnd}
-use Rattle.bits.specs.PartLaws.{part-length, part-at, partOf-length, partOf-at, endToEnd-length, endToEnd-at, endToEnd-ext, part-endToEnd}
-use Rattle.calls.specs.Sequences.{accepted}
-use Rattle.calls.specs.SequenceLaws.{At-find}
-use Rattle.ofec.specs.History.{depth}
-use Rattle.ofec.specs.Encoding.{encoded}
-use Rattle.ofec.specs.SentLaws.{encoderHistory}
-use Rattle.ofec.specs.Calls.{Encodings, payloads}
-use Rattle.ofec.specs.PromiseLaws.{coded-made}
+use Rattle.bits.specs.PartLaws.{part-length, part-at, partOf-length, partOf-at, endToEnd-length, endToEnd-at, part-endToEnd}
+use Rattle.ofec.specs.Calls.{payloads}
+use Rattle.ofec.specs.Stream.{encoder, codedOf, historyBefore}
+use Rattle.ofec.specs.StreamRunLaws.{stream-coded}
 use Rattle.interleaving.specs.Interleaving.{interleaved}
 use Rattle.cells.specs.Profile.{Profile, cellsPerBuffer, buffersIn, pairsIn}
 use Rattle.cells.specs.Cells.{toCells}
@@ -31,8 +27,6 @@ use Rattle.line.specs.Outward.{Outward, codedPairs, pairsOfBuffer, mapping, pay
 use Rattle.line.specs.OutwardLaws.{coded-at, cells-are, frame-is}
 use Rattle.superframes.specs.Superframe.{bufferCells, payload, subFrame, frames, superframe}
 use Rattle.superframes.specs.SuperframeLaws.{payload-within}
-use Rattle.superframes.specs.Stream.{encoder, givenAt, givenOver, codedOf, historyBefore}
-use Rattle.superframes.specs.StreamLaws.{given-in}
 
 -- The pairs of an encoder in a super-frame.
 abbrev pub pairs : Profile → ℕ
@@ -135,26 +129,20 @@ module _ (p : Profile) (o : Outward p) (q : ℕ) where
 -- S gives the payload of each super-frame of each encoder, its pairs of 444 bytes.
 module _ (p : Profile) (o : Outward p) (S : Side → ℕ → List ℕ)
     (given : (e : Side) (q k : ℕ) → q < o .superframes → k < pairs p → getD (payloads (o .calls e)) (pairs p * q + k) [] ≡ partOf 444 (S e q) k) where
-  -- Each coded pair is that of the accepted call,
-  pair-is : (e : Side) (q k : ℕ) → q < o .superframes → k < pairs p
-      → givenAt encoder (historyBefore encoder (pairs p) (S e) q) (pairs p * q) (partOf 444 (S e q)) (encoded depth) k ≡ getD (codedPairs (o .calls e)) (pairs p * q + k) []
-  unfolding encoderHistory
-  pair-is e q k lq lk =
-      let f = At-find (accepted Encodings (o .calls e)) (pairs p * q + k) (omega (arith, o .filled e, pair-lt p q k (o .superframes) lq lk)) in
-      given-in encoder (pairs p) (o .superframes) (λ i. getD (payloads (o .calls e)) i []) (S e) (λ r i lr li. sym (given e r i lr li)) (encoded depth) q k lq lk
-      ∙ sym (coded-made (o .calls e) (o .runs e) (pairs p * q + k) (f .0) (f .1))
-      ∙ sym (coded-at (o .calls e) (f .1))
+  -- The coded pairs of super-frame q, from its payload: the stream of pairs that is encoded from fresh.
+  abbrev pub codedIn : ℕ → Side → List ℕ
+  codedIn q e = codedOf (pairs p) (historyBefore encoder (pairs p) (S e) q) (pairs p * q) (S e q)
 
-  pairs-are : (e : Side) (q : ℕ) → q < o .superframes → codedOf (pairs p) (historyBefore encoder (pairs p) (S e) q) (pairs p * q) (S e q) ≡ pairsOf p o q e
-  unfolding givenOver pairsOf
-  pairs-are e q lq =
-      endToEnd-ext (pairs p) 512 (givenAt encoder (historyBefore encoder (pairs p) (S e) q) (pairs p * q) (partOf 444 (S e q)) (encoded depth))
-      (λ P. getD (codedPairs (o .calls e)) (pairs p * q + P) []) (lit< tt) (λ k lk. pair-is e q k lq lk)
+  -- They are those of the accepted calls,
+  pairs-are : (e : Side) (q : ℕ) → q < o .superframes → codedIn q e ≡ pairsOf p o q e
+  unfolding pairsOf
+  pairs-are e =
+      stream-coded (o .calls e) (o .runs e) (pairs p) (o .superframes) (S e)
+      (λ q k lq lk. omega (arith, o .filled e, pair-lt p q k (o .superframes) lq lk)) (given e) (λ P. getD (codedPairs (o .calls e)) P [])
+      (λ P c a. coded-at (o .calls e) a)
 
   -- and the super-frame made of these payloads is the line's.
   pub line-of-payloads : (q s : ℕ) → q < o .superframes → s < 48
-      → partOf 7424
-      (superframe p (codedOf (pairs p) (historyBefore encoder (pairs p) (S side0) q) (pairs p * q) (S side0 q)) (codedOf (pairs p) (historyBefore encoder (pairs p) (S side1) q) (pairs p * q) (S side1 q)) (o .overhead)) s
-      ≡ getD (outward.frames p o) (48 * q + s) []
+      → partOf 7424 (superframe p (codedIn q side0) (codedIn q side1) (o .overhead)) s ≡ getD (outward.frames p o) (48 * q + s) []
   line-of-payloads q s lq ls =
       ap₂ (λ x y. partOf 7424 (superframe p x y (o .overhead)) s) (pairs-are side0 q lq) (pairs-are side1 q lq) ∙ line-of-superframes p o q s lq ls

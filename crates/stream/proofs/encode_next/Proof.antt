@@ -1,9 +1,9 @@
--- `superframe::pairs::encode_next` meets its contract.
+-- `stream::encode_next` meets its contract.
 -- Assumes nothing.
 use borrow.Author.Needs.{needs}
-use Rattle.superframes.specs.StreamLaws.{pairing}
-use Rattle.superframe.proofs.pairs.encode_next.Statement.{statement}
-use Rattle.superframe.proofs.pairs.encode_next.Tie as tie
+use Rattle.ofec.specs.StreamLaws.{pairing}
+use Rattle.stream.proofs.encode_next.Statement.{statement}
+use Rattle.stream.proofs.encode_next.Tie as tie
 
 pub encode-next-spec : {M : Type 1} → statement M
 encode-next-spec =

@@ -1,9 +1,9 @@
--- `superframe::pairs::receive_next` meets its contract.
+-- `stream::receive_next` meets its contract.
 -- Assumes nothing.
-use Rattle.superframes.specs.StreamLaws.{pairing}
+use Rattle.ofec.specs.StreamLaws.{pairing}
 use borrow.Author.Needs.{needs}
-use Rattle.superframe.proofs.pairs.receive_next.Statement.{statement}
-use Rattle.superframe.proofs.pairs.receive_next.Tie as tie
+use Rattle.stream.proofs.receive_next.Statement.{statement}
+use Rattle.stream.proofs.receive_next.Tie as tie
 
 ruleset kit = (needs, pairing)
 

@@ -1,4 +1,4 @@
--- `superframe::pairs::receive` meets its contract: one pair a turn.
+-- `stream::receive` meets its contract: one pair a turn.
 -- Assumes nothing.
 use mathlib.Core.Path.{refl}
 use Prim.Native.Nat.{_+_, _-_, _*_}
@@ -6,11 +6,11 @@ use Rattle.bits.specs.Filling.{Blocks, by-blocks, blocks-next}
 use Rattle.bits.specs.Parts.{partOf, byteOfEach}
 use Rattle.ofec.specs.History.{depth}
 use Rattle.ofec.specs.Receiving.{payloadOut, marks as pairMarks}
-use Rattle.superframes.specs.Stream.{receiver, givenAt}
-use Rattle.superframes.specs.StreamLaws.{Streaming, streaming, stream-more, payload-block, marks-block}
+use Rattle.ofec.specs.Stream.{receiver, givenAt}
+use Rattle.ofec.specs.StreamLaws.{Streaming, streaming, stream-more, payload-block, marks-block}
 use borrow.Author.Needs.{needs}
-use Rattle.superframe.proofs.pairs.receive.Statement.{statement}
-use Rattle.superframe.proofs.pairs.receive.Tie as tie
+use Rattle.stream.proofs.receive.Statement.{statement}
+use Rattle.stream.proofs.receive.Tie as tie
 
 ruleset kit = (needs, by-blocks, streaming)
 

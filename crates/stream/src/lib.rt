@@ -1,5 +1,5 @@
-// Coded pairs of one encoder in a row, so many as are asked for, as the 168 of a super-frame: from their payload, and back to payload and
-// marks.
+// Pairs of one encoder, one after the other, as many as are asked for (a super-frame has 168): encoded from their payload, and received
+// back to payload and marks. Above `codec`, whose calls it makes for each pair.
 ghost use mathlib.Core.Path.{_≡_};
 ghost use Prim.Native.Nat.{_+_, _*_, _≤_, _<_};
 ghost use lib.ListN.{length};
@@ -7,7 +7,7 @@ ghost use Rattle.bits.specs.Parts.{partOf};
 ghost use Rattle.ofec.specs.Encoding.{encoded};
 ghost use Rattle.ofec.specs.Receiving.{newestPair, payloadOut, marks as pairMarks};
 ghost use Rattle.ofec.specs.History.{depth, shift};
-ghost use Rattle.superframes.specs.Stream.{encoder, receiver, codedOf, payloadsOf, marksOf, historyOver};
+ghost use Rattle.ofec.specs.Stream.{encoder, receiver, codedOf, payloadsOf, marksOf, historyOver};
 
 // Encodes pair k.
 fn encode_next(

@@ -1,4 +1,4 @@
--- `superframe::pairs::encode` meets its contract: one pair a turn.
+-- `stream::encode` meets its contract: one pair a turn.
 -- Assumes nothing.
 use mathlib.Core.Path.{refl}
 use Prim.Native.Nat.{_+_, _-_, _*_}
@@ -6,11 +6,11 @@ use Rattle.bits.specs.Filling.{Blocks, by-blocks, blocks-next}
 use Rattle.bits.specs.Parts.{partOf, byteOfEach}
 use Rattle.ofec.specs.History.{depth}
 use Rattle.ofec.specs.Encoding.{encoded}
-use Rattle.superframes.specs.Stream.{encoder, givenAt}
-use Rattle.superframes.specs.StreamLaws.{Streaming, streaming, coded-block}
+use Rattle.ofec.specs.Stream.{encoder, givenAt}
+use Rattle.ofec.specs.StreamLaws.{Streaming, streaming, coded-block}
 use borrow.Author.Needs.{needs}
-use Rattle.superframe.proofs.pairs.encode.Statement.{statement}
-use Rattle.superframe.proofs.pairs.encode.Tie as tie
+use Rattle.stream.proofs.encode.Statement.{statement}
+use Rattle.stream.proofs.encode.Tie as tie
 
 ruleset kit = (needs, by-blocks, streaming)
 

@@ -13,15 +13,15 @@ use Rattle.bits.specs.Parts.{part, partOf, byteOfEach, endToEnd}
 use Rattle.bits.specs.PartLaws.{part-long, each-block}
 use Rattle.calls.specs.declared.Answer.{Answer}
 use Rattle.calls.specs.declared.Answer.the-variants.{Done}
 use Rattle.ofec.specs.History.{depth, shift, fresh}
 use Rattle.ofec.specs.HistoryLaws.{length-shift, historyAfter}
 use Rattle.ofec.specs.Encoding.{encoded}
 use Rattle.ofec.specs.EncodingLaws.{length-encoded}
 use Rattle.ofec.specs.ReceivingLaws.{length-payloadOut, length-marks}
 use Rattle.ofec.specs.Receiving.{newestPair, payloadOut, marks}
 use Rattle.ofec.specs.Calls.{Encoded, afterEncode, encodeCall, Received, afterReceive, receiveCall}
 use Rattle.ofec.specs.CallLaws.{encode-done, receive-done}
-use Rattle.superframes.specs.Stream.{Gives, Coder, encoder, receiver, historyAt, givenAt, givenOver, historyOver, historyBefore}
+use Rattle.ofec.specs.Stream.{Gives, Coder, encoder, receiver, historyAt, givenAt, givenOver, historyOver, historyBefore}
 
 -- ---- one pair
 
