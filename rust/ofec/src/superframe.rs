@@ -100,9 +100,8 @@ pub fn encode(encoder: &mut Encoder, payload: &[u8], coded: &mut [u8]) -> Result
 }
 
 /// Makes the sub-frames of a super-frame, one after the other as in a line file: the `coded` pairs of
-/// two encoders, [`CODED_BYTES`] each, and the `overhead` list of
-/// [`OVERHEAD_BYTES`](crate::frame::OVERHEAD_BYTES) to `frames` of
-/// [`SUPERFRAME_BYTES`](crate::frame::SUPERFRAME_BYTES).
+/// two encoders, [`CODED_BYTES`] each, and the `overhead` list of [`OVERHEAD_BYTES`] to `frames` of
+/// [`SUPERFRAME_BYTES`].
 ///
 /// Refusals: [`Refusal::Misfit`], [`Refusal::OffGrid`] with the index in `overhead`.
 ///
