@@ -74,7 +74,7 @@ tail-bit v k b l e = e ∙ sym (tail-high v k l)
 pub syndromes-are : (s : List ℕ) (v : ℕ) (y : Syndromes) → (v ≡ check (bit s)) × (v < 131072) → y ≡ syndromesOf (tail v) → y ≡ syndromesOf (bit s)
 syndromes-are s v y e f = f ∙ ap (λ u. syndromesOf (tail u)) (e .0) ∙ check-syndromes (bit s) (λ k l. bit-lt s k)
 
--- A word without check bits.
+-- A word whose check bits are all 0.
 pub syndromes-none : (s : List ℕ) (v : ℕ) → (v ≡ check (bit s)) × (v < 131072) → v ≡ 0 → syndromes 0 0 0 ≡ syndromesOf (bit s)
 syndromes-none s v e z =
     syndromes-are s v (syndromes 0 0 0) e

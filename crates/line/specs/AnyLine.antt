@@ -1,4 +1,4 @@
--- Whatever bits both encoders are to be heard with, they come off some legal line.
+-- Any bits of both encoders come off some legal line.
 -- Assumes nothing.
 use mathlib.Core.Path.{_≡_, ap, _∙_}
 use mathlib.Core.List.{List, []}

@@ -1,4 +1,4 @@
--- That demand 3 speaks of lines with errors: whatever bits of the back half of a word are to be wrong, three at most, there is such a line
+-- Lines with errors meet the premises of demand 3: for any choice of at most three wrong bits in the back half of a word there is such a line
 -- within the limit, and receivers that take all of it; they mark that word 1, 2, or 3 for lost.
 -- Assumes nothing.
 use mathlib.Core.Path.{_≡_, refl, sym, _∙_, subst}

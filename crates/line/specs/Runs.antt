@@ -1,5 +1,5 @@
--- What runs may be made of, to show that demand 3 speaks of them; and what is claimed over a line that alters nothing, or
--- up to three bits of a word.
+-- What runs may be made of, to show that the premises of demand 3 can be met; and what is claimed over a line that alters nothing, or up to
+-- three bits of a word.
 -- Assumes nothing.
 use mathlib.Core.Path.{_≡_}
 use mathlib.Core.Bool.{cond}

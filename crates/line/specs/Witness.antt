@@ -1,5 +1,6 @@
--- That demand 3 says something: runs of every size with any payloads and refused calls anywhere, receivers that take all pairs of any line
--- within the limit or only the first so many, and all payload back over an unaltered line. (Lines with errors: ErrorWitness.antt.)
+-- The premises of demand 3 can be met: there are runs of every size with any payloads and refused calls anywhere, receivers that take all
+-- pairs of any line within the limit or only the first m, and over an unaltered line all payload comes back. (Lines with errors:
+-- ErrorWitness.antt.)
 -- Assumes nothing.
 use mathlib.Core.Path.{_≡_, refl, sym, ap, ap₂, _∙_, subst}
 use mathlib.Core.List.{List, [], map}

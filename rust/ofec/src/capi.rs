@@ -1,7 +1,8 @@
-//! The C interface (`include/ofec.h`), call by call. Each function makes one call on the slices it
-//! is lent, of whatever lengths, and gives the numbers of the answer as they are. The safe types of
-//! the crate stand on it, and it holds the crate's only unsafe code: slices have true lengths, and
-//! those of one call cannot overlap where one of them is written, as the interface asks.
+//! The C interface (`include/ofec.h`), call by call. Each function makes one call on the slices that
+//! it is given, of whatever lengths, and returns the numbers of the answer as they are. The safe
+//! types of the crate are built on this module, which has the crate's only unsafe code. What the
+//! interface asks of its callers holds for slices: their lengths are true, and a slice that is
+//! written overlaps no other.
 //!
 //! ```
 //! use ofec::capi::{Outcome, repair_word};
@@ -21,12 +22,12 @@
 #[repr(C)]
 #[derive(Debug, Clone, Copy, PartialEq, Eq)]
 pub struct Outcome {
-    /// The number of the refusal, 1 to 5, or 0: done.
+    /// The number of the refusal, 1 to 5, or 0 if the call was done.
     pub refusal: u32,
-    /// The call's own number; 0 where it has none, and in a refusal unless said otherwise.
+    /// The call's own number; 0 if it has none, and 0 in a refusal unless the call says otherwise.
     pub value: u32,
-    /// At refusal 5 the index of the first illegal byte in its buffer, in [`frame`](frame()) and
-    /// [`unframe`] the overhead list first; otherwise 0, but for [`read_line`].
+    /// In refusal 5, the index of the first illegal byte in its buffer; [`frame`](frame()) and
+    /// [`unframe`] look at the overhead list first. Otherwise 0, except in [`read_line`].
     pub index: u64,
 }
 
@@ -34,9 +35,9 @@ pub struct Outcome {
 #[repr(C)]
 #[derive(Debug, Clone, Copy, PartialEq, Eq)]
 pub struct Line {
-    /// The number of the refusal, 1 or 2, or 0: open.
+    /// The number of the refusal, 1 or 2, or 0 if the file is open.
     pub refusal: u32,
-    /// The number of super-frames; 0 in a refusal, as the other two.
+    /// The number of super-frames; 0 in a refusal, like the other two.
     pub superframes: u32,
     /// Where the overhead list starts.
     pub overhead: u32,
@@ -125,19 +126,19 @@ unsafe extern "C" {
     fn ofec_write_header(superframes: u32, header: *mut u8, header_length: usize) -> Outcome;
 }
 
-// SAFETY, of every call below: each pointer and length are those of one slice, lent for the call.
+// SAFETY, of every call below: each pointer and length are those of one slice, borrowed for the call.
 
-/// Repairs a check word of 32 bytes in place; with `front` 0, flips fall in the back half only.
+/// Repairs a check word of 32 bytes in place; if `front` is 0, flips may fall in the back half only.
 ///
 /// Value: the number of flips, 0 to 2, or 3 for a lost word.
 pub fn repair_word(word: &mut [u8], front: u32) -> Outcome {
     unsafe { ofec_repair_word(word.as_mut_ptr(), word.len(), front) }
 }
 
-/// Encodes a pair: `payload` of 444 bytes to `coded` of 512, over a `history` of 5,120 that is moved
-/// on.
+/// Encodes a pair: `payload` of 444 bytes to `coded` of 512, with a `history` of 5,120, which is
+/// moved on.
 ///
-/// Value: the next pair number; in a refusal the number lent.
+/// Value: the next pair number; in a refusal, the number that was passed.
 pub fn encode_pair(payload: &[u8], coded: &mut [u8], history: &mut [u8], pair: u32) -> Outcome {
     unsafe {
         ofec_encode_pair(
@@ -152,10 +153,10 @@ pub fn encode_pair(payload: &[u8], coded: &mut [u8], history: &mut [u8], pair: u
     }
 }
 
-/// Receives a pair: `coded` of 512 bytes to `payload` of 444 and `marks` of 32, over a `history` of
-/// 5,120 that is moved on.
+/// Receives a pair: `coded` of 512 bytes to `payload` of 444 and `marks` of 32, with a `history` of
+/// 5,120, which is moved on.
 ///
-/// Value: the next pair number; in a refusal the number lent.
+/// Value: the next pair number; in a refusal, the number that was passed.
 pub fn receive_pair(
     coded: &[u8],
     payload: &mut [u8],
@@ -192,7 +193,7 @@ pub fn interleave(pairs0: &[u8], pairs1: &[u8], bits: &mut [u8]) -> Outcome {
     }
 }
 
-/// Takes `bits` of 21,504 bytes apart to the pairs of two encoders, 10,752 bytes each.
+/// Takes `bits` of 21,504 bytes apart into the pairs of two encoders, 10,752 bytes each.
 pub fn deinterleave(bits: &[u8], pairs0: &mut [u8], pairs1: &mut [u8]) -> Outcome {
     unsafe {
         ofec_deinterleave(
@@ -217,7 +218,7 @@ pub fn cells_to_bits(cells: &[u8], bits: &mut [u8]) -> Outcome {
 }
 
 /// Frames sub-frame `number`, 0 to 47: `payload` of 6,980 bytes (number 0) or 7,172, and its part of
-/// the `overhead` list of 12,288, to `frame` of 7,424. From 48 on the payload is not measured.
+/// the `overhead` list of 12,288, to `frame` of 7,424. Above 47 the payload is not measured.
 pub fn frame(number: u32, payload: &[u8], overhead: &[u8], frame: &mut [u8]) -> Outcome {
     unsafe {
         ofec_frame(
@@ -232,7 +233,7 @@ pub fn frame(number: u32, payload: &[u8], overhead: &[u8], frame: &mut [u8]) -> 
     }
 }
 
-/// Unframes sub-frame `number`: the buffers are those of [`frame`](frame()), the payload written.
+/// Unframes sub-frame `number`: the buffers of [`frame`](frame()), but the payload is written.
 ///
 /// Value: the number of overhead cells that differ from the list.
 pub fn unframe(number: u32, frame: &[u8], overhead: &[u8], payload: &mut [u8]) -> Outcome {
@@ -249,15 +250,15 @@ pub fn unframe(number: u32, frame: &[u8], overhead: &[u8], payload: &mut [u8]) -
     }
 }
 
-/// Opens a line file that is lent whole.
+/// Opens a line file, given as a whole.
 pub fn open_line(file: &[u8]) -> Line {
     unsafe { ofec_open_line(file.as_ptr(), file.len()) }
 }
 
-/// Finds a sub-frame's stretch of an open line file; `line` has the file's numbers, and its refusal
-/// is not looked at.
+/// Finds a sub-frame in an open line file. `line` has the file's numbers; its refusal is not looked
+/// at.
 ///
-/// Index: where the stretch starts. Value: its length, 7,424.
+/// Index: where the sub-frame starts. Value: its length, 7,424.
 pub fn read_line(file: &[u8], line: Line, superframe: u32, subframe: u32) -> Outcome {
     unsafe {
         ofec_read_line(

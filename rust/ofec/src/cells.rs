@@ -1,6 +1,6 @@
-//! Cells: a byte of bits is one symbol, and a symbol is a cell of two bytes, X and Y, each a point
-//! of the 16-QAM grid: 4 times the number of its I level plus that of its Q level. A byte of 16 or
-//! more is illegal.
+//! Cells: a byte of bits is one symbol, and a symbol is a cell of two bytes, X and Y. Each is a point
+//! of the 16-QAM grid: 4 times the number of its I level plus the number of its Q level, where the
+//! levels -3, -1, 1 and 3 have numbers 0 to 3. A byte of 16 or more is illegal.
 
 use crate::{Refusal, capi};
 

@@ -1,4 +1,4 @@
-//! The super-frame: 48 sub-frames of 3,712 cells, in which overhead stands among the payload. The
+//! The super-frame: 48 sub-frames of 3,712 cells, with overhead cells among the payload cells. The
 //! payload of a super-frame is the cells of eight buffers, one after the other.
 
 use core::ops::Range;
@@ -14,7 +14,7 @@ pub const SUPERFRAME_BYTES: usize = SUBFRAMES as usize * FRAME_BYTES;
 /// Bytes of the overhead list of a super-frame.
 pub const OVERHEAD_BYTES: usize = 12_288;
 
-/// Bytes of the payload cells of sub-frame `number`, or nothing where there is no such sub-frame.
+/// Bytes of the payload cells of sub-frame `number`, or `None` if there is no such sub-frame.
 ///
 /// ```
 /// use ofec::cells::CELLS_BYTES;
@@ -31,8 +31,8 @@ pub fn payload_bytes(number: u32) -> Option<usize> {
     }
 }
 
-/// The part of the overhead list that belongs to sub-frame `number`, or nothing where there is no
-/// such sub-frame.
+/// The part of the overhead list that belongs to sub-frame `number`, or `None` if there is no such
+/// sub-frame.
 ///
 /// ```
 /// use ofec::Refusal;
@@ -67,12 +67,12 @@ pub fn overhead_part(number: u32) -> Option<Range<usize>> {
 /// Frames sub-frame `number`: `payload` of [`payload_bytes`] and its part of the `overhead` list of
 /// [`OVERHEAD_BYTES`] to `frame` of [`FRAME_BYTES`].
 ///
-/// Refusals: [`Refusal::Misfit`] (from number 48 on `payload` is not measured),
+/// Refusals: [`Refusal::Misfit`] (if the number is above 47, `payload` is not measured),
 /// [`Refusal::NoSuchFrame`], [`Refusal::OffGrid`].
 ///
-/// Of the list only the sub-frame's own bytes are read ([`overhead_part`]), and before any byte of
-/// `payload`. So the index of [`Refusal::OffGrid`] is one of `overhead` where it falls in that part
-/// and `overhead` has 16 or more there; else it is one of `payload`.
+/// Only the sub-frame's own part of the list is read ([`overhead_part`]), and before any byte of
+/// `payload`. So if the index of [`Refusal::OffGrid`] falls in that part, and `overhead` has 16 or
+/// more there, it is an index of `overhead`; otherwise it is an index of `payload`.
 ///
 /// A super-frame of eight buffers' cells:
 ///
@@ -107,10 +107,10 @@ pub fn frame(
         .map(|_| ())
 }
 
-/// Unframes sub-frame `number`: the buffers are those of [`frame`](frame()), the payload written.
-/// Gives the number of overhead cells that differ from the list.
+/// Unframes sub-frame `number`: the buffers of [`frame`](frame()), but the payload is written.
+/// Returns the number of overhead cells that differ from the list.
 ///
-/// Refusals: as in [`frame`](frame()), with an index of `frame` in place of one of `payload`.
+/// Refusals: as in [`frame`](frame()), with an index of `frame` instead of `payload`.
 ///
 /// ```
 /// use ofec::frame::*;

@@ -31,7 +31,7 @@ pub fn interleave(pairs0: &[u8], pairs1: &[u8], bits: &mut [u8]) -> Result<(), R
     capi::interleave(pairs0, pairs1, bits).done().map(|_| ())
 }
 
-/// Takes a buffer's `bits` apart to the pairs of two encoders: the inverse of [`interleave`].
+/// Takes a buffer's `bits` apart into the pairs of two encoders: the inverse of [`interleave`].
 ///
 /// Refusals: [`Refusal::Misfit`].
 ///

@@ -1,8 +1,8 @@
 //! The oFEC line reference (16-QAM) for Rust: safe functions and types over the verified library.
 //!
 //! Every function of that library is proved to meet its contract. This crate has slices where the
-//! library has pointers and a [`Refusal`] where it has a number, and types that carry a history or
-//! an open file. It has no dependency and needs no standard library: nothing is allocated.
+//! library has pointers, and a [`Refusal`] where it has a number; its types carry a history or an
+//! open file. It has no dependencies, needs no standard library, and allocates nothing.
 //!
 //! | module | holds |
 //! |---|---|
@@ -16,10 +16,10 @@
 //! | [`refusal`] | why a call is refused |
 //! | [`capi`] | the C interface, call by call, on which the others stand |
 //!
-//! Each module names the lengths of its buffers. A buffer of another length is refused with
-//! [`Refusal::Misfit`], but for the payload of a sub-frame number of 48 or more, which is not
-//! measured; a refused call leaves every buffer and every state as it was. The library has no
-//! state of its own, so that calls may run on several threads at once.
+//! Each module has constants for the lengths of its buffers. A buffer of any other length is refused
+//! with [`Refusal::Misfit`] (except the payload of a sub-frame number of 48 or more, which is not
+//! measured). A refused call leaves every buffer and every state as it was. The library has no
+//! state of its own, so calls may run on several threads at once.
 //!
 //! A pair over a line that flips two bits of one word:
 //!
@@ -41,9 +41,9 @@
 //! # Ok::<(), ofec::Refusal>(())
 //! ```
 //!
-//! The build links `libcapi.a` from the folder that the environment variable `OFEC_LIB_DIR` names,
-//! or else from `target/staticlib` of the repository that the crate stands in. `examples/line.rs`
-//! is a whole program.
+//! The build links `libcapi.a` from the folder that the environment variable `OFEC_LIB_DIR` names, or
+//! otherwise from `target/staticlib` of the repository that the crate is part of. `examples/line.rs`
+//! is a complete program.
 
 #![no_std]
 #![deny(missing_docs)]

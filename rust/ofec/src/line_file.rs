@@ -6,10 +6,11 @@ use crate::{Refusal, capi};
 /// Bytes of the header.
 pub const HEADER_BYTES: usize = 16;
 
-/// Writes the header of a line file of so many super-frames, 1 to 64, without gaps: the overhead
-/// list is to follow at byte 16 and the frames at byte 12,304.
+/// Writes the header of a line file of 1 to 64 super-frames without gaps: the overhead list will
+/// follow at byte 16 and the frames at byte 12,304.
 ///
-/// Refusals: [`Refusal::Misfit`] where `header` has not [`HEADER_BYTES`], [`Refusal::BadHeader`].
+/// Refusals: [`Refusal::Misfit`] if `header` does not have [`HEADER_BYTES`], [`Refusal::BadHeader`]
+/// for any other number of super-frames.
 ///
 /// ```
 /// use ofec::Refusal;
@@ -59,9 +60,9 @@ pub struct LineFile<'a> {
 }
 
 impl<'a> LineFile<'a> {
-    /// Opens a line file that is lent whole.
+    /// Opens a line file, given as a whole.
     ///
-    /// Refusals: [`Refusal::Misfit`] under 16 bytes, [`Refusal::BadHeader`].
+    /// Refusals: [`Refusal::Misfit`] below 16 bytes, [`Refusal::BadHeader`].
     pub fn open(bytes: &'a [u8]) -> Result<Self, Refusal> {
         let line = capi::open_line(bytes).done()?;
         Ok(LineFile { bytes, line })
@@ -72,13 +73,13 @@ impl<'a> LineFile<'a> {
         self.line.superframes
     }
 
-    /// The overhead list's stretch of the file.
+    /// The overhead list, a part of the file.
     pub fn overhead(&self) -> &'a [u8] {
         &self.bytes[self.line.overhead as usize..][..OVERHEAD_BYTES]
     }
 
-    /// A super-frame's stretch of the file, [`SUPERFRAME_BYTES`] long: its sub-frames one after the
-    /// other.
+    /// A super-frame, a part of the file that is [`SUPERFRAME_BYTES`] long: its sub-frames one after
+    /// the other.
     ///
     /// Refusals: [`Refusal::NoSuchFrame`].
     pub fn superframe(&self, superframe: u32) -> Result<&'a [u8], Refusal> {
@@ -86,12 +87,12 @@ impl<'a> LineFile<'a> {
         Ok(&self.bytes[first.index as usize..][..SUPERFRAME_BYTES])
     }
 
-    /// A sub-frame's stretch of the file, [`FRAME_BYTES`](crate::frame::FRAME_BYTES) long.
+    /// A sub-frame, a part of the file that is [`FRAME_BYTES`](crate::frame::FRAME_BYTES) long.
     ///
     /// Refusals: [`Refusal::NoSuchFrame`].
     pub fn subframe(&self, superframe: u32, subframe: u32) -> Result<&'a [u8], Refusal> {
         let done = capi::read_line(self.bytes, self.line, superframe, subframe).done()?;
-        // The start and the length are the proved reader's answer; the cut by them is plain Rust.
+        // The proved reader answers start and length; the slicing by them is plain Rust.
         Ok(&self.bytes[done.index as usize..][..done.value as usize])
     }
 }

@@ -60,12 +60,12 @@ impl Encoder {
         Encoder::resume(State::FRESH)
     }
 
-    /// An encoder that goes on from a state.
+    /// An encoder that continues from a state.
     pub fn resume(state: State) -> Self {
         Encoder { state }
     }
 
-    /// The state that the next pair will meet.
+    /// The state before the next pair.
     pub fn state(&self) -> &State {
         &self.state
     }
@@ -124,18 +124,18 @@ impl Receiver {
         Receiver::resume(State::FRESH)
     }
 
-    /// A receiver that goes on from a state.
+    /// A receiver that continues from a state.
     pub fn resume(state: State) -> Self {
         Receiver { state }
     }
 
-    /// The state that the next pair will meet.
+    /// The state before the next pair.
     pub fn state(&self) -> &State {
         &self.state
     }
 
-    /// Receives the next pair: `coded` of [`CODED_BYTES`] to `payload` of [`PAYLOAD_BYTES`]. The
-    /// marks are those of the pair's words, the first row's 16 first.
+    /// Receives the next pair: `coded` of [`CODED_BYTES`] to `payload` of [`PAYLOAD_BYTES`]. Returns
+    /// the marks of the pair's words, the 16 of its first row first.
     ///
     /// Refusals: [`Refusal::Misfit`], [`Refusal::CountSpent`].
     pub fn receive(&mut self, coded: &[u8], payload: &mut [u8]) -> Result<[Mark; WORDS], Refusal> {

@@ -5,7 +5,7 @@ use core::fmt;
 
 use crate::capi::{Line, Outcome};
 
-/// Why a call is refused; the first in this order that applies.
+/// Why a call is refused. If several reasons apply, the first in this order is given.
 ///
 /// ```
 /// use ofec::Refusal;
@@ -20,19 +20,19 @@ use crate::capi::{Line, Outcome};
 /// ```
 #[derive(Debug, Clone, Copy, PartialEq, Eq, Hash)]
 pub enum Refusal {
-    /// 1: a lent buffer is not of the stated length (but the payload of a sub-frame above 47, which
-    /// is not measured); a file has less than 16 bytes.
+    /// 1: a buffer does not have the stated length (except the payload of a sub-frame number above
+    /// 47, which is not measured), or a file has less than 16 bytes.
     Misfit,
     /// 2: a rule of the line file's header fails.
     BadHeader,
-    /// 3: the pair number is 4,294,967,295, and no other follows.
+    /// 3: the pair number is 4,294,967,295, the largest.
     CountSpent,
-    /// 4: a sub-frame above 47, or a super-frame that the file does not have.
+    /// 4: the sub-frame number is above 47, or the file does not have that super-frame.
     NoSuchFrame,
     /// 5: an illegal byte in cells that the call reads, the overhead list first.
     OffGrid {
-        /// Where it first occurs in its buffer; [`frame`](crate::frame::frame) says how to tell
-        /// which one that is.
+        /// Where it first occurs in its buffer; [`frame`](crate::frame::frame) says how to tell which
+        /// buffer that is.
         index: usize,
     },
 }
@@ -60,7 +60,7 @@ impl Refusal {
         }
     }
 
-    /// The refusal of this number, or nothing for 0; `index` is that of refusal 5.
+    /// The refusal with this number, or `None` for 0; `index` is the index of refusal 5.
     pub(crate) fn of(number: u32, index: u64) -> Option<Refusal> {
         match number {
             0 => None,
@@ -77,14 +77,14 @@ impl Refusal {
 }
 
 impl Outcome {
-    /// The answer of a call that is done, or why it is refused.
+    /// The answer of a call that was done, or why it was refused.
     pub(crate) fn done(self) -> Result<Outcome, Refusal> {
         Refusal::of(self.refusal, self.index).map_or(Ok(self), Err)
     }
 }
 
 impl Line {
-    /// The numbers of an open file, or why it is refused.
+    /// The numbers of an open file, or why it was refused.
     pub(crate) fn done(self) -> Result<Line, Refusal> {
         Refusal::of(self.refusal, 0).map_or(Ok(self), Err)
     }

@@ -7,9 +7,9 @@
 //!  payload 1 -- encode --'                                  '-- receive -- payload 1, marks
 //! ```
 //!
-//! Everything is tested before the first byte is written, so that here too a refused call leaves
-//! every buffer and every state as it was. Nothing is allocated; [`take_apart`] has the largest
-//! arrays, about 72 kB of stack.
+//! Everything is tested before the first byte is written, so a refused call leaves every buffer and
+//! every state as it was here too. Nothing is allocated; [`take_apart`] has the largest arrays, about
+//! 72 kB of stack.
 //!
 //! ```
 //! use ofec::frame::{OVERHEAD_BYTES, SUPERFRAME_BYTES};
@@ -71,7 +71,7 @@ fn fit(holds: bool) -> Result<(), Refusal> {
     holds.then_some(()).ok_or(Refusal::Misfit)
 }
 
-/// Refuses where fewer than [`PAIRS`] follow.
+/// Refuses if fewer than [`PAIRS`] pair numbers are left.
 fn count_left(next: u32) -> Result<(), Refusal> {
     let left = u32::MAX - next;
     (left as usize >= PAIRS)
@@ -88,7 +88,7 @@ fn legal(cells: &[u8]) -> Result<(), Refusal> {
 /// Encodes the next [`PAIRS`] pairs of an encoder: `payload` of [`PAYLOAD_BYTES`] to `coded` of
 /// [`CODED_BYTES`].
 ///
-/// Refusals: [`Refusal::Misfit`], [`Refusal::CountSpent`] where not so many pairs are left.
+/// Refusals: [`Refusal::Misfit`], [`Refusal::CountSpent`] if fewer pair numbers are left.
 pub fn encode(encoder: &mut Encoder, payload: &[u8], coded: &mut [u8]) -> Result<(), Refusal> {
     fit(payload.len() == PAYLOAD_BYTES && coded.len() == CODED_BYTES)?;
     count_left(encoder.state().pair)?;
@@ -99,10 +99,9 @@ pub fn encode(encoder: &mut Encoder, payload: &[u8], coded: &mut [u8]) -> Result
     Ok(())
 }
 
-/// Makes the sub-frames of a super-frame, one after the other as in a line file: `coded` pairs of
-/// two encoders, [`CODED_BYTES`] each, and the `overhead` list of
-/// [`OVERHEAD_BYTES`](crate::frame::OVERHEAD_BYTES) to `frames` of
-/// [`SUPERFRAME_BYTES`](crate::frame::SUPERFRAME_BYTES).
+/// Makes the sub-frames of a super-frame, one after the other as in a line file: the `coded` pairs of
+/// two encoders, [`CODED_BYTES`] each, and the `overhead` list of [`OVERHEAD_BYTES`] to `frames` of
+/// [`SUPERFRAME_BYTES`].
 ///
 /// Refusals: [`Refusal::Misfit`], [`Refusal::OffGrid`] with the index in `overhead`.
 ///
@@ -144,12 +143,12 @@ pub fn make(coded: [&[u8]; 2], overhead: &[u8], frames: &mut [u8]) -> Result<(),
     Ok(())
 }
 
-/// Takes the sub-frames of a super-frame apart to the coded pairs of two encoders: the inverse of
-/// [`make`], with whatever the line left of them. Gives the number of overhead cells that differ
-/// from the list.
+/// Takes the sub-frames of a super-frame apart into the coded pairs of two encoders: the inverse of
+/// [`make`], whatever the line did to the cells in between. Returns the number of overhead cells
+/// that differ from the list.
 ///
 /// Refusals: [`Refusal::Misfit`], [`Refusal::OffGrid`] with the index in `overhead` if that has 16
-/// or more there, else in `frames`.
+/// or more there, otherwise in `frames`.
 ///
 /// ```
 /// use ofec::Refusal;
@@ -181,7 +180,7 @@ pub fn take_apart(frames: &[u8], overhead: &[u8], coded: [&mut [u8]; 2]) -> Resu
     for (number, frame) in (0..).zip(frames.chunks_exact(FRAME_BYTES)) {
         let length = payload_bytes(number).unwrap_or(0);
         differing += frame::unframe(number, frame, overhead, &mut payload[..length])?;
-        // A buffer's last cells and the first ones of the next may stand in one sub-frame.
+        // The last cells of a buffer and the first of the next may be in the same sub-frame.
         let (ends, begins) = payload[..length].split_at(length.min(CELLS_BYTES - held));
         buffer[held..held + ends.len()].copy_from_slice(ends);
         held += ends.len();
@@ -205,7 +204,7 @@ fn take_buffer_apart(cells: &[u8], pairs0: &mut [u8], pairs1: &mut [u8]) -> Resu
 /// Receives the next [`PAIRS`] pairs of a receiver: `coded` of [`CODED_BYTES`] to `payload` of
 /// [`PAYLOAD_BYTES`] and the `marks` of [`WORDS`] words, [`pair::WORDS`] for each pair.
 ///
-/// Refusals: [`Refusal::Misfit`], [`Refusal::CountSpent`] where not so many pairs are left.
+/// Refusals: [`Refusal::Misfit`], [`Refusal::CountSpent`] if fewer pair numbers are left.
 pub fn receive(
     receiver: &mut Receiver,
     coded: &[u8],

@@ -33,7 +33,7 @@ impl Mark {
         self as u8
     }
 
-    /// The number of flips, or nothing for a lost word.
+    /// The number of flips, or `None` for a lost word.
     ///
     /// ```
     /// use ofec::Mark;
@@ -56,7 +56,7 @@ impl Mark {
     }
 }
 
-/// Repairs a word of [`WORD_BYTES`] in place: the only code word within two flips.
+/// Repairs a word of [`WORD_BYTES`] in place, to the only code word within two flips.
 ///
 /// Refusals: [`Refusal::Misfit`].
 ///
