@@ -123,7 +123,8 @@ bits-equal s t e hs ht same =
     rw (p, q) at (same (j * 8 + k) (omega arith))))
 
 -- A buffer whose bits f gives is `pack n f`.
-pub is-pack : (s : List ℕ) (n : ℕ) (f : ℕ → ℕ) → length s ≡ n → ((j : ℕ) → getD s j 0 < 256) → ((i : ℕ) → i < n * 8 → bit s i ≡ f i % 2) → s ≡ pack n f
+pub is-pack : (s : List ℕ) (n : ℕ) (f : ℕ → ℕ) → length s ≡ n → ((j : ℕ) → getD s j 0 < 256) → ((i : ℕ) → i < n * 8 → bit s i ≡ f i % 2)
+    → s ≡ pack n f
 is-pack s n f e h same =
     bits-equal s (pack n f) (e ∙ sym (length-pack n f)) h (pack-below n f)
     (λ i l. let k : i < n * 8 = omega arith in same i k ∙ sym (bit-pack n f i k))

@@ -153,7 +153,8 @@ distance-triangle n x y z =
 pub distance-sym : (n : ℕ) (x y : ℕ → ℕ) → distance n x y ≡ distance n y x
 distance-sym n x y = omega (arith, distance-mono n x y y x (λ k l e. sym e), distance-mono n y x x y (λ k l e. sym e))
 
-pub distance-ext : (n : ℕ) (x c y d : ℕ → ℕ) → ((k : ℕ) → k < n → x k ≡ y k) → ((k : ℕ) → k < n → c k ≡ d k) → distance n x c ≡ distance n y d
+pub distance-ext : (n : ℕ) (x c y d : ℕ → ℕ) → ((k : ℕ) → k < n → x k ≡ y k) → ((k : ℕ) → k < n → c k ≡ d k)
+    → distance n x c ≡ distance n y d
 unfolding distance
 distance-ext n x c y d e f =
     count-ext n (λ k. differs (x k) (c k)) (λ k. differs (y k) (d k)) (λ k l. ap₂ differs (e k l) (f k l))

@@ -84,7 +84,8 @@ blocks-more {f} {w} {m} {k} {d} ys h l e =
     }
 
 -- The part from a to e was lent, which is block k.
-pub blocks-next : {f : ℕ → ℕ} {w m k : ℕ} {d : List ℕ} (a e : ℕ) (ys : List ℕ) → Blocks f w m k d → k < m → a ≡ k * w → e ≡ a + w → ys ≡ tabulate w (λ i. f (k * w + i))
+pub blocks-next : {f : ℕ → ℕ} {w m k : ℕ} {d : List ℕ} (a e : ℕ) (ys : List ℕ) → Blocks f w m k d → k < m → a ≡ k * w → e ≡ a + w
+    → ys ≡ tabulate w (λ i. f (k * w + i))
     → Blocks f w m (k + 1) (putMid a (e - a) d ys)
 blocks-next a e ys h l p q t = rw (q, p) (blocks-more ys h l t)
 

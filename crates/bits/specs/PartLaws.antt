@@ -57,7 +57,8 @@ pub each-at : (f : ℕ → List ℕ) (w k i : ℕ) → 0 < w → i < w → byteO
 each-at f w k i pos l = ap₂ (λ b j. getD (f b) j 0) (group-of w pos k i l) (place-of w pos k i l)
 
 -- A buffer that is f k is block k of the whole,
-pub each-block : (f : ℕ → List ℕ) (w k : ℕ) (ys : List ℕ) → 0 < w → length ys ≡ w → ys ≡ f k → ys ≡ tabulate w (λ i. byteOfEach w f (k * w + i))
+pub each-block : (f : ℕ → List ℕ) (w k : ℕ) (ys : List ℕ) → 0 < w → length ys ≡ w → ys ≡ f k
+    → ys ≡ tabulate w (λ i. byteOfEach w f (k * w + i))
 each-block f w k ys pos long e =
     is-tabulate ys w (λ i. byteOfEach w f (k * w + i)) long (λ i l. ap (λ s. getD s i 0) e ∙ sym (each-at f w k i pos l))
 

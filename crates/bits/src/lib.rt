@@ -1,4 +1,5 @@
-// Bits of byte buffers, most significant bit first.
+// Bits of byte buffers, most significant bit first: functions, definitions and laws. At the bottom, with `calls`; every crate above uses
+// it.
 ghost use mathlib.Core.Path.{_≡_};
 ghost use Prim.Native.Nat.{_*_, _<_};
 ghost use lib.ListN.{length};

@@ -14,7 +14,8 @@ use Rattle.calls.specs.declared.Answer.{Answer}
 use Rattle.calls.specs.declared.Answer.the-variants.{Done, Refused}
 use Rattle.calls.specs.Answers.{refusalOf, Accepted, TurnedBack}
 use Rattle.calls.specs.AnswerLaws.{refused-turned}
-use Rattle.calls.specs.Calls.{After, after, Test, misfit, shortFile, badHeader, countSpent, noSubFrame, noSuperFrame, offGrid, verdict, ends, call}
+use Rattle.calls.specs.Calls.{After, after, Test, misfit, shortFile, badHeader, countSpent, noSubFrame, noSuperFrame, offGrid}
+use Rattle.calls.specs.Calls.{verdict, ends, call}
 
 -- ---- the answer, test by test
 
@@ -109,7 +110,8 @@ andThen (Refused r) next = Refused r
 verdict-append : (ts us : List Test) → verdict (ts ++ us) ≡ andThen (verdict ts) (verdict us)
 unfolding verdict
 verdict-append [] us = refl
-verdict-append (t ∷ ts) us = ap (cond (t .refuses) (Refused (t .refusal))) (verdict-append ts us) ∙ sym (by-test (λ a. andThen a (verdict us)) (t .refuses) _ _)
+verdict-append (t ∷ ts) us =
+    ap (cond (t .refuses) (Refused (t .refusal))) (verdict-append ts us) ∙ sym (by-test (λ a. andThen a (verdict us)) (t .refuses) _ _)
 
 module _ (ts us : List Test) (a : Answer) (e : a ≡ verdict ts) where
   pub first-refused : (r : Refusal) → a ≡ Refused r → Refused r ≡ verdict (ts ++ us)

@@ -51,7 +51,8 @@ noSubFrame s = refuse NoSuchFrame (ltb 47 s)
 unfoldable pub noSuperFrame : ℕ → ℕ → Test
 noSuperFrame q n = refuse NoSuchFrame (leb n q)
 
--- No. 5, off grid: "an illegal byte in cells that the call reads", the first at place `at` of the n that are read, which is `index` of their buffer.
+-- No. 5, off grid: "an illegal byte in cells that the call reads", the first at place `at` of the n that are read, which is `index` of
+-- their buffer.
 unfoldable pub offGrid : ℕ → ℕ → ℕ → Test
 offGrid index at n = refuse (OffGrid index) (ltb at n)
 
@@ -62,8 +63,8 @@ unfoldable pub verdict : List Test → Answer
 verdict [] = Done 0
 verdict (t ∷ ts) = cond (t .refuses) (Refused (t .refusal)) (verdict ts)
 
--- "nothing else is turned back"; "Buffers and pair number stay" in a refused call. `lent` is what the call may write, as it was lent, and `done` is
--- what stands after a call that no test refuses.
+-- "nothing else is turned back"; "Buffers and pair number stay" in a refused call. `lent` is what the call may write, as it was lent, and
+-- `done` is what stands after a call that no test refuses.
 abbrev pub ends : {B : Type 0} → Answer → B → After B → After B
 ends (Done v) lent done = done
 ends (Refused r) lent done = after (Refused r) lent

@@ -37,10 +37,12 @@ abbrev pub firstResult : ℕ → List Test → Result → Result
 firstResult lent [] r = r
 firstResult lent (t ∷ ts) r = cond (t .refuses) (result (numberOf (t .refusal)) lent (placeOf (t .refusal))) (firstResult lent ts r)
 
-pub call-result : {B : Type 0} (n : ℕ) (ts : List Test) (lent : B) (done : After B) → resultOf n (call ts lent done .answer) ≡ firstResult n ts (resultOf n (done .answer))
+pub call-result : {B : Type 0} (n : ℕ) (ts : List Test) (lent : B) (done : After B)
+    → resultOf n (call ts lent done .answer) ≡ firstResult n ts (resultOf n (done .answer))
 unfolding call verdict
 call-result n [] lent done = refl
-call-result n (t ∷ ts) lent done = by-test (λ (a : Answer). resultOf n (ends a lent done .answer)) (t .refuses) _ _ ∙ simp (result-refused, call-result n ts lent done)
+call-result n (t ∷ ts) lent done =
+    by-test (λ (a : Answer). resultOf n (ends a lent done .answer)) (t .refuses) _ _ ∙ simp (result-refused, call-result n ts lent done)
 
 pub verdict-result : (n : ℕ) (ts : List Test) → resultOf n (verdict ts) ≡ firstResult n ts (result 0 0 0)
 unfolding verdict

@@ -14,14 +14,14 @@ pub data At {A : Type 0} : List A → ℕ → A → Type 0 where
   here : {x : A} {xs : List A} → At (x ∷ xs) 0 x
   later : {x y : A} {xs : List A} {i : ℕ} → At xs i x → At (y ∷ xs) (suc i) x
 
--- What became of a part of the state over a call that is lent some things and leaves them as others, each in its place: it was not lent, or it
--- was lent and is what the call left.
+-- What became of a part of the state over a call that is lent some things and leaves them as others, each in its place: it was not lent, or
+-- it was lent and is what the call left.
 pub data Part {A : Type 0} (lent left : List A) : A → A → Type 0 where
   not-lent : {x : A} → Part lent left x x
   was-lent : {i : ℕ} {x y : A} → At lent i x → At left i y → Part lent left x y
 
--- A kind of calls: what is lent to one, the state that one hands on to the next, the refusal number, 0 for an accepted call, the state as it is
--- lent to an accepted call and as that call leaves it, and what may become of a state over a refused one, whatever that is lent.
+-- A kind of calls: what is lent to one, the state that one hands on to the next, the refusal number, 0 for an accepted call, the state as
+-- it is lent to an accepted call and as that call leaves it, and what may become of a state over a refused one, whatever that is lent.
 pub record Kind : Type 1 where
   pub Call : Type 0
   pub State : Type 0

@@ -1,4 +1,4 @@
-// What every call answers, and the refusals of 01, "Turned-back calls".
+// What every call answers, and the refusals of 01, "Turned-back calls". At the bottom, with `bits`; every crate of calls uses it.
 ghost use mathlib.Core.Path.{_≡_};
 ghost use Rattle.calls.specs.Answers.{refusalOf, indexOf, valueOr};
 

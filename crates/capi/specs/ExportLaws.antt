@@ -8,8 +8,8 @@ use borrow.Author.Tests.{eq-eqb, ne-eqb}
 use lib.ListN.{length}
 use Rattle.calls.specs.declared.Answer.{Answer}
 use Rattle.calls.specs.Calls.{After, after}
-use Rattle.lineformat.specs.Reading.{readRefusal, startOf, readPart}
-use Rattle.lineformat.specs.ReadingLaws.{stretch-length}
+use Rattle.line_file_spec.specs.Reading.{readRefusal, startOf, readPart}
+use Rattle.line_file_spec.specs.ReadingLaws.{stretch-length}
 use Rattle.capi.specs.declared.Outcome.{Outcome}
 use Rattle.capi.specs.Outcomes.{outcome, outcomeOf, stretchOf}
 use Rattle.capi.specs.Exports.{exported, inNumbers}
@@ -28,14 +28,14 @@ module _ (file : List ℕ) (n o f q s m : ℕ) (is : m ≡ readRefusal file n o 
 
   -- Where it gave none, the reader hands back a part of 7,424 bytes.
   module _ (part : List ℕ) (none : m ≡ 0) (handed : part ≡ readPart file n o f q s) where
-    pub part-length : length part ≡ 7424
-    part-length = ap length handed ∙ stretch-length file n o f q s (sym is ∙ none)
+    pub handed-length : length part ≡ 7424
+    handed-length = ap length handed ∙ stretch-length file n o f q s (sym is ∙ none)
 
-    pub part-fits : length part < 2 ^ 32
-    part-fits = omega (arith, part-length)
+    pub handed-fits : length part < 2 ^ 32
+    handed-fits = omega (arith, handed-length)
 
     pub stretch-done : (i : ℕ) → i ≡ startOf f q s → outcome 0 (length part) i ≡ stretchOf (readRefusal file n o f q s) f q s
     unfolding stretchOf
-    stretch-done i e = rw (part-length, e) (simp (eq-eqb _ 0 (sym is ∙ none)))
+    stretch-done i e = rw (handed-length, e) (simp (eq-eqb _ 0 (sym is ∙ none)))
 
-pub ruleset stretches = (stretch-refused, part-fits, stretch-done)
+pub ruleset stretches = (stretch-refused, handed-fits, stretch-done)

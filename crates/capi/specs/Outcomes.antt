@@ -6,8 +6,8 @@ use Prim.Native.Nat.{ℕ}
 use lib.Dec.{eqb}
 use Rattle.calls.specs.declared.Answer.{Answer}
 use Rattle.calls.specs.Answers.{refusalOf, indexOf, valueOr}
-use Rattle.lineformat.specs.declared.Header.{Header}
-use Rattle.lineformat.specs.Reading.{startOf}
+use Rattle.line_file_spec.specs.declared.Header.{Header}
+use Rattle.line_file_spec.specs.Reading.{startOf}
 use Rattle.capi.specs.declared.Outcome.{Outcome}
 use Rattle.capi.specs.declared.Line.{Line}
 
@@ -18,7 +18,8 @@ outcome r v i = record { refusal = r; value = v; index = i }
 abbrev pub outcomeOf : Answer → ℕ → Outcome
 outcomeOf a refused = outcome (refusalOf a) (valueOr a refused) (indexOf a)
 
-pub outcome-is : (a : Answer) (refused r v i : ℕ) → r ≡ refusalOf a → v ≡ valueOr a refused → i ≡ indexOf a → outcome r v i ≡ outcomeOf a refused
+pub outcome-is : (a : Answer) (refused r v i : ℕ) → r ≡ refusalOf a → v ≡ valueOr a refused → i ≡ indexOf a
+    → outcome r v i ≡ outcomeOf a refused
 outcome-is a refused r v i e f g = rw (e, f, g)
 
 -- A flag passed as a number: any but 0 is set.

@@ -1,15 +1,16 @@
-// The library for C and Rust: one exported function for each entry point, buffers as pointer and length. See include/ofec.h.
+// The library for C and Rust: one exported function for each entry point, buffers as pointer and length. See include/ofec.h. Over the
+// crates of calls (`word`, `pair`, `interleaver`, `cells`, `frame`, `line_file`).
 use calls::Answer;
 ghost use mathlib.Core.Path.{_≡_};
-ghost use Rattle.bch.specs.Calls.{repairCall};
-ghost use Rattle.ofec.specs.Calls.{encodeBuffers, encodeCall, receiveBuffers, receiveCall};
-ghost use Rattle.interleaving.specs.Calls.{interleave, pairBuffers, deinterleave};
-ghost use Rattle.cells.specs.Calls.{bitsToCells, cellsToBits};
-ghost use Rattle.cells.specs.Profiles.{qam16};
-ghost use Rattle.frames.specs.Calls.{frameCall, unframeCall};
-ghost use Rattle.lineformat.specs.Opening.{headerOf};
-ghost use Rattle.lineformat.specs.Reading.{readRefusal};
-ghost use Rattle.lineformat.specs.Writing.{writeCall};
+ghost use Rattle.word_spec.specs.Calls.{repairCall};
+ghost use Rattle.pair_spec.specs.Calls.{encodeBuffers, encodeCall, receiveBuffers, receiveCall};
+ghost use Rattle.interleaver_spec.specs.Calls.{interleave, pairBuffers, deinterleave};
+ghost use Rattle.cells_spec.specs.Calls.{bitsToCells, cellsToBits};
+ghost use Rattle.cells_spec.specs.Profiles.{qam16};
+ghost use Rattle.frame_spec.specs.Calls.{frameCall, unframeCall};
+ghost use Rattle.line_file_spec.specs.Opening.{headerOf};
+ghost use Rattle.line_file_spec.specs.Reading.{readRefusal};
+ghost use Rattle.line_file_spec.specs.Writing.{writeCall};
 ghost use Rattle.capi.specs.Outcomes.{outcomeOf, flag, lineOf, stretchOf};
 ghost use Rattle.capi.specs.Exports.{exported, inNumbers};
 
@@ -46,7 +47,7 @@ fn outcome_of(a: Answer, refused: u32) -> Outcome
 pub extern "C" fn ofec_repair_word(word: &mut [u8], front: u32) -> Outcome
     ensures { λ r. ⌜ exported r (now (word .exit)) ≡ inNumbers 0 (repairCall (now (word .entry)) (flag front)) ⌝ }
 {
-    outcome_of(checkword::repair_word(word, front != 0), 0)
+    outcome_of(word::repair_word(word, front != 0), 0)
 }
 
 // Encodes a pair. value: the next pair number, or the one lent in a refusal.
@@ -59,7 +60,7 @@ pub extern "C" fn ofec_encode_pair(
 ) -> Outcome
     ensures { λ r. ⌜ exported r (encodeBuffers (now (coded .exit)) (now (history .exit))) ≡ inNumbers pair (encodeCall (now (payload .entry)) (now (coded .entry)) (now (history .entry)) pair) ⌝ }
 {
-    outcome_of(codec::encode_pair(payload, coded, history, pair), pair)
+    outcome_of(pair::encode_pair(payload, coded, history, pair), pair)
 }
 
 // Receives a pair. value: the next pair number, or the one lent in a refusal.
@@ -74,7 +75,7 @@ pub extern "C" fn ofec_receive_pair(
     ensures { λ r. ⌜ exported r (receiveBuffers (now (payload .exit)) (now (marks .exit)) (now (history .exit))) ≡ inNumbers pair (receiveCall (now (coded .entry)) (now (payload .entry)) (now (marks .entry)) (now (history .entry)) pair) ⌝ }
 {
     outcome_of(
-        codec::receive_pair(coded, payload, marks, history, pair),
+        pair::receive_pair(coded, payload, marks, history, pair),
         pair,
     )
 }
@@ -100,7 +101,7 @@ pub extern "C" fn ofec_deinterleave(bits: &[u8], pairs0: &mut [u8], pairs1: &mut
 pub extern "C" fn ofec_bits_to_cells(bits: &[u8], cells: &mut [u8]) -> Outcome
     ensures { λ r. ⌜ exported r (now (cells .exit)) ≡ inNumbers 0 (bitsToCells qam16 (now (bits .entry)) (now (cells .entry))) ⌝ }
 {
-    outcome_of(symbols::bits_to_cells(bits, cells), 0)
+    outcome_of(cells::bits_to_cells(bits, cells), 0)
 }
 
 // Maps a buffer's cells back to bits.
@@ -108,7 +109,7 @@ pub extern "C" fn ofec_bits_to_cells(bits: &[u8], cells: &mut [u8]) -> Outcome
 pub extern "C" fn ofec_cells_to_bits(cells: &[u8], bits: &mut [u8]) -> Outcome
     ensures { λ r. ⌜ exported r (now (bits .exit)) ≡ inNumbers 0 (cellsToBits qam16 (now (cells .entry)) (now (bits .entry))) ⌝ }
 {
-    outcome_of(symbols::cells_to_bits(cells, bits), 0)
+    outcome_of(cells::cells_to_bits(cells, bits), 0)
 }
 
 // Frames a sub-frame.
@@ -121,7 +122,7 @@ pub extern "C" fn ofec_frame(
 ) -> Outcome
     ensures { λ r. ⌜ exported r (now (frame .exit)) ≡ inNumbers 0 (frameCall qam16 number (now (payload .entry)) (now (overhead .entry)) (now (frame .entry))) ⌝ }
 {
-    outcome_of(framing::frame(number, payload, overhead, frame), 0)
+    outcome_of(frame::frame(number, payload, overhead, frame), 0)
 }
 
 // Unframes a sub-frame. value: the number of overhead cells that differ from the lent list.
@@ -134,7 +135,7 @@ pub extern "C" fn ofec_unframe(
 ) -> Outcome
     ensures { λ r. ⌜ exported r (now (payload .exit)) ≡ inNumbers 0 (unframeCall qam16 number (now (frame .entry)) (now (overhead .entry)) (now (payload .entry))) ⌝ }
 {
-    outcome_of(framing::unframe(number, frame, overhead, payload), 0)
+    outcome_of(frame::unframe(number, frame, overhead, payload), 0)
 }
 
 // Opens a line file: its header's numbers, or zeros in a refusal.
@@ -142,7 +143,7 @@ pub extern "C" fn ofec_unframe(
 pub extern "C" fn ofec_open_line(file: &[u8]) -> Line
     ensures { λ r. ⌜ r ≡ lineOf (headerOf (now (file .entry))) ⌝ }
 {
-    let h = linefile::open_header(file);
+    let h = line_file::open_header(file);
     let a = h.answer;
     Line {
         refusal: calls::refusal_of(a),
@@ -165,7 +166,7 @@ pub extern "C" fn ofec_read_line(
 ) -> Outcome
     ensures { λ r. ⌜ r ≡ stretchOf (readRefusal (now (file .entry)) superframes overhead frames superframe subframe) frames superframe subframe ⌝ }
 {
-    let n = linefile::read_refusal_at(file, superframes, overhead, frames, superframe, subframe);
+    let n = line_file::read_refusal_at(file, superframes, overhead, frames, superframe, subframe);
     if n != 0 {
         return Outcome {
             refusal: n,
@@ -173,11 +174,11 @@ pub extern "C" fn ofec_read_line(
             index: 0,
         };
     }
-    let part = linefile::read_at(file, superframes, overhead, frames, superframe, subframe);
+    let part = line_file::read_at(file, superframes, overhead, frames, superframe, subframe);
     Outcome {
         refusal: 0,
         value: part.len() as u32,
-        index: linefile::start(frames, superframe, subframe) as u64,
+        index: line_file::start(frames, superframe, subframe) as u64,
     }
 }
 
@@ -186,5 +187,5 @@ pub extern "C" fn ofec_read_line(
 pub extern "C" fn ofec_write_header(superframes: u32, header: &mut [u8]) -> Outcome
     ensures { λ r. ⌜ exported r (now (header .exit)) ≡ inNumbers 0 (writeCall superframes (now (header .entry))) ⌝ }
 {
-    outcome_of(linefile::write_header(superframes, header), 0)
+    outcome_of(line_file::write_header(superframes, header), 0)
 }

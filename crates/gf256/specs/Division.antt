@@ -9,25 +9,25 @@ use native.Mathlib.Decide.{decLt}
 use borrow.Author.Tests.{lt-ltb, le-ltb}
 use Rattle.bits.specs.Xor.{_⊕_}
 use Rattle.bits.specs.XorLaws.{⊕-assoc, ⊕-shifted, sums}
-use Rattle.gf256.specs.Polynomials.{number, reduce}
-use Rattle.gf256.specs.Linear.{lin, units, lin-linear, agree, lin-top, double}
+use Rattle.gf256.specs.Polynomials.{polynomialNumber, reduce}
+use Rattle.gf256.specs.Linear.{lin, units, lin-linear, linear-agree, lin-top, double}
 
 pub reduce-low : (p : List ℕ) (d t : ℕ) → t < 2 ^ d → reduce p d t ≡ t
 unfolding reduce
 reduce-low p d t h = simp (lt-ltb t (2 ^ d) h)
 
-pub reduce-high : (p : List ℕ) (d t : ℕ) → 2 ^ d ≤ t → reduce p d t ≡ t ⊕ number p
+pub reduce-high : (p : List ℕ) (d t : ℕ) → 2 ^ d ≤ t → reduce p d t ≡ t ⊕ polynomialNumber p
 unfolding reduce
 reduce-high p d t h = simp (le-ltb t (2 ^ d) h)
 
 -- The register of k + 1 bits as a linear map with columns cs: the k lower bits double, and the top bit becomes the divisor's
 -- lower part.
 module _ (p cs : List ℕ) (k : ℕ) (doubles : map (lin cs) (units k) ≡ map (λ x. x * 2) (units k))
-    (over : lin cs (2 ^ k) ⊕ 2 ^ suc k ≡ number p) where
+    (over : lin cs (2 ^ k) ⊕ 2 ^ suc k ≡ polynomialNumber p) where
   low : (x : ℕ) → x < 2 ^ k → lin cs x ≡ x * 2
-  low x h = agree (lin-linear cs) double k doubles x h
+  low x h = linear-agree (lin-linear cs) double k doubles x h
 
-  high : (x : ℕ) → 2 ^ k ≤ x → x < 2 ^ suc k → lin cs x ⊕ 2 ^ suc k ≡ (x - 2 ^ k) * 2 ⊕ number p
+  high : (x : ℕ) → 2 ^ k ≤ x → x < 2 ^ suc k → lin cs x ⊕ 2 ^ suc k ≡ (x - 2 ^ k) * 2 ⊕ polynomialNumber p
   high x l h =
       ap (λ u. u ⊕ 2 ^ suc k) (lin-top cs k x l h ∙ ap (λ u. u ⊕ lin cs (2 ^ k)) (low (x - 2 ^ k) (omega (arith, pow-suc 2 k))))
       ∙ ⊕-assoc ((x - 2 ^ k) * 2) (lin cs (2 ^ k)) (2 ^ suc k) ∙ ap (λ u. (x - 2 ^ k) * 2 ⊕ u) over
@@ -55,6 +55,6 @@ module _ (p cs : List ℕ) (k : ℕ) (doubles : map (lin cs) (units k) ≡ map (
       go (no n) =
           let l : 2 ^ k ≤ x = omega arith in
           reduce-high p (suc k) (x * 2 + b) (omega (arith, pow-suc 2 k))
-          ∙ ap (λ u. u ⊕ number p) (sym (⊕-shifted x 1 b hb) ∙ ap (λ u. u ⊕ b) (top x l h))
-          ∙ regroup (2 ^ suc k) ((x - 2 ^ k) * 2) b (number p)
+          ∙ ap (λ u. u ⊕ polynomialNumber p) (sym (⊕-shifted x 1 b hb) ∙ ap (λ u. u ⊕ b) (top x l h))
+          ∙ regroup (2 ^ suc k) ((x - 2 ^ k) * 2) b (polynomialNumber p)
           ∙ ap (λ u. (2 ^ suc k ⊕ u) ⊕ b) (sym (high x l h)) ∙ ap (λ u. u ⊕ b) (undo (lin cs x) (2 ^ suc k))

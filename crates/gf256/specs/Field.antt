@@ -7,7 +7,7 @@ use Prim.Native.Nat.{ℕ, zero, suc, _*_, _/_, _%_, _<_}
 use native.Mathlib.Nat.{mod-lt, zero-lt-suc, add-zero}
 use Rattle.bits.specs.Xor.{_⊕_}
 use Rattle.bits.specs.XorLaws.{⊕-zero, sums, bit-times-⊕}
-use Rattle.gf256.specs.Polynomials.{number}
+use Rattle.gf256.specs.Polynomials.{polynomialNumber}
 use Rattle.gf256.specs.Powers.{firstFactor, timesA}
 use Rattle.gf256.specs.Linear.{lin, lin-zero, lin-linear, lin-map, lin-⊕, lin-units, lin-lin, additive, units, Linear}
 use Rattle.gf256.specs.Division.{step-linear}
@@ -20,8 +20,9 @@ unfoldable pub shiftA : ℕ → ℕ
 shiftA x = lin a-columns x
 
 pub timesA-shiftA : (x : ℕ) → x < 256 → timesA x ≡ shiftA x
-unfolding timesA firstFactor shiftA a-columns lin units number _⊕_
-timesA-shiftA x h = rw (sym (add-zero (x * 2))) (step-linear firstFactor a-columns 7 refl refl x 0 h (zero-lt-suc 1) ∙ ⊕-zero (lin a-columns x))
+unfolding timesA firstFactor shiftA a-columns lin units polynomialNumber _⊕_
+timesA-shiftA x h =
+    rw (sym (add-zero (x * 2))) (step-linear firstFactor a-columns 7 refl refl x 0 h (zero-lt-suc 1) ∙ ⊕-zero (lin a-columns x))
 
 pub shiftA-linear : Linear shiftA
 unfolding shiftA

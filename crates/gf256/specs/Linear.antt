@@ -116,8 +116,8 @@ lin-lt k (c ∷ cs) t x =
     (lin-lt k cs (both-right (ltb c (2 ^ k)) (allBelow (2 ^ k) cs) t) (x / 2))
 
 -- Two linear maps that agree on the units agree on all numbers of n bits.
-pub agree : {f g : ℕ → ℕ} → Linear f → Linear g → (n : ℕ) → map f (units n) ≡ map g (units n) → (x : ℕ) → x < 2 ^ n → f x ≡ g x
-agree {f} {g} F G n e x h =
+pub linear-agree : {f g : ℕ → ℕ} → Linear f → Linear g → (n : ℕ) → map f (units n) ≡ map g (units n) → (x : ℕ) → x < 2 ^ n → f x ≡ g x
+linear-agree {f} {g} F G n e x h =
     ap f (sym (lin-units n x h)) ∙ lin-map F (units n) x ∙ ap (λ l. lin l x) e ∙ sym (lin-map G (units n) x)
     ∙ ap g (lin-units n x h)
 

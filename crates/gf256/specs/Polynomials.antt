@@ -12,9 +12,9 @@ coefficient [] k = 0
 coefficient (p ∷ ps) k = cond (eqb p k) 1 (coefficient ps k)
 
 -- It as a number whose bit k is the coefficient of y^k.
-unfoldable pub number : List ℕ → ℕ
-number [] = 0
-number (p ∷ ps) = 2 ^ p + number ps
+unfoldable pub polynomialNumber : List ℕ → ℕ
+polynomialNumber [] = 0
+polynomialNumber (p ∷ ps) = 2 ^ p + polynomialNumber ps
 
 -- The coefficient of y^k in the product of two polynomials, written out: f 0 h k + f 1 h (k - 1) + .. + f k h 0 over GF(2).
 unfoldable pub product : (ℕ → ℕ) → (ℕ → ℕ) → ℕ → ℕ
@@ -22,4 +22,4 @@ product f h k = xorSum (suc k) (λ i. f i * h (k - i))
 
 -- A step of long division: where y^d stands in t, the divisor p of degree d is taken away.
 unfoldable pub reduce : List ℕ → ℕ → ℕ → ℕ
-reduce p d t = cond (ltb t (2 ^ d)) t (t ⊕ number p)
+reduce p d t = cond (ltb t (2 ^ d)) t (t ⊕ polynomialNumber p)

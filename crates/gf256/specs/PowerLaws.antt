@@ -10,10 +10,11 @@ use lib.Dec.{ltb, ltb→lt}
 use lib.ListN.{getD}
 use Rattle.bits.specs.Tests.{each, agree}
 use Rattle.bits.specs.Xor.{_⊕_}
-use Rattle.gf256.specs.Polynomials.{number, reduce}
+use Rattle.gf256.specs.Polynomials.{polynomialNumber, reduce}
 use Rattle.gf256.specs.Powers.{firstFactor, timesA}
 use Rattle.gf256.specs.Linear.{lin, units, lin-lt}
-use Rattle.gf256.specs.Field.{shiftA, a-columns, timesA-shiftA, shiftA-linear, byte, byte-id, byte-·, orbit, _·_, ·-comm, ·-one, ·-shiftA, shiftA-·, ·-assoc, zero-·, cube, cube-zero, cube-shiftA}
+use Rattle.gf256.specs.Field.{shiftA, a-columns, timesA-shiftA, shiftA-linear, byte, byte-id, byte-·, orbit, _·_, ·-comm, ·-one}
+use Rattle.gf256.specs.Field.{·-shiftA, shiftA-·, ·-assoc, zero-·, cube, cube-zero, cube-shiftA}
 use Rattle.gf256.specs.Tables.{powers, logs, cubed}
 
 -- ---- the rule of the table of powers, computed once over all entries
@@ -24,7 +25,7 @@ unfolding powers
 powers-first = refl
 
 pub powers-step : (k : ℕ) → k < 254 → getD powers (suc k) 0 ≡ timesA (getD powers k 0)
-unfolding powers timesA firstFactor reduce number _⊕_
+unfolding powers timesA firstFactor reduce polynomialNumber _⊕_
 powers-step = agree 254 (λ k. getD powers (suc k) 0) (λ k. timesA (getD powers k 0)) tt
 
 powers-lt : (k : ℕ) → k < 255 → getD powers k 0 < 256
@@ -63,7 +64,8 @@ ends zero j e =
     ∙ byte-id (getD powers j 0) (powers-lt j (omega arith)) ∙ ap (λ k. getD powers k 0) (sym (zero-add j) ∙ e)
 ends (suc i) j e =
     ap (λ u. u · getD powers j 0) (sym (powers-next i (omega arith))) ∙ shiftA-· (getD powers i 0) (getD powers j 0)
-    ∙ sym (·-shiftA (getD powers i 0) (getD powers j 0)) ∙ ap (λ u. getD powers i 0 · u) (powers-next j (omega arith)) ∙ ends i (suc j) (omega arith)
+    ∙ sym (·-shiftA (getD powers i 0) (getD powers j 0)) ∙ ap (λ u. getD powers i 0 · u) (powers-next j (omega arith))
+    ∙ ends i (suc j) (omega arith)
 
 -- An entry can be divided out.
 divide : (i j x : ℕ) → i + j ≡ 254 → x · getD powers i 0 ≡ 0 → byte x ≡ 0

@@ -1,4 +1,4 @@
-// GF(256): the table of the powers of a, a root of y^8+y^4+y^3+y^2+1, and what is read off it.
+// GF(256): the table of the powers of a, a root of y^8+y^4+y^3+y^2+1, and what is read off it. Over `bits`, below `word_spec`.
 mod tables;
 
 ghost use mathlib.Core.Path.{_≡_};

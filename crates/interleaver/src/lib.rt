@@ -1,13 +1,14 @@
-// The interleaver: 21 pairs of each encoder to the bits of a buffer, and back.
+// The calls `interleave` and `deinterleave`: 21 pairs of each encoder to the bits of a buffer, and back (01, "Interleaver"). Over
+// `interleaver_core`, by the definitions of `interleaver_spec`.
 ghost use mathlib.Core.Path.{_≡_};
 ghost use Rattle.calls.specs.Calls.{after};
-ghost use Rattle.interleaving.specs.Calls.{interleave, parted, deinterleave};
-use blockrows::joining::reordered_rows;
-use blockrows::joining::write_bits;
-use blockrows::taking_apart::restored_rows;
-use blockrows::taking_apart::write_pairs;
+ghost use Rattle.interleaver_spec.specs.Calls.{interleave, parted, deinterleave};
 use calls::Answer;
 use calls::Refusal;
+use interleaver_core::joining::reordered_rows;
+use interleaver_core::joining::write_bits;
+use interleaver_core::taking_apart::restored_rows;
+use interleaver_core::taking_apart::write_pairs;
 
 // Interleaves 21 pairs of each encoder, 10,752 bytes each, to 21,504 bytes.
 pub fn interleave(pairs0: &[u8], pairs1: &[u8], bits: &mut [u8]) -> Answer

@@ -31,7 +31,7 @@ fn prepare(
         message::line(OVERHEAD, b"the file ended early");
         return MISFIT;
     }
-    let refusal = calls::refusal_of(linefile::write_header(superframes, header));
+    let refusal = calls::refusal_of(line_file::write_header(superframes, header));
     if refusal != 0 {
         inputs::say_too_many(inputs);
     }
@@ -47,7 +47,7 @@ fn say_illegal(index: usize) {
 fn write_parts(inputs: Inputs, superframes: u32, header: &[u8], overhead: &[u8], out: i32) -> u32
     requires { ⌜ (superframes ≤ 65) × (length (now overhead) ≡ 12288) ⌝ }
 {
-    let illegal = mapper::legal::first_illegal(overhead);
+    let illegal = cells_core::legal::first_illegal(overhead);
     if illegal < overhead.len() {
         say_illegal(illegal);
         return calls::refusal_of(Answer::Refused(Refusal::OffGrid(illegal)));

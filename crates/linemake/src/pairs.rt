@@ -28,7 +28,7 @@ fn read_and_encode(
     if !read_next(argument, file, payload) {
         return MISFIT;
     }
-    stream::encode(168, payload, first, history, coded);
+    pair_stream::encode(168, payload, first, history, coded);
     0
 }
 

@@ -8,7 +8,7 @@ use libc::STDERR_FILENO;
 ghost use mathlib.Core.Path.{_≡_};
 ghost use Prim.Native.Nat.{_≤_, _<_};
 ghost use lib.ListN.{length};
-ghost use Rattle.cells.specs.Cells.{overheadRule, Legal};
+ghost use Rattle.cells_spec.specs.Cells.{overheadRule, Legal};
 
 // Says how far it is.
 fn say(done: u32, of: u32) {

@@ -1,7 +1,7 @@
 // The files that are read: the line file, for its overhead list, and the capture, for its frames.
 use crate::say;
 use files::message;
-use lineformat::Header;
+use line_file_spec::Header;
 ghost use Prim.Native.Nat.{_≤_};
 
 // The refusal of a file that cannot be opened, read or written.
@@ -25,7 +25,7 @@ pub struct Input {
 fn header(first: &[u8; 16], size: usize) -> Header
     ensures { λ h. ⌜ h .superframes ≤ 64 ⌝ }
 {
-    lineheader::rules::judge(first, size)
+    line_file_core::rules::judge(first, size)
 }
 
 // Judges the header of an open file, and says why it is refused.

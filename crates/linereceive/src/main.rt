@@ -1,5 +1,6 @@
 // Receives a capture of a line, super-frame by super-frame, with the overhead list of the line file; writes payload and marks of both
 // receivers, and prints what these and the overhead cells show: linereceive LINE CAPTURE PAYLOAD0 PAYLOAD1 MARKS0 MARKS1.
+// Over `marks`, `cells_core`, `pair_stream`, `superframe`, `line_file_core`, `report` and `files`.
 mod inputs;
 mod outputs;
 mod receiving;
@@ -24,7 +25,7 @@ const UNEQUAL: u32 = 12;
 fn receive_with(line: Input, capture: Input, list: &[u8; 12288], outputs: Descriptors) -> Received
     requires { ⌜ capture .superframes ≤ 64 ⌝ }
 {
-    let illegal = mapper::legal::first_illegal(list);
+    let illegal = cells_core::legal::first_illegal(list);
     if illegal < 12288 {
         say::illegal(LINE, line.overhead as usize + illegal);
         return refused(OFF_GRID);

@@ -84,7 +84,7 @@ fn receive_and_write(
     ensures { λ r. ⌜ (r .flips < 4294967296) × (r .lost < 4294967296) ⌝ }
 {
     let mut marks = [0u8; 5376];
-    stream::receive(168, pairs, first, history, payload, &mut marks);
+    pair_stream::receive(168, pairs, first, history, payload, &mut marks);
     if !put(payload_file, payload, b"payload file") {
         return refused(MISFIT);
     }

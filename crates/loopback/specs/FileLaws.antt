@@ -14,18 +14,19 @@ use Rattle.bits.specs.Parts.{part, byteOfEach, endToEnd}
 use Rattle.bits.specs.PartLaws.{each-block}
 use Rattle.calls.specs.declared.Answer.{Answer}
 use Rattle.calls.specs.Calls.{After, after}
-use Rattle.lineformat.specs.Opening.{openCall}
-use Rattle.lineformat.specs.Reading.{readRefusalIn, readPartIn}
-use Rattle.lineformat.specs.ReadingLaws.{stretch-length}
-use Rattle.lineformat.specs.Writing.{numbersFor, headerBytes, writeCall}
-use Rattle.lineformat.specs.WritingLaws.{headerBytes-length, write-done, written-reads, written-whole}
+use Rattle.line_file_spec.specs.Opening.{openCall}
+use Rattle.line_file_spec.specs.Reading.{readRefusalIn, readPartIn}
+use Rattle.line_file_spec.specs.ReadingLaws.{stretch-length}
+use Rattle.line_file_spec.specs.Writing.{numbersFor, headerBytes, writeCall}
+use Rattle.line_file_spec.specs.WritingLaws.{headerBytes-length, write-done, written-reads, written-whole}
 use Rattle.loopback.specs.File.{takenWhen}
 use Rattle.loopback.specs.Line.{lineFile}
 
 -- ---- the file
 
 -- Overhead list and header, written in front of what stands there.
-pub file-begun : (d xs ys lent list : List ℕ) (r : Answer) → length d ≡ 368656 → xs ≡ list → length lent ≡ 16 → after r ys ≡ writeCall 1 lent
+pub file-begun : (d xs ys lent list : List ℕ) (r : Answer) → length d ≡ 368656 → xs ≡ list → length lent ≡ 16
+    → after r ys ≡ writeCall 1 lent
     → putMid 0 16 (putMid 16 12288 d xs) ys ≡ lineFile list (drop 12304 d)
 unfolding lineFile
 file-begun d xs ys lent list r ld ex l w =
@@ -35,7 +36,8 @@ file-begun d xs ys lent list r ld ex l w =
     is = ap (λ (x : After (List ℕ)). x .written) (w ∙ sym (write-done 1 lent (headerBytes (numbersFor 1)) l (omega arith) (omega arith) refl))
 
 -- The frames were written before.
-pub file-sent : (d d′ xs list line : List ℕ) → length d ≡ 368656 → xs ≡ line → d′ ≡ lineFile list (drop 12304 (putMid 12304 356352 d xs)) → d′ ≡ lineFile list line
+pub file-sent : (d d′ xs list line : List ℕ) → length d ≡ 368656 → xs ≡ line → d′ ≡ lineFile list (drop 12304 (putMid 12304 356352 d xs))
+    → d′ ≡ lineFile list line
 file-sent d d′ xs list line l ex e =
     e ∙ ap (lineFile list)
     (drop-at (take 12304 d) (xs ++ drop 356352 (drop 12304 d)) 12304 (length-take-le 12304 d (omega arith)) ∙ ap₂ _++_ ex none ∙ append-nil line)
@@ -68,7 +70,8 @@ module _ (file frame : List ℕ) (s m : ℕ) (is : m ≡ readRefusalIn (openCall
     pub frame-fits : length frame ≡ 7424 → length frame ≡ length got
     frame-fits l = l ∙ sym (ap length e ∙ stretch-length _ _ _ _ 0 s (sym is ∙ none))
 
-    pub frame-taken : (after : List ℕ) → after ≡ got → after ≡ takenWhen (readRefusalIn (openCall file) 0 s) (readPartIn (openCall file) 0 s) frame
+    pub frame-taken : (after : List ℕ) → after ≡ got
+        → after ≡ takenWhen (readRefusalIn (openCall file) 0 s) (readPartIn (openCall file) 0 s) frame
     unfolding takenWhen
     frame-taken after ea = ea ∙ e ∙ simp (eq-eqb _ 0 (sym is ∙ none))
 
@@ -81,10 +84,11 @@ pub ruleset frame-read = (frame-fits, frame-taken, frame-left)
 -- ---- all of them, of a file that starts with the header
 
 module _ (file : List ℕ) (starts : take 16 file ≡ headerBytes (numbersFor 1)) (long : length file ≡ 368656) where
-  pub frame-block : (s : ℕ) (ys lent : List ℕ) → s < 48 → ys ≡ takenWhen (readRefusalIn (openCall file) 0 s) (readPartIn (openCall file) 0 s) lent
+  pub file-frame-block : (s : ℕ) (ys lent : List ℕ) → s < 48
+      → ys ≡ takenWhen (readRefusalIn (openCall file) 0 s) (readPartIn (openCall file) 0 s) lent
       → ys ≡ tabulate 7424 (λ i. byteOfEach 7424 (readPartIn (openCall file) 0) (s * 7424 + i))
   unfolding takenWhen
-  frame-block s ys lent l e =
+  file-frame-block s ys lent l e =
       let accepted : readRefusalIn (openCall file) 0 s ≡ 0 = written-reads 1 file (omega arith) (omega arith) starts long 0 s (omega arith) (omega arith) in
       let is : ys ≡ readPartIn (openCall file) 0 s = e ∙ simp (eq-eqb _ 0 accepted) in
       each-block (readPartIn (openCall file) 0) 7424 s ys (lit< tt) (ap length is ∙ stretch-length _ _ _ _ 0 s accepted) is

@@ -12,23 +12,23 @@ use Rattle.bits.specs.PartLaws.{part-length, endToEnd-length, endToEnd-at, each
 use Rattle.calls.specs.declared.Answer.{Answer}
 use Rattle.calls.specs.declared.Answer.the-variants.{Done}
 use Rattle.calls.specs.Answers.{valueOr}
-use Rattle.interleaving.specs.Calls.{Apart, parted}
-use Rattle.cells.specs.Profile.{Profile, cellsPerBuffer}
-use Rattle.cells.specs.Profiles.{qam16}
-use Rattle.cells.specs.ProfileLaws.{buffer-whole}
-use Rattle.cells.specs.Cells.{overheadRule, Legal}
-use Rattle.cells.specs.CellLaws.{none-illegal}
-use Rattle.frames.specs.Frames.{payloadCells, payloadStart, ownOverhead, frameRule}
-use Rattle.frames.specs.FrameLaws.{framed-length, framed-legal, own-length, own-legal}
-use Rattle.superframes.specs.Superframe.{payload, subFrame, frames, superframe}
-use Rattle.superframes.specs.SuperframeLaws.{part-legal, payload-legal, payload-within}
-use Rattle.superframes.specs.Apart.{takenCells, takenPairs, differingAll, lineRule, takeApart}
-use Rattle.superframes.specs.ApartLaws.{apart-done}
+use Rattle.interleaver_spec.specs.Calls.{Apart, parted}
+use Rattle.cells_spec.specs.Profile.{Profile, cellsPerBuffer}
+use Rattle.cells_spec.specs.Profiles.{qam16}
+use Rattle.cells_spec.specs.ProfileLaws.{buffer-whole}
+use Rattle.cells_spec.specs.Cells.{overheadRule, Legal}
+use Rattle.cells_spec.specs.CellLaws.{none-illegal}
+use Rattle.frame_spec.specs.Frames.{payloadCells, payloadStart, ownOverhead, frameRule}
+use Rattle.frame_spec.specs.FrameLaws.{framed-length, framed-legal, own-length, own-legal}
+use Rattle.superframe_spec.specs.Superframe.{payload, subFrame, framesEndToEnd, superframe}
+use Rattle.superframe_spec.specs.SuperframeLaws.{part-legal, payload-legal, payload-within}
+use Rattle.superframe_spec.specs.Apart.{takenCells, takenPairs, differingAll, lineRule, takeApart}
+use Rattle.superframe_spec.specs.ApartLaws.{apart-done}
 use Rattle.loopback.specs.Noise.{damaged}
 use Rattle.loopback.specs.NoiseLaws.{damaged-legal}
 use Rattle.loopback.specs.FileLaws.{file-list, file-line}
-use Rattle.loopback.specs.Tally.{plus}
-use Rattle.loopback.specs.Line.{lineFile, takenOff, lineOf, pairsOff, lineIn, allOff, lineCounted}
+use Rattle.loopback.specs.Tally.{tallySum}
+use Rattle.loopback.specs.Line.{lineFile, takenOff, damagedLine, pairsOff, lineIn, allOff, lineCounted}
 
 -- ---- legal
 
@@ -52,7 +52,7 @@ module _ (p : Profile) (pairs0 pairs1 list : List ℕ) (ll : length list ≡ 122
       fits = omega (arith, payload-within s ls, cells-long)
 
   pub superframe-legal : Legal (lineRule p) (superframe p pairs0 pairs1 list)
-  unfolding superframe frames subFrame lineRule
+  unfolding superframe framesEndToEnd subFrame lineRule
   superframe-legal =
       record {
         legal = λ k lk.
@@ -67,18 +67,19 @@ module _ (p : Profile) (pairs0 pairs1 list : List ℕ) (ll : length list ≡ 122
 
 -- ---- one super-frame
 
-pub line-made : (list : List ℕ) (q : ℕ) (coded0 coded1 a b : List ℕ) → a ≡ superframe qam16 coded0 coded1 list → b ≡ damaged q a → b ≡ lineOf list q coded0 coded1
-unfolding lineOf
+pub line-made : (list : List ℕ) (q : ℕ) (coded0 coded1 a b : List ℕ) → a ≡ superframe qam16 coded0 coded1 list → b ≡ damaged q a
+    → b ≡ damagedLine list q coded0 coded1
+unfolding damagedLine
 line-made list q coded0 coded1 a b e f = f ∙ ap (damaged q) e
 
 -- What comes off a line file that has the damaged frames of coded pairs.
-module _ (q : ℕ) (coded0 coded1 list file got0 got1 x y : List ℕ) (r : Answer) (is : file ≡ lineFile list (lineOf list q coded0 coded1)) (lf : length file ≡ 368656)
+module _ (q : ℕ) (coded0 coded1 list file got0 got1 x y : List ℕ) (r : Answer) (is : file ≡ lineFile list (damagedLine list q coded0 coded1)) (lf : length file ≡ 368656)
     (ll : length list ≡ 12288) (hl : Legal overheadRule list) (t : parted r x y ≡ takenOff file got0 got1) where
   abbrev line : List ℕ
-  line = lineOf list q coded0 coded1
+  line = damagedLine list q coded0 coded1
 
   legal : Legal (lineRule qam16) line
-  unfolding lineOf
+  unfolding damagedLine
   legal = damaged-legal q (superframe qam16 coded0 coded1 list) (superframe-legal qam16 coded0 coded1 list ll hl)
 
   taken : parted r x y ≡ parted (Done (differingAll line list)) (takenPairs qam16 (takenCells line) 0) (takenPairs qam16 (takenCells line) 1)
@@ -89,30 +90,32 @@ module _ (q : ℕ) (coded0 coded1 list file got0 got1 x y : List ℕ) (r : Answe
       (apart-done qam16 line list got0 got1 _ refl (none-illegal overheadRule list hl) _ refl (none-illegal (lineRule qam16) line legal) _ refl)
 
   -- The differing cells and both encoders' pairs.
-  pub carried : (v : ℕ) → v ≡ valueOr r 0
-      → (v ≡ differingAll (lineOf list q coded0 coded1) list) × (x ≡ pairsOff (lineOf list q coded0 coded1) 0) × (y ≡ pairsOff (lineOf list q coded0 coded1) 1)
+  pub line-carried : (v : ℕ) → v ≡ valueOr r 0
+      → (v ≡ differingAll (damagedLine list q coded0 coded1) list) × (x ≡ pairsOff (damagedLine list q coded0 coded1) 0) × (y ≡ pairsOff (damagedLine list q coded0 coded1) 1)
   unfolding pairsOff
-  carried v e = (e ∙ ap (λ (a : Apart). valueOr (a .answer) 0) taken, ap (λ (a : Apart). a .written .pairs0) taken, ap (λ (a : Apart). a .written .pairs1) taken)
+  line-carried v e = (e ∙ ap (λ (a : Apart). valueOr (a .answer) 0) taken, ap (λ (a : Apart). a .written .pairs0) taken, ap (λ (a : Apart). a .written .pairs1) taken)
 
 -- ---- super-frames end to end
 
 module _ (list sent0 sent1 : List ℕ) (q a e : ℕ) (ea : a ≡ q * 86016) (ee : e ≡ a + 86016) where
-  own-line : lineOf list q (part a (e - a) sent0) (part a (e - a) sent1) ≡ lineIn list sent0 sent1 q
+  own-line : damagedLine list q (part a (e - a) sent0) (part a (e - a) sent1) ≡ lineIn list sent0 sent1 q
   unfolding lineIn
-  own-line = let size : e - a ≡ 86016 = omega arith in ap₂ (λ x y. lineOf list q (part x y sent0) (part x y sent1)) ea size
+  own-line = let size : e - a ≡ 86016 = omega arith in ap₂ (λ x y. damagedLine list q (part x y sent0) (part x y sent1)) ea size
 
-  pub off-block : (c : ℕ) (ys : List ℕ) → ys ≡ pairsOff (lineOf list q (part a (e - a) sent0) (part a (e - a) sent1)) c
+  pub off-block : (c : ℕ) (ys : List ℕ) → ys ≡ pairsOff (damagedLine list q (part a (e - a) sent0) (part a (e - a) sent1)) c
       → ys ≡ tabulate 86016 (λ i. byteOfEach 86016 (λ s. pairsOff (lineIn list sent0 sent1 s) c) (q * 86016 + i))
   unfolding pairsOff takenPairs qam16
   off-block c ys is =
       each-block (λ s. pairsOff (lineIn list sent0 sent1 s) c) 86016 q ys (lit< tt) (ap length is ∙ endToEnd-length 8 10752 _) (is ∙ ap (λ l. pairsOff l c) own-line)
 
-  pub line-counted : (n : ℕ) (d d′ : List ℕ) → n ≡ differingAll (lineOf list q (part a (e - a) sent0) (part a (e - a) sent1)) list → d′ ≡ plus 7 n d
+  pub line-counted : (n : ℕ) (d d′ : List ℕ) → n ≡ differingAll (damagedLine list q (part a (e - a) sent0) (part a (e - a) sent1)) list
+      → d′ ≡ tallySum 7 n d
       → d′ ≡ lineCounted list sent0 sent1 q d
   unfolding lineCounted
-  line-counted n d d′ en is = is ∙ ap (λ m. plus 7 m d) (en ∙ ap (λ l. differingAll l list) own-line)
+  line-counted n d d′ en is = is ∙ ap (λ m. tallySum 7 m d) (en ∙ ap (λ l. differingAll l list) own-line)
 
-pub off-whole : (list sent0 sent1 : List ℕ) (e : ℕ) (d : List ℕ) → d ≡ tabulate 172032 (byteOfEach 86016 (λ q. pairsOff (lineIn list sent0 sent1 q) e))
+pub off-whole : (list sent0 sent1 : List ℕ) (e : ℕ) (d : List ℕ)
+    → d ≡ tabulate 172032 (byteOfEach 86016 (λ q. pairsOff (lineIn list sent0 sent1 q) e))
     → d ≡ allOff list sent0 sent1 e
 unfolding allOff endToEnd
 off-whole list sent0 sent1 e d is = is
@@ -122,10 +125,12 @@ unfolding endToEnd
 whole m w f d e = e
 
 -- What is taken off a file is taken off the frames and the list in it.
-pub taken-of : (a : Apart) (file frames list pairs0 pairs1 : List ℕ) → a ≡ takeApart qam16 frames list pairs0 pairs1 → frames ≡ part 12304 356352 file
+pub taken-of : (a : Apart) (file framesEndToEnd list pairs0 pairs1 : List ℕ) → a ≡ takeApart qam16 framesEndToEnd list pairs0 pairs1
+    → framesEndToEnd ≡ part 12304 356352 file
     → list ≡ part 16 12288 file → a ≡ takenOff file pairs0 pairs1
 unfolding takenOff
-taken-of a file frames list pairs0 pairs1 is ef el = is ∙ ap₂ (λ x y. takeApart qam16 x y pairs0 pairs1) ef el
+taken-of a file framesEndToEnd list pairs0 pairs1 is ef el = is ∙ ap₂ (λ x y. takeApart qam16 x y pairs0 pairs1) ef el
 
-pub off-list : (list known sent0 sent1 : List ℕ) (e : ℕ) (d : List ℕ) → list ≡ known → d ≡ allOff list sent0 sent1 e → d ≡ allOff known sent0 sent1 e
+pub off-list : (list known sent0 sent1 : List ℕ) (e : ℕ) (d : List ℕ) → list ≡ known → d ≡ allOff list sent0 sent1 e
+    → d ≡ allOff known sent0 sent1 e
 off-list list known sent0 sent1 e d el is = is ∙ ap (λ l. allOff l sent0 sent1 e) el

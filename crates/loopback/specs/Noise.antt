@@ -3,8 +3,8 @@
 use mathlib.Core.List.{List}
 use Prim.Native.Nat.{ℕ, _+_, _-_, _*_, _/_, _%_}
 use lib.ListN.{getD, set}
-use Rattle.frames.specs.Frames.{subFrameOf, cellOf}
-use Rattle.loopback.specs.Steps.{each}
+use Rattle.frame_spec.specs.Frames.{subFrameOf, cellOf}
+use Rattle.loopback.specs.Steps.{eachStep}
 
 -- A cell replaced: X turned round, Y any.
 unfoldable pub replaced : ℕ → ℕ → List ℕ → List ℕ
@@ -31,4 +31,4 @@ strikeCell c s line = replaced (s * 3712 + c) s line
 -- 48 or 16.
 unfoldable pub damaged : ℕ → List ℕ → List ℕ
 damaged q line =
-    each (48 - q * 32) (strikeCell 160) (each (48 - q * 32) (strikeCell 1) (each 48 (strikeCell 128) (each 48 (strikeCell 0) (each 80 (strike q) line))))
+    eachStep (48 - q * 32) (strikeCell 160) (eachStep (48 - q * 32) (strikeCell 1) (eachStep 48 (strikeCell 128) (eachStep 48 (strikeCell 0) (eachStep 80 (strike q) line))))

@@ -13,11 +13,11 @@ use lib.Seq.{getD-set-same, getD-set-other}
 use mir.Syntax.{w64}
 use mir.Val.{Fits}
 use Rattle.bits.specs.TestLaws.{either}
-use Rattle.cells.specs.Profiles.{qam16}
-use Rattle.cells.specs.Cells.{Legal}
-use Rattle.frames.specs.Frames.{isOverhead, cellRule, frameRule}
-use Rattle.superframes.specs.Apart.{lineRule}
-use Rattle.loopback.specs.Steps.{each}
+use Rattle.cells_spec.specs.Profiles.{qam16}
+use Rattle.cells_spec.specs.Cells.{Legal}
+use Rattle.frame_spec.specs.Frames.{isOverhead, cellRule, frameRule}
+use Rattle.superframe_spec.specs.Apart.{lineRule}
+use Rattle.loopback.specs.Steps.{eachStep}
 use Rattle.loopback.specs.StepLaws.{Stepping, step-more, each-keeps}
 use Rattle.loopback.specs.Noise.{replaced, struck, carrier, strike, strikeCell, damaged}
 
@@ -49,13 +49,15 @@ pub strike-more : (q : ℕ) (before d : List ℕ) (v : ℕ) (d′ : List ℕ) (x
 unfolding strike
 strike-more q before d v d′ x cell s l ex ec is = step-more d′ s l (is ∙ ap (λ c. replaced c ((q * 80 + v) * 7) d) (ec ∙ ap carrier ex))
 
-pub strike-cell : (c n : ℕ) (before d : List ℕ) (s : ℕ) (d′ : List ℕ) → Stepping (strikeCell c) n before s d → s < n → d′ ≡ replaced (s * 3712 + c) s d
+pub strike-cell : (c n : ℕ) (before d : List ℕ) (s : ℕ) (d′ : List ℕ) → Stepping (strikeCell c) n before s d → s < n
+    → d′ ≡ replaced (s * 3712 + c) s d
     → Stepping (strikeCell c) n before (s + 1) d′
 unfolding strikeCell
 strike-cell c n before d i d′ s l is = step-more d′ s l is
 
-pub damaged-is : (q : ℕ) (a b c d e f : List ℕ) → b ≡ each 80 (strike q) a → c ≡ each 48 (strikeCell 0) b → d ≡ each 48 (strikeCell 128) c
-    → e ≡ each (48 - q * 32) (strikeCell 1) d → f ≡ each (48 - q * 32) (strikeCell 160) e → f ≡ damaged q a
+pub damaged-is : (q : ℕ) (a b c d e f : List ℕ) → b ≡ eachStep 80 (strike q) a → c ≡ eachStep 48 (strikeCell 0) b
+    → d ≡ eachStep 48 (strikeCell 128) c
+    → e ≡ eachStep (48 - q * 32) (strikeCell 1) d → f ≡ eachStep (48 - q * 32) (strikeCell 160) e → f ≡ damaged q a
 unfolding damaged
 damaged-is q a b c d e f eb ec ed ee ef = cc
 
@@ -79,7 +81,7 @@ unfolding replaced
 replaced-legal cell y d h =
     set-legal _ _ _ _ (below-legal (y % 16) (omega arith)) (set-legal _ _ _ _ (below-legal (15 - getD d (cell * 2) 0 % 16) (omega arith)) h)
 
-cell-legal : (c n : ℕ) (d : List ℕ) → Legal (lineRule qam16) d → Legal (lineRule qam16) (each n (strikeCell c) d)
+cell-legal : (c n : ℕ) (d : List ℕ) → Legal (lineRule qam16) d → Legal (lineRule qam16) (eachStep n (strikeCell c) d)
 unfolding strikeCell
 cell-legal c n d h = each-keeps (Legal (lineRule qam16)) (strikeCell c) (λ i. replaced-legal (i * 3712 + c) i) n d h
 

@@ -15,7 +15,7 @@ use Rattle.bits.specs.Lists.{tabulate}
 use Rattle.bits.specs.ListLaws.{length-tabulate, getD-tabulate}
 use Rattle.bits.specs.Parts.{byteOfEach, endToEnd}
 use Rattle.bits.specs.PartLaws.{each-block}
-use Rattle.cells.specs.Cells.{overheadRule, Legal}
+use Rattle.cells_spec.specs.Cells.{overheadRule, Legal}
 use Rattle.loopback.specs.Random.{stateAt, drawn, pairPayload, payloadIn, drawnList}
 
 -- The first i of n bytes are drawn.
@@ -24,7 +24,8 @@ pub record Drawing (stream d n i state : ℕ) (buffer : List ℕ) : Type 0 where
   pub is : state ≡ stateAt stream i
   pub small : state < 8589934592
 
-pub draw-none : (stream d n : ℕ) (buffer : List ℕ) → length buffer ≡ n → stream < 4294967296 → Drawing stream d n 0 (20251115 + stream) buffer
+pub draw-none : (stream d n : ℕ) (buffer : List ℕ) → length buffer ≡ n → stream < 4294967296
+    → Drawing stream d n 0 (20251115 + stream) buffer
 unfolding stateAt
 draw-none stream d n buffer l s = record { filled = fill-none (drawn stream d) n buffer l; is = refl; small = omega arith }
 
@@ -40,7 +41,8 @@ draw-more {stream} {d} {n} {i} {state} v w l e =
       small = omega arith;
     }
 
-pub draw-done : {stream d n i state : ℕ} {buffer : List ℕ} → Drawing stream d n i state buffer → n ≤ i → buffer ≡ tabulate n (drawn stream d)
+pub draw-done : {stream d n i state : ℕ} {buffer : List ℕ} → Drawing stream d n i state buffer → n ≤ i
+    → buffer ≡ tabulate n (drawn stream d)
 draw-done w l = fill-done (w .filled) l
 
 pub draw-fits : {stream d n i state : ℕ} {buffer : List ℕ} → Drawing stream d n i state buffer → Fits w64 (state * 1103515245 + 12345)
@@ -53,19 +55,22 @@ pub ruleset drawing = (draw-none, draw-more, draw-done, draw-fits, draw-times)
 
 -- ---- a payload
 
-pub payload-drawn : (encoder k stream n : ℕ) (d : List ℕ) → stream ≡ k * 2 + encoder → n ≡ 444 → d ≡ tabulate n (drawn stream 1) → d ≡ pairPayload encoder k
+pub payload-drawn : (encoder k stream n : ℕ) (d : List ℕ) → stream ≡ k * 2 + encoder → n ≡ 444 → d ≡ tabulate n (drawn stream 1)
+    → d ≡ pairPayload encoder k
 unfolding pairPayload
 payload-drawn encoder k stream n d es l e = e ∙ ap₂ (λ m s. tabulate m (drawn s 1)) l es
 
-pub pair-block : (encoder q k : ℕ) (ys lent : List ℕ) (stream : ℕ) → stream ≡ (q * 168 + k) * 2 + encoder → length lent ≡ 444 → ys ≡ tabulate (length lent) (drawn stream 1)
+pub pair-block : (encoder q k : ℕ) (ys lent : List ℕ) (stream : ℕ) → stream ≡ (q * 168 + k) * 2 + encoder → length lent ≡ 444
+    → ys ≡ tabulate (length lent) (drawn stream 1)
     → ys ≡ tabulate 444 (λ i. byteOfEach 444 (λ j. pairPayload encoder (q * 168 + j)) (k * 444 + i))
 pair-block encoder q k ys lent stream es l e =
     each-block (λ j. pairPayload encoder (q * 168 + j)) 444 k ys (lit< tt) (ap length e ∙ length-tabulate (length lent) (drawn stream 1) ∙ l)
     (payload-drawn encoder (q * 168 + k) stream (length lent) ys es l e)
 
-pub payload-is : (encoder q : ℕ) (d : List ℕ) → d ≡ tabulate 74592 (byteOfEach 444 (λ k. pairPayload encoder (q * 168 + k))) → d ≡ payloadIn encoder q
+pub payload-stream-is : (encoder q : ℕ) (d : List ℕ) → d ≡ tabulate 74592 (byteOfEach 444 (λ k. pairPayload encoder (q * 168 + k)))
+    → d ≡ payloadIn encoder q
 unfolding payloadIn endToEnd
-payload-is encoder q d e = e
+payload-stream-is encoder q d e = e
 
 -- ---- an overhead list
 

@@ -5,14 +5,14 @@ use Prim.Native.Nat.{ℕ, _+_, _-_, _*_}
 use lib.ListN.{getD}
 use Rattle.bits.specs.Bits.{pack}
 use Rattle.bits.specs.Parts.{part, partOf}
-use Rattle.bch.specs.Completion.{firstBits}
-use Rattle.ofec.specs.History.{depth, fresh}
-use Rattle.ofec.specs.Encoding.{openWord}
-use Rattle.ofec.specs.Receiving.{heldWord}
-use Rattle.ofec.specs.Stream.{receiver, payloadsOf, marksOf, historyOver, historyBefore}
+use Rattle.word_spec.specs.Completion.{firstBits}
+use Rattle.pair_spec.specs.History.{depth, fresh}
+use Rattle.pair_spec.specs.Encoding.{openWord}
+use Rattle.pair_spec.specs.Receiving.{heldWord}
+use Rattle.pair_spec.specs.Stream.{pairReceiver, payloadsOf, marksOf, historyOver, historyBefore}
 use Rattle.loopback.specs.Random.{pairPayload}
-use Rattle.loopback.specs.Steps.{each}
-use Rattle.loopback.specs.Tally.{plus, tallied, refusedTwo, lost, wordKind, bitKind}
+use Rattle.loopback.specs.Steps.{eachStep}
+use Rattle.loopback.specs.Tally.{tallySum, tallied, refusedTwo, lost, wordKind, bitKind}
 
 -- Word w of pair k, with the ten pairs before it; a word of the first ten pairs has zeros in front, whatever stands there.
 unfoldable pub wordIn : List ℕ → ℕ → ℕ → List ℕ
@@ -30,7 +30,7 @@ payloadWord payload k w = pack 32 (firstBits (openWord depth (fresh depth) k pay
 unfoldable pub codedCounted : ℕ → ℕ → List ℕ → List ℕ → List ℕ → ℕ → List ℕ → List ℕ
 codedCounted k w sent got history mark counts =
     tallied 128 (bitKind (27 + lost mark * 4) (wordIn sent k w) (wordIn got k w) (keptWord history k w))
-    (plus (wordKind (wordIn sent k w) (wordIn got k w) mark) 1 counts)
+    (tallySum (wordKind (wordIn sent k w) (wordIn got k w) mark) 1 counts)
 
 -- and its payload bits, from 35 on, or 37 in a lost word, which are right or wrong.
 unfoldable pub payloadCounted : ℕ → ℕ → List ℕ → List ℕ → ℕ → List ℕ → List ℕ
@@ -43,13 +43,13 @@ wordCompared e k sent got history out marks w counts =
     payloadCounted k w (pairPayload e k) out (getD marks w 0) (codedCounted k w sent got history (getD marks w 0) counts)
 
 unfoldable pub pairCompared : ℕ → ℕ → List ℕ → List ℕ → List ℕ → List ℕ → List ℕ → List ℕ → List ℕ
-pairCompared e k sent got history out marks counts = each 32 (wordCompared e k sent got history out marks) counts
+pairCompared e k sent got history out marks counts = eachStep 32 (wordCompared e k sent got history out marks) counts
 
 -- Pair k received, h being the history before it;
 unfoldable pub pairTaken : ℕ → List ℕ → List ℕ → List ℕ → ℕ → List ℕ → List ℕ
 pairTaken e sent got h k counts =
-    pairCompared e k sent got (historyOver receiver 1 h k (partOf 512 got k)) (payloadsOf 1 h k (partOf 512 got k)) (marksOf 1 h k (partOf 512 got k)) counts
+    pairCompared e k sent got (historyOver pairReceiver 1 h k (partOf 512 got k)) (payloadsOf 1 h k (partOf 512 got k)) (marksOf 1 h k (partOf 512 got k)) counts
 
 -- and the same after refused calls, and after the pairs before it from fresh on.
 unfoldable pub nextReceived : ℕ → List ℕ → List ℕ → ℕ → List ℕ → List ℕ
-nextReceived e sent got k counts = pairTaken e sent got (historyBefore receiver 1 (partOf 512 got) k) k (refusedTwo counts)
+nextReceived e sent got k counts = pairTaken e sent got (historyBefore pairReceiver 1 (partOf 512 got) k) k (refusedTwo counts)

@@ -14,14 +14,14 @@ use Rattle.calls.specs.Calls.{After, after}
 use Rattle.calls.specs.CallLaws.{is-misfit, no-misfit, no-sub-frame, sub-frame, tests, call-refused}
 use Rattle.bits.specs.Count.{count}
 use Rattle.bits.specs.Seeking.{seek-none, seek-hit}
-use Rattle.cells.specs.Profiles.{qam16}
-use Rattle.cells.specs.Cells.{overheadRule, firstIllegal}
-use Rattle.frames.specs.Frames.{payloadCells, overheadStart, ownOverhead}
-use Rattle.frames.specs.FrameLaws.{own-length, own-at}
-use Rattle.frames.specs.LayoutLaws.{overhead-zeroth, payload-zeroth}
-use Rattle.frames.specs.Calls.{subFrameTests, frameCall}
-use Rattle.frames.specs.CallLaws.{payload-unmeasured, payload-measured, overhead-illegal}
-use Rattle.ofec.specs.Calls.{Encoded, afterEncode, encodeCall, Received, afterReceive, receiveCall}
+use Rattle.cells_spec.specs.Profiles.{qam16}
+use Rattle.cells_spec.specs.Cells.{overheadRule, firstIllegal}
+use Rattle.frame_spec.specs.Frames.{payloadCells, overheadStart, ownOverhead}
+use Rattle.frame_spec.specs.FrameLaws.{own-length, own-at}
+use Rattle.frame_spec.specs.LayoutLaws.{overhead-zeroth, payload-zeroth}
+use Rattle.frame_spec.specs.Calls.{subFrameTests, frameCall}
+use Rattle.frame_spec.specs.CallLaws.{payload-unmeasured, payload-measured, overhead-illegal}
+use Rattle.pair_spec.specs.Calls.{Encoded, afterEncode, encodeCall, Received, afterReceive, receiveCall}
 
 module _ (r : Answer) (c h payload coded history : List ℕ) (P : ℕ) (is : afterEncode r c h ≡ encodeCall payload coded history P) where
   module _ (l : length payload ≡ 443) where
@@ -75,7 +75,8 @@ module _ (r : Answer) (d payload list frame : List ℕ) (lo : length list ≡ 12
       (no-misfit _ _ _ _ lo (no-misfit _ _ _ _ lf (payload-unmeasured 48 payload _ _ beyond (no-sub-frame _ _ beyond))))))
 
   -- The first byte of the list is illegal.
-  pub frame-off-grid : after r d ≡ frameCall qam16 0 payload list frame → length payload ≡ 6980 → getD list 0 0 ≡ 16 → r ≡ Refused (OffGrid 0)
+  pub frame-off-grid : after r d ≡ frameCall qam16 0 payload list frame → length payload ≡ 6980 → getD list 0 0 ≡ 16
+      → r ≡ Refused (OffGrid 0)
   unfolding firstIllegal overheadRule overheadStart count subFrameTests
   frame-off-grid is lp e =
       ap (λ (x : After (List ℕ)). x .answer)

@@ -4,6 +4,6 @@ use mathlib.Core.List.{List}
 use Prim.Native.Nat.{ℕ, zero, suc}
 
 -- What n steps make of a buffer: step 0, then step 1, and so on.
-unfoldable pub each : ℕ → (ℕ → List ℕ → List ℕ) → List ℕ → List ℕ
-each zero step d = d
-each (suc n) step d = step n (each n step d)
+unfoldable pub eachStep : ℕ → (ℕ → List ℕ → List ℕ) → List ℕ → List ℕ
+eachStep zero step d = d
+eachStep (suc n) step d = step n (eachStep n step d)

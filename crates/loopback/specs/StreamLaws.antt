@@ -11,16 +11,17 @@ use Rattle.bits.specs.Bits.{pack}
 use Rattle.bits.specs.Lists.{tabulate}
 use Rattle.bits.specs.Parts.{part, partOf, byteOfEach}
 use Rattle.bits.specs.PartLaws.{endToEnd-length, each-block}
-use Rattle.bch.specs.Completion.{firstBits}
-use Rattle.ofec.specs.History.{depth, fresh}
-use Rattle.ofec.specs.Encoding.{openWord}
-use Rattle.ofec.specs.Receiving.{heldWord}
-use Rattle.ofec.specs.Stream.{Coder, encoder, receiver, givenOver, codedOf, payloadsOf, marksOf, historyOver, historyBefore}
+use Rattle.word_spec.specs.Completion.{firstBits}
+use Rattle.pair_spec.specs.History.{depth, fresh}
+use Rattle.pair_spec.specs.Encoding.{openWord}
+use Rattle.pair_spec.specs.Receiving.{heldWord}
+use Rattle.pair_spec.specs.Stream.{Coder, pairEncoder, pairReceiver, givenOver, codedOf, payloadsOf, marksOf, historyOver, historyBefore}
 use Rattle.loopback.specs.Random.{pairPayload, payloadIn}
 use Rattle.loopback.specs.Sent.{sentIn}
 use Rattle.loopback.specs.StepLaws.{Stepping, step-more, step-done}
-use Rattle.loopback.specs.Tally.{plus, tallied, refusedTwo, lost, wordKind, bitKind}
-use Rattle.loopback.specs.Received.{wordIn, keptWord, payloadWord, codedCounted, payloadCounted, wordCompared, pairCompared, pairTaken, nextReceived}
+use Rattle.loopback.specs.Tally.{tallySum, tallied, refusedTwo, lost, wordKind, bitKind}
+use Rattle.loopback.specs.Received.{wordIn, keptWord, payloadWord, codedCounted, payloadCounted, wordCompared, pairCompared}
+use Rattle.loopback.specs.Received.{pairTaken, nextReceived}
 
 -- ---- the history before each super-frame
 
@@ -28,14 +29,16 @@ pub before-none : (c : Coder) (m : ℕ) (S : ℕ → List ℕ) → replicate 512
 unfolding historyBefore fresh
 before-none c m S = refl
 
-pub before-more : (c : Coder) (m : ℕ) (S : ℕ → List ℕ) (q : ℕ) (h h′ : List ℕ) (p : ℕ) → h ≡ historyBefore c m S q → p ≡ m * q → h′ ≡ historyOver c m h p (S q)
+pub before-more : (c : Coder) (m : ℕ) (S : ℕ → List ℕ) (q : ℕ) (h h′ : List ℕ) (p : ℕ) → h ≡ historyBefore c m S q → p ≡ m * q
+    → h′ ≡ historyOver c m h p (S q)
     → h′ ≡ historyBefore c m S (q + 1)
 unfolding historyBefore
 before-more c m S q h h′ p is ep e = e ∙ ap₂ (λ x n. historyOver c m x n (S q)) is ep ∙ ap (historyBefore c m S) (sym (add-one q))
 
 -- ---- sending
 
-pub sent-block : (e q : ℕ) (h ys : List ℕ) → h ≡ historyBefore encoder 168 (payloadIn e) q → ys ≡ codedOf 168 h (168 * q) (payloadIn e q)
+pub sent-block : (e q : ℕ) (h ys : List ℕ) → h ≡ historyBefore pairEncoder 168 (payloadIn e) q
+    → ys ≡ codedOf 168 h (168 * q) (payloadIn e q)
     → ys ≡ tabulate 86016 (λ i. byteOfEach 86016 (sentIn e) (q * 86016 + i))
 unfolding sentIn givenOver
 sent-block e q h ys is es =
@@ -46,11 +49,11 @@ module _ (e q : ℕ) (h s ys : List ℕ) (es : s ≡ payloadIn e q) where
   pub coded-of : ys ≡ codedOf 168 h (168 * q) s → ys ≡ codedOf 168 h (168 * q) (payloadIn e q)
   coded-of is = is ∙ ap (codedOf 168 h (168 * q)) es
 
-  pub history-of : ys ≡ historyOver encoder 168 h (168 * q) s → ys ≡ historyOver encoder 168 h (168 * q) (payloadIn e q)
-  history-of is = is ∙ ap (historyOver encoder 168 h (168 * q)) es
+  pub history-of : ys ≡ historyOver pairEncoder 168 h (168 * q) s → ys ≡ historyOver pairEncoder 168 h (168 * q) (payloadIn e q)
+  history-of is = is ∙ ap (historyOver pairEncoder 168 h (168 * q)) es
 
 -- A super-frame sent, after refused calls that leave the history.
-module _ (e q : ℕ) (h h₁ ys : List ℕ) (is : h ≡ historyBefore encoder 168 (payloadIn e) q) (left : h₁ ≡ h) where
+module _ (e q : ℕ) (h h₁ ys : List ℕ) (is : h ≡ historyBefore pairEncoder 168 (payloadIn e) q) (left : h₁ ≡ h) where
   pub frame-block : ys ≡ codedOf 168 h₁ (168 * q) (payloadIn e q) → ys ≡ tabulate 86016 (λ i. byteOfEach 86016 (sentIn e) (q * 86016 + i))
   frame-block es = sent-block e q h₁ ys (left ∙ is) es
 
@@ -65,23 +68,27 @@ word-in pairs k w n a b m e r en ea eb em ee is =
     let z : a ≡ (k - 10) * 512 = omega arith in
     is ∙ rw (x, y, z, em)
 
-pub payload-in : (payload : List ℕ) (k w : ℕ) (r : List ℕ) → r ≡ pack 32 (firstBits (openWord depth (replicate 5120 0) k payload w)) → r ≡ payloadWord payload k w
+pub payload-in : (payload : List ℕ) (k w : ℕ) (r : List ℕ) → r ≡ pack 32 (firstBits (openWord depth (replicate 5120 0) k payload w))
+    → r ≡ payloadWord payload k w
 unfolding payloadWord fresh
 payload-in payload k w r e = e
 
 -- ---- what is counted
 
-pub coded-counted : (k w : ℕ) (sent got history : List ℕ) (mark : ℕ) (s g h : List ℕ) (v l : ℕ) (d d₁ d₂ : List ℕ) → s ≡ wordIn sent k w → g ≡ wordIn got k w
-    → h ≡ keptWord history k w → v ≡ wordKind s g mark → d₁ ≡ plus v 1 d → l ≡ lost mark → d₂ ≡ tallied 128 (bitKind (27 + l * 4) s g h) d₁
+pub coded-counted : (k w : ℕ) (sent got history : List ℕ) (mark : ℕ) (s g h : List ℕ) (v l : ℕ) (d d₁ d₂ : List ℕ) → s ≡ wordIn sent k w
+    → g ≡ wordIn got k w
+    → h ≡ keptWord history k w → v ≡ wordKind s g mark → d₁ ≡ tallySum v 1 d → l ≡ lost mark
+    → d₂ ≡ tallied 128 (bitKind (27 + l * 4) s g h) d₁
     → d₂ ≡ codedCounted k w sent got history mark d
 unfolding codedCounted
 coded-counted k w sent got history mark s g h v l d d₁ d₂ es eg eh ev e₁ el e₂ = cc
 
-pub payload-counted : (k w encoder : ℕ) (out : List ℕ) (mark : ℕ) (payload s o : List ℕ) (l : ℕ) (d d₁ : List ℕ) → payload ≡ pairPayload encoder k
+pub payload-counted : (k w pairEncoder : ℕ) (out : List ℕ) (mark : ℕ) (payload s o : List ℕ) (l : ℕ) (d d₁ : List ℕ)
+    → payload ≡ pairPayload pairEncoder k
     → s ≡ payloadWord payload k w → o ≡ payloadWord out k w → l ≡ lost mark → d₁ ≡ tallied 111 (bitKind (35 + l * 2) s o s) d
-    → d₁ ≡ payloadCounted k w (pairPayload encoder k) out mark d
+    → d₁ ≡ payloadCounted k w (pairPayload pairEncoder k) out mark d
 unfolding payloadCounted
-payload-counted k w encoder out mark payload s o l d d₁ ep es eo el e₁ = cc
+payload-counted k w pairEncoder out mark payload s o l d d₁ ep es eo el e₁ = cc
 
 module _ (e k : ℕ) (sent got history out marks before d : List ℕ) (w : ℕ) where
   pub words-more : (d₁ d₂ : List ℕ) → Stepping (wordCompared e k sent got history out marks) 32 before w d → w < 32
@@ -90,7 +97,8 @@ module _ (e k : ℕ) (sent got history out marks before d : List ℕ) (w : ℕ) 
   unfolding wordCompared
   words-more d₁ d₂ s l e₁ e₂ = step-more d₂ s l (e₂ ∙ ap (payloadCounted k w (pairPayload e k) out (getD marks w 0)) e₁)
 
-  pub words-done : Stepping (wordCompared e k sent got history out marks) 32 before w d → 32 ≤ w → d ≡ pairCompared e k sent got history out marks before
+  pub words-done : Stepping (wordCompared e k sent got history out marks) 32 before w d → 32 ≤ w
+      → d ≡ pairCompared e k sent got history out marks before
   unfolding pairCompared
   words-done s l = step-done s l
 
@@ -99,18 +107,23 @@ module _ (k a b : ℕ) (got h : List ℕ) (ea : a ≡ k * 512) (eb : b ≡ a + 5
   own-pair : part a (b - a) got ≡ partOf 512 got k
   own-pair = let size : b - a ≡ 512 = omega arith in ap₂ (λ x y. part x y got) ea size
 
-  pub pair-history : (h₁ : List ℕ) → h₁ ≡ historyOver receiver 1 h k (part a (b - a) got) → h₁ ≡ historyOver receiver 1 h k (partOf 512 got k)
-  pair-history h₁ is = is ∙ ap (historyOver receiver 1 h k) own-pair
+  pub step-history : (h₁ : List ℕ) → h₁ ≡ historyOver pairReceiver 1 h k (part a (b - a) got)
+      → h₁ ≡ historyOver pairReceiver 1 h k (partOf 512 got k)
+  step-history h₁ is = is ∙ ap (historyOver pairReceiver 1 h k) own-pair
 
-  pub pair-taken : (e : ℕ) (sent h₁ out marks d d₁ : List ℕ) → h₁ ≡ historyOver receiver 1 h k (part a (b - a) got) → out ≡ payloadsOf 1 h k (part a (b - a) got)
+  pub pair-taken : (e : ℕ) (sent h₁ out marks d d₁ : List ℕ) → h₁ ≡ historyOver pairReceiver 1 h k (part a (b - a) got)
+      → out ≡ payloadsOf 1 h k (part a (b - a) got)
       → marks ≡ marksOf 1 h k (part a (b - a) got) → d₁ ≡ pairCompared e k sent got h₁ out marks d → d₁ ≡ pairTaken e sent got h k d
   unfolding pairTaken
   pair-taken e sent h₁ out marks d d₁ eh eo em e₁ = cc own-pair
 
-pub before-pair : (c : Coder) (S : ℕ → List ℕ) (k : ℕ) (h h′ : List ℕ) → h ≡ historyBefore c 1 S k → h′ ≡ historyOver c 1 h k (S k) → h′ ≡ historyBefore c 1 S (k + 1)
+pub before-pair : (c : Coder) (S : ℕ → List ℕ) (k : ℕ) (h h′ : List ℕ) → h ≡ historyBefore c 1 S k → h′ ≡ historyOver c 1 h k (S k)
+    → h′ ≡ historyBefore c 1 S (k + 1)
 before-pair c S k h h′ is e = let one : k ≡ 1 * k = omega arith in before-more c 1 S k h h′ k is one e
 
 pub received-more : (e : ℕ) (sent got before d d₁ d₂ h h₁ : List ℕ) (k : ℕ) → Stepping (nextReceived e sent got) 336 before k d → k < 336
-    → h ≡ historyBefore receiver 1 (partOf 512 got) k → h₁ ≡ h → d₁ ≡ refusedTwo d → d₂ ≡ pairTaken e sent got h₁ k d₁ → Stepping (nextReceived e sent got) 336 before (k + 1) d₂
+    → h ≡ historyBefore pairReceiver 1 (partOf 512 got) k → h₁ ≡ h → d₁ ≡ refusedTwo d → d₂ ≡ pairTaken e sent got h₁ k d₁
+    → Stepping (nextReceived e sent got) 336 before (k + 1) d₂
 unfolding nextReceived
-received-more e sent got before d d₁ d₂ h h₁ k s l eh e₀ e₁ e₂ = step-more d₂ s l (e₂ ∙ ap₂ (λ x y. pairTaken e sent got x k y) (e₀ ∙ eh) e₁)
+received-more e sent got before d d₁ d₂ h h₁ k s l eh e₀ e₁ e₂ =
+    step-more d₂ s l (e₂ ∙ ap₂ (λ x y. pairTaken e sent got x k y) (e₀ ∙ eh) e₁)

@@ -11,20 +11,20 @@ use Rattle.calls.specs.declared.Answer.{Answer}
 use Rattle.calls.specs.declared.Answer.the-variants.{Refused}
 use Rattle.calls.specs.declared.Refusal.the-variants.{Misfit, CountSpent}
 use Rattle.calls.specs.Answers.{refusalOf}
-use Rattle.loopback.specs.Steps.{each}
+use Rattle.loopback.specs.Steps.{eachStep}
 
 -- ---- counters
 
 -- n added to the counter at a place, of 32 bits.
-unfoldable pub plus : ℕ → ℕ → List ℕ → List ℕ
-plus at n counts = set counts at ((getD counts at 0 + n) % 2 ^ 32)
+unfoldable pub tallySum : ℕ → ℕ → List ℕ → List ℕ
+tallySum at n counts = set counts at ((getD counts at 0 + n) % 2 ^ 32)
 
 -- Thing i counted at the place of its kind; and things 0 to n - 1.
 unfoldable pub oneMore : (ℕ → ℕ) → ℕ → List ℕ → List ℕ
-oneMore kind i counts = plus (kind i) 1 counts
+oneMore kind i counts = tallySum (kind i) 1 counts
 
 unfoldable pub tallied : ℕ → (ℕ → ℕ) → List ℕ → List ℕ
-tallied n kind counts = each n (oneMore kind) counts
+tallied n kind counts = eachStep n (oneMore kind) counts
 
 -- How many of them are of kind v.
 unfoldable pub tally : ℕ → (ℕ → ℕ) → ℕ → ℕ
@@ -32,7 +32,7 @@ tally n kind v = count n (λ i. cond (eqb (kind i) v) 1 0)
 
 -- A call counted by its answer: at place 1 where it was done, and behind it by the refusal's number.
 unfoldable pub answered : Answer → List ℕ → List ℕ
-answered a counts = plus (1 + refusalOf a) 1 counts
+answered a counts = tallySum (1 + refusalOf a) 1 counts
 
 -- The refused calls before a pair: one with a byte too few, one with the pair number that no call takes.
 abbrev pub refusedTwo : List ℕ → List ℕ

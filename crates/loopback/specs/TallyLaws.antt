@@ -22,16 +22,16 @@ use Rattle.calls.specs.declared.Answer.{Answer}
 use Rattle.calls.specs.declared.Answer.the-variants.{Done, Refused}
 use Rattle.calls.specs.declared.Refusal.the-variants.{Misfit, BadHeader, CountSpent, NoSuchFrame, OffGrid}
 use Rattle.calls.specs.Answers.{refusalOf}
-use Rattle.loopback.specs.Steps.{each}
+use Rattle.loopback.specs.Steps.{eachStep}
 use Rattle.loopback.specs.StepLaws.{Stepping, step-more, step-done}
-use Rattle.loopback.specs.Tally.{plus, oneMore, tallied, tally, answered, refusedTwo, wrongAt, lost, wordKind, bitKind}
+use Rattle.loopback.specs.Tally.{tallySum, oneMore, tallied, tally, answered, refusedTwo, wrongAt, lost, wordKind, bitKind}
 
 -- ---- counters
 
 -- Where a number is known by another.
-pub added : (d d′ : List ℕ) (at n x : ℕ) → x ≡ (getD d at 0 + n) % 2 ^ 32 → d′ ≡ set d at x → d′ ≡ plus at n d
-unfolding plus
-added d d′ at n x e is = is ∙ ap (set d at) e
+pub sum-known : (d d′ : List ℕ) (at n x : ℕ) → x ≡ (getD d at 0 + n) % 2 ^ 32 → d′ ≡ set d at x → d′ ≡ tallySum at n d
+unfolding tallySum
+sum-known d d′ at n x e is = is ∙ ap (set d at) e
 
 refusal-lt : (a : Answer) → refusalOf a < 6
 refusal-lt (Done v) = omega arith
@@ -41,24 +41,28 @@ refusal-lt (Refused CountSpent) = omega arith
 refusal-lt (Refused NoSuchFrame) = omega arith
 refusal-lt (Refused (OffGrid i)) = omega arith
 
-pub counted : (d d′ : List ℕ) (a : Answer) (r : ℕ) → r ≡ refusalOf a → d′ ≡ plus (1 + r % 6) 1 d → d′ ≡ answered a d
+pub count-known : (d d′ : List ℕ) (a : Answer) (r : ℕ) → r ≡ refusalOf a → d′ ≡ tallySum (1 + r % 6) 1 d → d′ ≡ answered a d
 unfolding answered
-counted d d′ a r e is = let z : 1 + r % 6 ≡ 1 + refusalOf a = omega (arith, refusal-lt a) in is ∙ ap (λ i. plus i 1 d) z
+count-known d d′ a r e is = let z : 1 + r % 6 ≡ 1 + refusalOf a = omega (arith, refusal-lt a) in is ∙ ap (λ i. tallySum i 1 d) z
 
 -- Two calls with their refusals known.
-pub two-answered : (d d′ d″ : List ℕ) (a b x y : Answer) → d′ ≡ answered a d → d″ ≡ answered b d′ → a ≡ x → b ≡ y → d″ ≡ answered y (answered x d)
+pub two-answered : (d d′ d″ : List ℕ) (a b x y : Answer) → d′ ≡ answered a d → d″ ≡ answered b d′ → a ≡ x → b ≡ y
+    → d″ ≡ answered y (answered x d)
 two-answered d d′ d″ a b x y e f ea eb = cc
 
-pub refused-more : (before d d′ d″ : List ℕ) (k : ℕ) (a b : Answer) → Stepping (λ i. refusedTwo) 168 before k d → k < 168 → d′ ≡ answered a d → d″ ≡ answered b d′
+pub refused-more : (before d d′ d″ : List ℕ) (k : ℕ) (a b : Answer) → Stepping (λ i. refusedTwo) 168 before k d → k < 168
+    → d′ ≡ answered a d → d″ ≡ answered b d′
     → a ≡ Refused Misfit → b ≡ Refused CountSpent → Stepping (λ i. refusedTwo) 168 before (k + 1) d″
 refused-more before d d′ d″ k a b s l e f ea eb = step-more d″ s l (two-answered d d′ d″ a b _ _ e f ea eb)
 
-pub tallied-more : (n : ℕ) (kind : ℕ → ℕ) (before d : List ℕ) (i : ℕ) (d′ : List ℕ) (v : ℕ) → Stepping (oneMore kind) n before i d → i < n → v ≡ kind i → d′ ≡ plus v 1 d
+pub tallied-more : (n : ℕ) (kind : ℕ → ℕ) (before d : List ℕ) (i : ℕ) (d′ : List ℕ) (v : ℕ) → Stepping (oneMore kind) n before i d → i < n
+    → v ≡ kind i → d′ ≡ tallySum v 1 d
     → Stepping (oneMore kind) n before (i + 1) d′
 unfolding oneMore
-tallied-more n kind before d i d′ v s l e is = step-more d′ s l (is ∙ ap (λ k. plus k 1 d) e)
+tallied-more n kind before d i d′ v s l e is = step-more d′ s l (is ∙ ap (λ k. tallySum k 1 d) e)
 
-pub tallied-done : (n : ℕ) (kind : ℕ → ℕ) (before d : List ℕ) (i : ℕ) → Stepping (oneMore kind) n before i d → n ≤ i → d ≡ tallied n kind before
+pub tallied-done : (n : ℕ) (kind : ℕ → ℕ) (before d : List ℕ) (i : ℕ) → Stepping (oneMore kind) n before i d → n ≤ i
+    → d ≡ tallied n kind before
 unfolding tallied
 tallied-done n kind before d i s l = step-done s l
 
@@ -68,12 +72,12 @@ tallied-done n kind before d i s l = step-done s l
 abbrev unit : Bool → ℕ
 unit t = cond t 1 0
 
-length-plus : (at n : ℕ) (d : List ℕ) → length (plus at n d) ≡ length d
-unfolding plus
+length-plus : (at n : ℕ) (d : List ℕ) → length (tallySum at n d) ≡ length d
+unfolding tallySum
 length-plus at n d = length-set d at ((getD d at 0 + n) % 2 ^ 32)
 
 pub length-tallied : (n : ℕ) (kind : ℕ → ℕ) (d : List ℕ) → length (tallied n kind d) ≡ length d
-unfolding tallied each oneMore
+unfolding tallied eachStep oneMore
 length-tallied zero kind d = refl
 length-tallied (suc n) kind d = length-plus (kind n) 1 (tallied n kind d) ∙ length-tallied n kind d
 
@@ -82,7 +86,7 @@ same a b q = omega arith
 
 module _ (kind : ℕ → ℕ) (d : List ℕ) (inside : (i : ℕ) → kind i < length d) where
   pub tallied-counts : (n v : ℕ) → getD (tallied n kind d) v 0 % 2 ^ 32 ≡ (getD d v 0 + tally n kind v) % 2 ^ 32
-  unfolding tallied each oneMore tally count plus
+  unfolding tallied eachStep oneMore tally count tallySum
   tallied-counts zero v = ap (λ x. x % 2 ^ 32) (sym (add-zero (getD d v 0)))
   tallied-counts (suc n) v = go (ℕ-discrete v (kind n)) (tallied-counts n v)
     where

@@ -1,4 +1,4 @@
-// What a receiver made of a word, compared with what was sent. A word is 32 bytes, gathered from the pairs by `layout`.
+// What a receiver made of a word, compared with what was sent. A word is 32 bytes, gathered from the pairs by `pair_words_core`.
 use crate::counts::add;
 ghost use mathlib.Core.Path.{_≡_};
 ghost use Prim.Native.Nat.{_<_, _≤_};

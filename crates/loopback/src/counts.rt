@@ -5,12 +5,12 @@ use libc::STDOUT_FILENO;
 ghost use mathlib.Core.Path.{_≡_};
 ghost use Prim.Native.Nat.{_<_};
 ghost use lib.ListN.{length};
-ghost use Rattle.loopback.specs.Tally.{plus, answered};
+ghost use Rattle.loopback.specs.Tally.{tallySum, answered};
 
 // Adds to the counter at a place.
 pub fn add(counts: &mut [u32], at: usize, n: u32)
     requires { ⌜ at < length (now counts) ⌝ }
-    ensures { λ _. ⌜ now (counts .exit) ≡ plus at n (now (counts .entry)) ⌝ }
+    ensures { λ _. ⌜ now (counts .exit) ≡ tallySum at n (now (counts .entry)) ⌝ }
 {
     counts[at] = std::num::wrapping_add_u32(counts[at], n);
 }

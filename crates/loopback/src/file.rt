@@ -1,14 +1,14 @@
 // The line file of one super-frame, 368,656 bytes: header at byte 0, overhead list at 16, frames at 12,304. How it is begun, and what its
 // receiver reads of it.
 use calls::Answer;
-use layout::history::copy;
+use pair_words_core::history::copy;
 ghost use mathlib.Core.Path.{_≡_};
 ghost use lib.ListN.{length, take, drop, replicate};
 ghost use Rattle.bits.specs.Parts.{part};
-ghost use Rattle.lineformat.specs.Opening.{openCall};
-ghost use Rattle.lineformat.specs.Reading.{readRefusalIn, readPartIn};
-ghost use Rattle.lineformat.specs.Writing.{numbersFor, headerBytes};
-ghost use Rattle.interleaving.specs.Calls.{parted};
+ghost use Rattle.line_file_spec.specs.Opening.{openCall};
+ghost use Rattle.line_file_spec.specs.Reading.{readRefusalIn, readPartIn};
+ghost use Rattle.line_file_spec.specs.Writing.{numbersFor, headerBytes};
+ghost use Rattle.interleaver_spec.specs.Calls.{parted};
 ghost use Rattle.loopback.specs.File.{takenWhen};
 ghost use Rattle.loopback.specs.Line.{lineFile, takenOff};
 
@@ -36,7 +36,7 @@ pub fn begin(list: &[u8], file: &mut [u8])
     ensures { λ _. ⌜ now (file .exit) ≡ lineFile (now (list .entry)) (drop 12304 (now (file .entry))) ⌝ }
 {
     copy(list, &mut file[16..12304]);
-    linefile::write_header(1, &mut file[0..16]);
+    line_file::write_header(1, &mut file[0..16]);
 }
 
 // Reads sub-frame s of super-frame 0, if it is not refused.
@@ -44,8 +44,8 @@ fn read_frame(file: &[u8], s: u32, frame: &mut [u8])
     requires { ⌜ length (now frame) ≡ 7424 ⌝ }
     ensures { λ _. ⌜ now (frame .exit) ≡ takenWhen (readRefusalIn (openCall (now (file .entry))) 0 s) (readPartIn (openCall (now (file .entry))) 0 s) (now (frame .entry)) ⌝ }
 {
-    if linefile::refusal_of_frame(file, 0, s) == 0 {
-        copy(linefile::frame_of(file, 0, s), frame);
+    if line_file::refusal_of_frame(file, 0, s) == 0 {
+        copy(line_file::frame_of(file, 0, s), frame);
     }
 }
 

@@ -8,11 +8,11 @@ use crate::refusing::refuse_framing;
 ghost use mathlib.Core.Path.{_≡_};
 ghost use Prim.Native.Nat.{_<_};
 ghost use lib.ListN.{length};
-ghost use Rattle.cells.specs.Cells.{overheadRule, Legal};
-ghost use Rattle.superframes.specs.Apart.{differingAll};
-ghost use Rattle.loopback.specs.Line.{lineFile, lineOf, pairsOff, allOff, lineCounted};
+ghost use Rattle.cells_spec.specs.Cells.{overheadRule, Legal};
+ghost use Rattle.superframe_spec.specs.Apart.{differingAll};
+ghost use Rattle.loopback.specs.Line.{lineFile, damagedLine, pairsOff, allOff, lineCounted};
 ghost use Rattle.loopback.specs.Random.{drawnList};
-ghost use Rattle.loopback.specs.Steps.{each};
+ghost use Rattle.loopback.specs.Steps.{eachStep};
 
 // An overhead list that is drawn.
 fn overhead() -> [u8; 12288]
@@ -26,7 +26,7 @@ fn overhead() -> [u8; 12288]
 // The frames of super-frame q, damaged.
 fn frames(q: usize, coded0: &[u8], coded1: &[u8], list: &[u8], line: &mut [u8])
     requires { ⌜ (q < 2) × (length (now coded0) ≡ 86016) × (length (now coded1) ≡ 86016) × (length (now list) ≡ 12288) × Legal overheadRule (now list) × (length (now line) ≡ 356352) ⌝ }
-    ensures { λ _. ⌜ now (line .exit) ≡ lineOf (now (list .entry)) q (now (coded0 .entry)) (now (coded1 .entry)) ⌝ }
+    ensures { λ _. ⌜ now (line .exit) ≡ damagedLine (now (list .entry)) q (now (coded0 .entry)) (now (coded1 .entry)) ⌝ }
 {
     superframe::make(coded0, coded1, list, line);
     damage(q, line);
@@ -35,7 +35,7 @@ fn frames(q: usize, coded0: &[u8], coded1: &[u8], list: &[u8], line: &mut [u8])
 // The line file of super-frame q.
 fn send(q: usize, coded0: &[u8], coded1: &[u8], list: &[u8], file: &mut [u8])
     requires { ⌜ (q < 2) × (length (now coded0) ≡ 86016) × (length (now coded1) ≡ 86016) × (length (now list) ≡ 12288) × Legal overheadRule (now list) × (length (now file) ≡ 368656) ⌝ }
-    ensures { λ _. ⌜ now (file .exit) ≡ lineFile (now (list .entry)) (lineOf (now (list .entry)) q (now (coded0 .entry)) (now (coded1 .entry))) ⌝ }
+    ensures { λ _. ⌜ now (file .exit) ≡ lineFile (now (list .entry)) (damagedLine (now (list .entry)) q (now (coded0 .entry)) (now (coded1 .entry))) ⌝ }
 {
     frames(q, coded0, coded1, list, &mut file[12304..368656]);
     file::begin(list, file);
@@ -51,7 +51,7 @@ fn carry_next(
     got1: &mut [u8],
 ) -> u32
     requires { ⌜ (q < 2) × (length (now coded0) ≡ 86016) × (length (now coded1) ≡ 86016) × (length (now list) ≡ 12288) × Legal overheadRule (now list) × (length (now got0) ≡ 86016) × (length (now got1) ≡ 86016) ⌝ }
-    ensures { λ r. ⌜ (r ≡ differingAll (lineOf (now (list .entry)) q (now (coded0 .entry)) (now (coded1 .entry))) (now (list .entry))) × (now (got0 .exit) ≡ pairsOff (lineOf (now (list .entry)) q (now (coded0 .entry)) (now (coded1 .entry))) 0) × (now (got1 .exit) ≡ pairsOff (lineOf (now (list .entry)) q (now (coded0 .entry)) (now (coded1 .entry))) 1) ⌝ }
+    ensures { λ r. ⌜ (r ≡ differingAll (damagedLine (now (list .entry)) q (now (coded0 .entry)) (now (coded1 .entry))) (now (list .entry))) × (now (got0 .exit) ≡ pairsOff (damagedLine (now (list .entry)) q (now (coded0 .entry)) (now (coded1 .entry))) 0) × (now (got1 .exit) ≡ pairsOff (damagedLine (now (list .entry)) q (now (coded0 .entry)) (now (coded1 .entry))) 1) ⌝ }
 {
     let mut file = file::blank();
     send(q, coded0, coded1, list, &mut file);
@@ -68,7 +68,7 @@ fn carry_both(
     counts: &mut [u32],
 )
     requires { ⌜ (length (now sent0) ≡ 172032) × (length (now sent1) ≡ 172032) × (length (now list) ≡ 12288) × Legal overheadRule (now list) × (length (now got0) ≡ 172032) × (length (now got1) ≡ 172032) × (length (now counts) ≡ 41) ⌝ }
-    ensures { λ _. ⌜ (now (got0 .exit) ≡ allOff (now (list .entry)) (now (sent0 .entry)) (now (sent1 .entry)) 0) × (now (got1 .exit) ≡ allOff (now (list .entry)) (now (sent0 .entry)) (now (sent1 .entry)) 1) × (now (counts .exit) ≡ each 2 (lineCounted (now (list .entry)) (now (sent0 .entry)) (now (sent1 .entry))) (now (counts .entry))) ⌝ }
+    ensures { λ _. ⌜ (now (got0 .exit) ≡ allOff (now (list .entry)) (now (sent0 .entry)) (now (sent1 .entry)) 0) × (now (got1 .exit) ≡ allOff (now (list .entry)) (now (sent0 .entry)) (now (sent1 .entry)) 1) × (now (counts .exit) ≡ eachStep 2 (lineCounted (now (list .entry)) (now (sent0 .entry)) (now (sent1 .entry))) (now (counts .entry))) ⌝ }
 {
     for q in 0..2 {
         let a = q * 86016;

@@ -1,5 +1,6 @@
 // Two payload streams from a fixed seed, through the whole chain and back over two super-frames of a damaged line, with refused
 // calls in between; what came of it, in counts.
+// Over `pair_words_core`, `pair`, `pair_stream`, `superframe`, `frame` and `line_file`.
 mod comparing;
 mod counts;
 mod file;

@@ -10,7 +10,7 @@ ghost use mathlib.Core.Path.{_≡_};
 ghost use Prim.Native.Nat.{_<_, _≤_};
 ghost use lib.ListN.{length};
 ghost use Rattle.loopback.specs.Noise.{replaced, struck, carrier, strike, strikeCell, damaged};
-ghost use Rattle.loopback.specs.Steps.{each};
+ghost use Rattle.loopback.specs.Steps.{eachStep};
 
 // Payload cell i of the five that are struck for an encoder in buffer b of 16, eight to a super-frame.
 fn struck(b: usize, encoder: usize, i: usize) -> usize
@@ -43,7 +43,7 @@ fn replace(line: &mut [u8], cell: usize, y: usize)
 // Strikes payload cells of super-frame q.
 fn strike(q: usize, line: &mut [u8])
     requires { ⌜ (q < 2) × (length (now line) ≡ 356352) ⌝ }
-    ensures { λ _. ⌜ now (line .exit) ≡ each 80 (strike q) (now (line .entry)) ⌝ }
+    ensures { λ _. ⌜ now (line .exit) ≡ eachStep 80 (strike q) (now (line .entry)) ⌝ }
 {
     for v in 0..80 {
         let u = q * 80 + v;
@@ -54,7 +54,7 @@ fn strike(q: usize, line: &mut [u8])
 // Strikes a cell of the first n sub-frames.
 fn strike_cell(cell: usize, n: usize, line: &mut [u8])
     requires { ⌜ (cell < 3712) × (n ≤ 48) × (length (now line) ≡ 356352) ⌝ }
-    ensures { λ _. ⌜ now (line .exit) ≡ each n (strikeCell cell) (now (line .entry)) ⌝ }
+    ensures { λ _. ⌜ now (line .exit) ≡ eachStep n (strikeCell cell) (now (line .entry)) ⌝ }
 {
     for s in 0..n {
         replace(line, s * 3712 + cell, s);

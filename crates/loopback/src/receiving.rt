@@ -7,16 +7,16 @@ use crate::counts::add;
 use crate::counts::print_receiver;
 use crate::random;
 use crate::refusing::refuse_receiving;
-use layout::words::held_word;
-use layout::words::open_word;
+use pair_words_core::words::held_word;
+use pair_words_core::words::open_word;
 ghost use mathlib.Core.Path.{_≡_};
 ghost use Prim.Native.Nat.{_-_, _<_};
 ghost use lib.ListN.{length};
 ghost use Rattle.bits.specs.Parts.{partOf};
-ghost use Rattle.ofec.specs.Stream.{receiver, historyOver};
+ghost use Rattle.pair_spec.specs.Stream.{pairReceiver, historyOver};
 ghost use Rattle.loopback.specs.Random.{pairPayload};
 ghost use Rattle.loopback.specs.Received.{wordIn, keptWord, payloadWord, codedCounted, payloadCounted, pairCompared, pairTaken, nextReceived};
-ghost use Rattle.loopback.specs.Steps.{each};
+ghost use Rattle.loopback.specs.Steps.{eachStep};
 
 // The first of the ten pairs before pair k. A word of the first ten pairs has zeros in front, whatever stands there.
 fn before(k: usize) -> usize
@@ -119,20 +119,20 @@ fn receive_next(
     counts: &mut [u32],
 )
     requires { ⌜ (k < 336) × (encoder < 2) × (length (now sent) ≡ 172032) × (length (now got) ≡ 172032) × (length (now history) ≡ 5120) × (length (now counts) ≡ 41) ⌝ }
-    ensures { λ _. ⌜ (now (history .exit) ≡ historyOver receiver 1 (now (history .entry)) k (partOf 512 (now (got .entry)) k)) × (now (counts .exit) ≡ pairTaken encoder (now (sent .entry)) (now (got .entry)) (now (history .entry)) k (now (counts .entry))) ⌝ }
+    ensures { λ _. ⌜ (now (history .exit) ≡ historyOver pairReceiver 1 (now (history .entry)) k (partOf 512 (now (got .entry)) k)) × (now (counts .exit) ≡ pairTaken encoder (now (sent .entry)) (now (got .entry)) (now (history .entry)) k (now (counts .entry))) ⌝ }
 {
     let a = k * 512;
     let e = a + 512;
     let mut out = [0u8; 444];
     let mut marks = [0u8; 32];
-    stream::receive(1, &got[a..e], k as u32, history, &mut out, &mut marks);
+    pair_stream::receive(1, &got[a..e], k as u32, history, &mut out, &mut marks);
     compare(k, encoder, sent, got, history, &out, &marks, counts);
 }
 
 // Receives the pairs of an encoder, each after refused calls.
 fn receive_all(encoder: u32, sent: &[u8], got: &[u8], counts: &mut [u32])
     requires { ⌜ (encoder < 2) × (length (now sent) ≡ 172032) × (length (now got) ≡ 172032) × (length (now counts) ≡ 41) ⌝ }
-    ensures { λ _. ⌜ now (counts .exit) ≡ each 336 (nextReceived encoder (now (sent .entry)) (now (got .entry))) (now (counts .entry)) ⌝ }
+    ensures { λ _. ⌜ now (counts .exit) ≡ eachStep 336 (nextReceived encoder (now (sent .entry)) (now (got .entry))) (now (counts .entry)) ⌝ }
 {
     let mut history = [0u8; 5120];
     for k in 0..336 {

@@ -5,7 +5,7 @@ ghost use mathlib.Core.Path.{_≡_};
 ghost use lib.ListN.{length};
 ghost use Rattle.calls.specs.declared.Answer.the-variants.{Refused};
 ghost use Rattle.calls.specs.declared.Refusal.the-variants.{Misfit, CountSpent, NoSuchFrame, OffGrid};
-ghost use Rattle.loopback.specs.Steps.{each};
+ghost use Rattle.loopback.specs.Steps.{eachStep};
 ghost use Rattle.loopback.specs.Tally.{answered, refusedTwo};
 
 // The pair number that no call takes.
@@ -17,7 +17,7 @@ fn encode_short(history: &mut [u8]) -> Answer
 {
     let payload = [0u8; 443];
     let mut coded = [0u8; 512];
-    codec::encode_pair(&payload, &mut coded, history, 0)
+    pair::encode_pair(&payload, &mut coded, history, 0)
 }
 
 // One with the pair number that no call takes.
@@ -27,13 +27,13 @@ fn encode_spent(history: &mut [u8]) -> Answer
 {
     let payload = [0u8; 444];
     let mut coded = [0u8; 512];
-    codec::encode_pair(&payload, &mut coded, history, SPENT)
+    pair::encode_pair(&payload, &mut coded, history, SPENT)
 }
 
 // Both, for each pair of a super-frame.
 pub fn refuse_encodings(history: &mut [u8], counts: &mut [u32])
     requires { ⌜ (length (now history) ≡ 5120) × (length (now counts) ≡ 41) ⌝ }
-    ensures { λ _. ⌜ (now (history .exit) ≡ now (history .entry)) × (now (counts .exit) ≡ each 168 (λ k. refusedTwo) (now (counts .entry))) ⌝ }
+    ensures { λ _. ⌜ (now (history .exit) ≡ now (history .entry)) × (now (counts .exit) ≡ eachStep 168 (λ k. refusedTwo) (now (counts .entry))) ⌝ }
 {
     for k in 0..168usize {
         answered(counts, encode_short(history));
@@ -48,7 +48,7 @@ fn receive_short(history: &mut [u8]) -> Answer
     let coded = [0u8; 511];
     let mut payload = [0u8; 444];
     let mut marks = [0u8; 32];
-    codec::receive_pair(&coded, &mut payload, &mut marks, history, 0)
+    pair::receive_pair(&coded, &mut payload, &mut marks, history, 0)
 }
 
 // One with the pair number that no call takes.
@@ -59,7 +59,7 @@ fn receive_spent(history: &mut [u8]) -> Answer
     let coded = [0u8; 512];
     let mut payload = [0u8; 444];
     let mut marks = [0u8; 32];
-    codec::receive_pair(&coded, &mut payload, &mut marks, history, SPENT)
+    pair::receive_pair(&coded, &mut payload, &mut marks, history, SPENT)
 }
 
 // Both.
@@ -78,7 +78,7 @@ fn frame_beyond() -> Answer
     let list = [0u8; 12288];
     let all = &list[..];
     let mut frame = [0u8; 7424];
-    framing::frame(48, all, all, &mut frame)
+    frame::frame(48, all, all, &mut frame)
 }
 
 // One with an illegal overhead list.
@@ -88,7 +88,7 @@ fn frame_off_grid() -> Answer
     let list = [16u8; 12288];
     let all = &list[..];
     let mut frame = [0u8; 7424];
-    framing::frame(0, &all[0..6980], all, &mut frame)
+    frame::frame(0, &all[0..6980], all, &mut frame)
 }
 
 // Both.

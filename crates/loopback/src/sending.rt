@@ -7,10 +7,10 @@ ghost use mathlib.Core.Path.{_≡_};
 ghost use Prim.Native.Nat.{_*_, _<_};
 ghost use lib.ListN.{length, replicate};
 ghost use Rattle.bits.specs.Parts.{endToEnd};
-ghost use Rattle.ofec.specs.Stream.{encoder as encoderOf, codedOf, historyOver};
+ghost use Rattle.pair_spec.specs.Stream.{pairEncoder as encoderOf, codedOf, historyOver};
 ghost use Rattle.loopback.specs.Random.{payloadIn};
 ghost use Rattle.loopback.specs.Sent.{sentIn, frameSent};
-ghost use Rattle.loopback.specs.Steps.{each};
+ghost use Rattle.loopback.specs.Steps.{eachStep};
 
 // The payload of an encoder in a super-frame.
 type Payload = [u8; 74592];
@@ -40,13 +40,13 @@ fn encode_next(encoder: u32, q: u32, history: &mut [u8], coded: &mut [u8])
 {
     let mut payload = blank();
     draw(encoder, q, &mut payload);
-    stream::encode(168, &payload, 168 * q, history, coded);
+    pair_stream::encode(168, &payload, 168 * q, history, coded);
 }
 
 // The coded pairs of two super-frames, each after refused calls.
 fn encode_both(encoder: u32, coded: &mut [u8], counts: &mut [u32])
     requires { ⌜ (encoder < 2) × (length (now coded) ≡ 172032) × (length (now counts) ≡ 41) ⌝ }
-    ensures { λ _. ⌜ (now (coded .exit) ≡ endToEnd 2 86016 (sentIn encoder)) × (now (counts .exit) ≡ each 2 (λ q. frameSent) (now (counts .entry))) ⌝ }
+    ensures { λ _. ⌜ (now (coded .exit) ≡ endToEnd 2 86016 (sentIn encoder)) × (now (counts .exit) ≡ eachStep 2 (λ q. frameSent) (now (counts .entry))) ⌝ }
 {
     let mut history = [0u8; 5120];
     for q in 0..2 {

@@ -1,9 +1,9 @@
-// What the programs print of a line file: its header's numbers on one line, or the refusal; and on standard error why.
+// What the programs print of a line file: its header's numbers on one line, or the refusal. Over `line_file_spec`, below the programs.
 use calls::Answer;
 use libc::STDERR_FILENO;
 use libc::STDOUT_FILENO;
-use lineformat::Header;
-use lineheader::rules::number;
+use line_file_core::rules::number;
+use line_file_spec::Header;
 ghost use Prim.Native.Nat.{_^_, _<_};
 
 // Prints a name and a number, and answers whether it could.

@@ -1,18 +1,19 @@
 // Super-frames of the line: the coded pairs of both encoders made into frames, by the calls of interleaving, cells and framing for every
-// buffer and sub-frame; and the way back, from frames to coded pairs. `stream` has the step between payload and coded pairs.
+// buffer and sub-frame; and the way back, from frames to coded pairs. `pair_stream` has the step between payload and coded pairs.
+// Over `cells_core` and `superframe_core`; by the definitions of `superframe_spec`.
 use calls::Answer;
 use calls::Refusal;
-use mapper::legal::first_illegal;
+use cells_core::legal::first_illegal;
 ghost use mathlib.Core.Path.{_≡_};
 ghost use lib.ListN.{length};
 ghost use Rattle.calls.specs.declared.Answer.the-variants.{Done};
-ghost use Rattle.cells.specs.Cells.{overheadRule, Legal};
-ghost use Rattle.cells.specs.Profiles.{qam16};
-ghost use Rattle.interleaving.specs.Calls.{parted};
-ghost use Rattle.superframes.specs.Superframe.{superframe};
-ghost use Rattle.superframes.specs.Apart.{lineRule, takenApart, takeApart};
+ghost use Rattle.cells_spec.specs.Cells.{overheadRule, Legal};
+ghost use Rattle.cells_spec.specs.Profiles.{qam16};
+ghost use Rattle.interleaver_spec.specs.Calls.{parted};
+ghost use Rattle.superframe_spec.specs.Superframe.{superframe};
+ghost use Rattle.superframe_spec.specs.Apart.{lineRule, takenApart, takeApart};
 
-// The payload of a super-frame.
+// The payload of a super-frame: 172,032 cells of two bytes.
 type Payload = [u8; 344064];
 
 fn blank() -> Payload {
@@ -25,8 +26,8 @@ pub fn make(pairs0: &[u8], pairs1: &[u8], overhead: &[u8], line: &mut [u8])
     ensures { λ _. ⌜ now (line .exit) ≡ superframe qam16 (now (pairs0 .entry)) (now (pairs1 .entry)) (now (overhead .entry)) ⌝ }
 {
     let mut payload = blank();
-    superparts::buffers::join(pairs0, pairs1, &mut payload);
-    superparts::subframes::frame(&payload, overhead, line);
+    superframe_core::buffers::join(pairs0, pairs1, &mut payload);
+    superframe_core::subframes::frame_all(&payload, overhead, line);
 }
 
 // The coded pairs of both encoders from legal frames, and the number of overhead cells that differ from the list.
@@ -35,8 +36,8 @@ fn take(line: &[u8], overhead: &[u8], pairs0: &mut [u8], pairs1: &mut [u8]) -> u
     ensures { λ r. ⌜ parted (Done r) (now (pairs0 .exit)) (now (pairs1 .exit)) ≡ takenApart qam16 (now (line .entry)) (now (overhead .entry)) ⌝ }
 {
     let mut payload = blank();
-    let differing = superparts::subframes::unframe(line, overhead, &mut payload);
-    superparts::buffers::part(&payload, pairs0, pairs1);
+    let differing = superframe_core::subframes::unframe_all(line, overhead, &mut payload);
+    superframe_core::buffers::part(&payload, pairs0, pairs1);
     differing
 }
 

@@ -1,8 +1,8 @@
 -- `interleaver::deinterleave` meets its contract: the tests in their order, and what it does.
 -- Assumes nothing.
-use Rattle.interleaving.specs.BlockBufferLaws.{apart-rows}
+use Rattle.interleaver_spec.specs.BlockBufferLaws.{apart-rows}
 use Rattle.calls.specs.CallLaws.{cases}
-use Rattle.interleaving.specs.CallLaws.{part-done}
+use Rattle.interleaver_spec.specs.CallLaws.{part-done}
 use borrow.Author.Needs.{needs}
 use Rattle.interleaver.proofs.deinterleave.Statement.{statement}
 use Rattle.interleaver.proofs.deinterleave.Tie as tie

@@ -1,8 +1,8 @@
 -- `interleaver::interleave` meets its contract: the tests in their order, and what it does.
 -- Assumes nothing.
-use Rattle.interleaving.specs.BlockBufferLaws.{interleaved-rows}
+use Rattle.interleaver_spec.specs.BlockBufferLaws.{interleaved-rows}
 use Rattle.calls.specs.CallLaws.{cases}
-use Rattle.interleaving.specs.CallLaws.{join-done}
+use Rattle.interleaver_spec.specs.CallLaws.{join-done}
 use borrow.Author.Needs.{needs}
 use Rattle.interleaver.proofs.interleave.Statement.{statement}
 use Rattle.interleaver.proofs.interleave.Tie as tie

@@ -1,7 +1,7 @@
 -- `superframe::make` meets its contract.
 -- Assumes nothing.
 use borrow.Author.Needs.{needs}
-use Rattle.superframes.specs.SuperframeLaws.{payload-legal, superframe-is}
+use Rattle.superframe_spec.specs.SuperframeLaws.{payload-legal, superframe-is}
 use Rattle.superframe.proofs.make.Statement.{statement}
 use Rattle.superframe.proofs.make.Tie as tie
 
@@ -14,7 +14,7 @@ make-spec =
     (λ c κs. search needs)  -- blank-requires
     (λ c. search needs)  -- slice-aggregate-join
     (λ c κs. search needs)  -- join-requires
-    (λ c. search needs)  -- slice-aggregate-frame
-    (λ c κs. search kit)  -- frame-requires
+    (λ c. search needs)  -- slice-aggregate-frame-all
+    (λ c κs. search kit)  -- frame-all-requires
     (λ c. search needs)  -- same-length
     (λ c. search kit))  -- returns

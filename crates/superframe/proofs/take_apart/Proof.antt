@@ -1,8 +1,8 @@
 -- `superframe::take_apart` meets its contract.
 -- Assumes nothing.
 use Rattle.calls.specs.CallLaws.{cases}
-use Rattle.cells.specs.CallLaws.{legality, demap-legal}
-use Rattle.superframes.specs.ApartLaws.{line-flat, line-legal, apart-done}
+use Rattle.cells_spec.specs.CallLaws.{legality, demap-legal}
+use Rattle.superframe_spec.specs.ApartLaws.{line-flat, line-legal, apart-done}
 use borrow.Author.Needs.{needs}
 use Rattle.superframe.proofs.take_apart.Statement.{statement}
 use Rattle.superframe.proofs.take_apart.Tie as tie

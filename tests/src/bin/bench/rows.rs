@@ -41,8 +41,8 @@ fn receive(damage: &str, coded: &[u8]) -> String {
         |received| *received = receive_all(same_structure::receive_pair, coded),
     );
     let count = |mark| received.marks.iter().filter(|&&m| m == mark).count();
-    let (mended, lost) = (count(1) + count(2), count(LOST as u8));
-    format!("with {damage}, {mended} were repaired and {lost} lost")
+    let (repaired, lost) = (count(1) + count(2), count(LOST as u8));
+    format!("with {damage}, {repaired} were repaired and {lost} lost")
 }
 
 /// Each bit is wrong with this probability.

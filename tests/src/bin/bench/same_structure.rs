@@ -1,6 +1,6 @@
 //! The library's functions once more, in plain Rust with the same loops: what is left between the two
-//! when the structure is the same. It follows crates/codec, pairs, layout, checkword, gf256, interleaver,
-//! blockrows, blocks, symbols, mapper, framing and subframe function by function, and changes with them.
+//! when the structure is the same. It follows crates/pair, pair_core, pair_words_core, word, gf256, interleaver,
+//! interleaver_core, block_core, cells, cells_core, frame and frame_core function by function, and changes with them.
 //!
 //! Lengths of buffers that contracts of the library require are in the types here, and no call is inlined
 //! into the code that times it.
@@ -14,12 +14,12 @@
 
 use ofec_tests::outcome::{Outcome, COUNT_SPENT, MISFIT, NO_SUCH_FRAME};
 
-mod blocks;
-mod checkword;
-mod layout;
-mod mapper;
-mod pairs;
-mod subframe;
+mod block_core;
+mod word;
+mod pair_words_core;
+mod cells_core;
+mod pair_core;
+mod frame_core;
 
 /// Bit i of a buffer.
 fn bit(s: &[u8], i: usize) -> u8 {
@@ -40,7 +40,7 @@ pub fn encode_pair(payload: &[u8], coded: &mut [u8], history: &mut [u8], pair: u
     if pair == u32::MAX {
         return Outcome::refused_pair(COUNT_SPENT, pair);
     }
-    pairs::encode_into(payload, coded, history, pair);
+    pair_core::encode_into(payload, coded, history, pair);
     Outcome::accepted(pair + 1)
 }
 
@@ -63,7 +63,7 @@ pub fn receive_pair(
     if pair == u32::MAX {
         return Outcome::refused_pair(COUNT_SPENT, pair);
     }
-    pairs::receive_into(coded, payload, marks, history, pair);
+    pair_core::receive_into(coded, payload, marks, history, pair);
     Outcome::accepted(pair + 1)
 }
 
@@ -74,8 +74,8 @@ pub fn interleave(pairs0: &[u8], pairs1: &[u8], bits: &mut [u8]) -> Outcome {
     else {
         return Outcome::refused(MISFIT);
     };
-    let rows = blocks::reordered_rows(pairs0, pairs1);
-    blocks::write_bits(&rows, bits);
+    let rows = block_core::reordered_rows(pairs0, pairs1);
+    block_core::write_bits(&rows, bits);
     Outcome::accepted(0)
 }
 
@@ -86,9 +86,9 @@ pub fn deinterleave(bits: &[u8], pairs0: &mut [u8], pairs1: &mut [u8]) -> Outcom
     else {
         return Outcome::refused(MISFIT);
     };
-    let rows = blocks::restored_rows(bits);
-    blocks::write_pairs(&rows, 0, pairs0);
-    blocks::write_pairs(&rows, 1, pairs1);
+    let rows = block_core::restored_rows(bits);
+    block_core::write_pairs(&rows, 0, pairs0);
+    block_core::write_pairs(&rows, 1, pairs1);
     Outcome::accepted(0)
 }
 
@@ -97,7 +97,7 @@ pub fn bits_to_cells(bits: &[u8], cells: &mut [u8]) -> Outcome {
     let (Ok(bits), Ok(cells)) = (bits.try_into(), cells.try_into()) else {
         return Outcome::refused(MISFIT);
     };
-    mapper::map(bits, cells);
+    cells_core::map(bits, cells);
     Outcome::accepted(0)
 }
 
@@ -106,11 +106,11 @@ pub fn cells_to_bits(cells: &[u8], bits: &mut [u8]) -> Outcome {
     let (Ok(whole), Ok(bits)) = (cells.try_into(), bits.try_into()) else {
         return Outcome::refused(MISFIT);
     };
-    let at = mapper::first_illegal(cells);
+    let at = cells_core::first_illegal(cells);
     if at < cells.len() {
         return Outcome::off_grid(at);
     }
-    mapper::demap(whole, bits);
+    cells_core::demap(whole, bits);
     Outcome::accepted(0)
 }
 
@@ -125,13 +125,13 @@ fn judge(number: u32, overhead: &[u8], frame: &[u8], payload: &[u8]) -> Outcome 
     if 47 < number {
         return Outcome::refused(NO_SUCH_FRAME);
     }
-    if payload.len() != subframe::payload_cells(number) * 2 {
+    if payload.len() != frame_core::payload_cells(number) * 2 {
         return Outcome::refused(MISFIT);
     }
-    let own = subframe::own_overhead(number, overhead);
-    let at = mapper::first_illegal(own);
+    let own = frame_core::own_overhead(number, overhead);
+    let at = cells_core::first_illegal(own);
     if at < own.len() {
-        return Outcome::off_grid(subframe::overhead_start(number) * 2 + at);
+        return Outcome::off_grid(frame_core::overhead_start(number) * 2 + at);
     }
     Outcome::accepted(0)
 }
@@ -142,12 +142,12 @@ pub fn frame(number: u32, payload: &[u8], overhead: &[u8], frame: &mut [u8]) -> 
     if judged.refusal != 0 {
         return judged;
     }
-    let to = mapper::first_illegal(payload);
+    let to = cells_core::first_illegal(payload);
     if to < payload.len() {
         return Outcome::off_grid(to);
     }
-    let own = subframe::own_overhead(number, overhead);
-    subframe::place(number, payload, own, frame);
+    let own = frame_core::own_overhead(number, overhead);
+    frame_core::place(number, payload, own, frame);
     Outcome::accepted(0)
 }
 
@@ -157,11 +157,11 @@ pub fn unframe(number: u32, frame: &[u8], overhead: &[u8], payload: &mut [u8]) -
     if judged.refusal != 0 {
         return judged;
     }
-    let to = mapper::first_illegal(frame);
+    let to = cells_core::first_illegal(frame);
     if to < frame.len() {
         return Outcome::off_grid(to);
     }
-    subframe::extract(number, frame, payload);
-    let own = subframe::own_overhead(number, overhead);
-    Outcome::accepted(subframe::differing(number, frame, own))
+    frame_core::extract(number, frame, payload);
+    let own = frame_core::own_overhead(number, overhead);
+    Outcome::accepted(frame_core::differing(number, frame, own))
 }

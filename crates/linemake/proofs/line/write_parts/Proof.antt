@@ -1,7 +1,7 @@
 -- `linemake::line::write_parts` is safe and ends: the list that framing is lent is legal.
 -- Assumes nothing.
 use borrow.Author.Needs.{needs}
-use Rattle.cells.specs.CallLaws.{demap-legal}
+use Rattle.cells_spec.specs.CallLaws.{demap-legal}
 use Rattle.linemake.proofs.line.write_parts.Statement.{statement}
 use Rattle.linemake.proofs.line.write_parts.Tie as tie
 

@@ -6,9 +6,9 @@ use Prim.Native.Nat.{ℕ, _≤_}
 use native.Mathlib.Omega.{arith}
 use Rattle.calls.specs.declared.Answer.{Answer}
 use Rattle.calls.specs.declared.Answer.the-variants.{Done, Refused}
-use Rattle.lineformat.specs.declared.Header.{Header}
-use Rattle.lineformat.specs.Header.{number, judged}
-use Rattle.lineformat.specs.HeaderLaws.{judged-done, judged-refused}
+use Rattle.line_file_spec.specs.declared.Header.{Header}
+use Rattle.line_file_spec.specs.Header.{headerNumber, judged}
+use Rattle.line_file_spec.specs.HeaderLaws.{judged-done, judged-refused}
 use borrow.Author.Needs.{needs}
 use Rattle.linereceive.proofs.inputs.header.Statement.{statement}
 use Rattle.linereceive.proofs.inputs.header.Tie as tie
@@ -19,7 +19,7 @@ at-most bytes size h e = go (judged bytes size .answer) refl
     go : (a : Answer) → judged bytes size .answer ≡ a → h .superframes ≤ 64
     go (Done v) p =
         let s = judged-done bytes size v p in
-        let is : h .superframes ≡ number bytes 0 = ap (λ (x : Header). x .superframes) (e ∙ s .is) in
+        let is : h .superframes ≡ headerNumber bytes 0 = ap (λ (x : Header). x .superframes) (e ∙ s .is) in
         omega (arith, s .rules .most)
     go (Refused r) p =
         let none : h .superframes ≡ 0 = ap (λ (x : Header). x .superframes) (e ∙ judged-refused bytes size r p) in omega arith

@@ -1,11 +1,11 @@
 -- `loopback::counts::add` meets its contract.
 -- Assumes nothing.
-use Rattle.loopback.specs.TallyLaws.{added}
+use Rattle.loopback.specs.TallyLaws.{sum-known}
 use borrow.Author.Needs.{needs}
 use Rattle.loopback.proofs.counts.add.Statement.{statement}
 use Rattle.loopback.proofs.counts.add.Tie as tie
 
-ruleset kit = (needs, added)
+ruleset kit = (needs, sum-known)
 
 pub add-spec : {M : Type 1} → statement M
 add-spec =

@@ -1,11 +1,11 @@
 -- `loopback::counts::answered` meets its contract.
 -- Assumes nothing.
-use Rattle.loopback.specs.TallyLaws.{counted}
+use Rattle.loopback.specs.TallyLaws.{count-known}
 use borrow.Author.Needs.{needs}
 use Rattle.loopback.proofs.counts.answered.Statement.{statement}
 use Rattle.loopback.proofs.counts.answered.Tie as tie
 
-ruleset kit = (needs, counted)
+ruleset kit = (needs, count-known)
 
 pub answered-spec : {M : Type 1} → statement M
 answered-spec =

@@ -5,9 +5,9 @@ use Prim.Native.Nat.{_+_, _-_, _*_}
 use Rattle.bits.specs.Filling.{Blocks, by-blocks, blocks-next}
 use Rattle.bits.specs.Parts.{byteOfEach}
 use Rattle.bits.specs.PartLaws.{part-long}
-use Rattle.lineformat.specs.Opening.{openCall}
-use Rattle.lineformat.specs.Reading.{readPartIn}
-use Rattle.loopback.specs.FileLaws.{frame-block, frames-whole}
+use Rattle.line_file_spec.specs.Opening.{openCall}
+use Rattle.line_file_spec.specs.Reading.{readPartIn}
+use Rattle.loopback.specs.FileLaws.{file-frame-block, frames-whole}
 use borrow.Author.Needs.{needs}
 use Rattle.loopback.proofs.file.read_frames.Statement.{statement}
 use Rattle.loopback.proofs.file.read_frames.Tie as tie
@@ -39,6 +39,6 @@ read-frames-spec =
     (λ c.
     let l = c .before .before .before .before .before .loop in
     blocks-next {d = l .frames} (l .s * 7424) (l .s * 7424 + 7424) _ (l .inv) (search needs) refl refl
-    (frame-block _ (search needs) (search needs) (l .s) _ _ (search needs) (c .before .before .read-frame .ensures)))  -- loop-again
+    (file-frame-block _ (search needs) (search needs) (l .s) _ _ (search needs) (c .before .before .read-frame .ensures)))  -- loop-again
     (λ c. search kit)  -- same-length
     (λ c. search kit))  -- returns

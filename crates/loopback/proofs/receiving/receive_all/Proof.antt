@@ -4,7 +4,7 @@ use mathlib.Core.Path.{_≡_, _∙_}
 use lib.ListN.{length}
 use Prim.Native.Nat.{_-_}
 use Rattle.bits.specs.Parts.{partOf}
-use Rattle.ofec.specs.Stream.{receiver, historyBefore}
+use Rattle.pair_spec.specs.Stream.{pairReceiver, historyBefore}
 use Rattle.loopback.specs.Received.{nextReceived}
 use Rattle.loopback.specs.StepLaws.{Stepping, step-none, step-done}
 use Rattle.loopback.specs.StreamLaws.{before-none, before-pair, received-more}
@@ -15,7 +15,7 @@ use Rattle.loopback.proofs.receiving.receive_all.Tie as tie
 ruleset kit = (needs, before-none, step-none, step-done)
 
 abbrev Inv-loop : tie.InvT-loop
-Inv-loop encoder sent got counts₀ history₀ k₀ counts history k = (length history ≡ 5120) × (length counts ≡ 41) × (history ≡ historyBefore receiver 1 (partOf 512 got) k) × Stepping (nextReceived encoder sent got) 336 counts₀ k counts
+Inv-loop encoder sent got counts₀ history₀ k₀ counts history k = (length history ≡ 5120) × (length counts ≡ 41) × (history ≡ historyBefore pairReceiver 1 (partOf 512 got) k) × Stepping (nextReceived encoder sent got) 336 counts₀ k counts
 
 abbrev μ-loop : tie.MeasureT-loop
 μ-loop encoder sent got counts₀ history₀ k₀ counts history k = 336 - k

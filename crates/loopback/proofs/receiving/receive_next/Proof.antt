@@ -1,7 +1,7 @@
 -- `loopback::receiving::receive_next` meets its contract.
 -- Assumes nothing.
 use mathlib.Core.Path.{refl}
-use Rattle.loopback.specs.StreamLaws.{pair-history, pair-taken}
+use Rattle.loopback.specs.StreamLaws.{step-history, pair-taken}
 use borrow.Author.Needs.{needs}
 use Rattle.loopback.proofs.receiving.receive_next.Statement.{statement}
 use Rattle.loopback.proofs.receiving.receive_next.Tie as tie
@@ -26,6 +26,6 @@ receive-next-spec =
     (λ c. search needs)  -- same-length-2
     (λ c.
     let made = c .before .before .before .before .before .before .before .before .before .before .before .receive .ensures in (
-      pair-history _ _ _ _ _ refl refl _ (made .2),
+      step-history _ _ _ _ _ refl refl _ (made .2),
       pair-taken _ _ _ _ _ refl refl _ _ _ _ _ _ _ (made .2) (made .0) (made .1) (c .before .before .compare .ensures),
     )))  -- returns

@@ -6,12 +6,12 @@ use Rattle.bits.specs.Filling.{Blocks, by-blocks, blocks-next}
 use Rattle.bits.specs.Parts.{part, byteOfEach}
 use Rattle.loopback.specs.Random.{pairPayload}
 use Rattle.bits.specs.PartLaws.{part-long}
-use Rattle.loopback.specs.RandomLaws.{pair-block, payload-is}
+use Rattle.loopback.specs.RandomLaws.{pair-block, payload-stream-is}
 use borrow.Author.Needs.{needs}
 use Rattle.loopback.proofs.sending.draw.Statement.{statement}
 use Rattle.loopback.proofs.sending.draw.Tie as tie
 
-ruleset kit = (needs, by-blocks, payload-is)
+ruleset kit = (needs, by-blocks, payload-stream-is)
 
 abbrev Inv-loop : tie.InvT-loop
 Inv-loop encoder q payload₀ k₀ payload k = Blocks (byteOfEach 444 (λ j. pairPayload encoder (q * 168 + j))) 444 168 k payload

@@ -6,7 +6,7 @@ use Prim.Native.Nat.{_-_, _*_, _+_}
 use Rattle.bits.specs.Filling.{Blocks, by-blocks, blocks-next}
 use Rattle.bits.specs.Parts.{byteOfEach}
 use Rattle.bits.specs.PartLaws.{part-long}
-use Rattle.ofec.specs.Stream.{encoder as encoderOf, historyBefore}
+use Rattle.pair_spec.specs.Stream.{pairEncoder as encoderOf, historyBefore}
 use Rattle.loopback.specs.Random.{payloadIn}
 use Rattle.loopback.specs.Sent.{sentIn, frameSent}
 use Rattle.loopback.specs.StepLaws.{Stepping, step-none, step-more, step-done}

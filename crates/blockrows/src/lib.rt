@@ -1,5 +1,0 @@
-// The work of the interleaver on the block rows of a buffer; the calls are in `interleaver`.
-mod buffer;
-pub mod joining;
-pub mod rows;
-pub mod taking_apart;

@@ -1,6 +1,0 @@
--- Laws for the code; what a reader must believe stands in crate bch.
-pub mod Partial
-pub mod Checking
-pub mod Finding
-pub mod Applying
-pub mod Completing

@@ -1,1 +1,0 @@
-// Whole runs of the exported functions; see specs/.

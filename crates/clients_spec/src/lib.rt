@@ -1,0 +1,1 @@
+// Whole runs of the exported functions, definitions and laws alone. Over `capi` and `line_spec`.

@@ -1,0 +1,275 @@
+-- Laws of the block rows of a buffer.
+-- Assumes nothing.
+use mathlib.Core.Path.{_≡_, refl, sym, ap, ap₂, _∙_}
+use mathlib.Core.List.{List}
+use Prim.Native.Nat.{ℕ, _+_, _-_, _*_, _/_, _%_, _^_, _<_, _≤_}
+use native.Mathlib.Omega.{arith}
+use borrow.Author.Tests.{eq-eqb, ne-eqb}
+use borrow.Rule.Slice.PartMut.{putMid}
+use lib.ListN.{length, getD, set, length-set}
+use Rattle.bits.specs.Bits.{bitOf, bit, fromBits, byteOf, pack}
+use Rattle.bits.specs.BitLaws.{bit-lt, bitOf-fromBits, fromBits-ext, pack-ext}
+use Rattle.bits.specs.Filling.{Filling, fill-none, fill-more, fill-done, Blocks, blocks-next}
+use Rattle.bits.specs.ListLaws.{getD-tabulate, tabulate-ext}
+use Rattle.bits.specs.Lists.{tabulate}
+use Rattle.interleaver_spec.specs.declared.BlockRow.{BlockRow}
+use Rattle.interleaver_spec.specs.NumberLaws.{two-bytes, half-is}
+use Rattle.interleaver_spec.specs.Rows.{blockRow, encoderIn, rowIn, blockRowOf}
+use Rattle.interleaver_spec.specs.Block.{bitAt, rowWord, block, sourceRow, sourceColumn, reordered, restored}
+use Rattle.interleaver_spec.specs.BlockLaws.{bitAt-block-of, block-ext, bitAt-reordered, bitAt-restored, targetRow, targetColumn}
+use Rattle.interleaver_spec.specs.BlockLaws.{targetRow-lt, targetColumn-lt, sourceRow-lt, sourceColumn-lt}
+use Rattle.interleaver_spec.specs.Moves.{turned, moved, transposed}
+use Rattle.interleaver_spec.specs.MoveLaws.{transposed-bit}
+use Rattle.interleaver_spec.specs.Positions.{outColumn, tOf, bOf, outBlockRow, placeRow, placeColumn, encoderOf, rowOf, blockOf}
+use Rattle.interleaver_spec.specs.Positions.{bitRowOf, columnOf}
+use Rattle.interleaver_spec.specs.PositionLaws.{part-column, part-t, part-subset, part-b, outputAt, output-upper, output-lower}
+use Rattle.interleaver_spec.specs.PositionLaws.{outputFor, outBlockRow-lt}
+use Rattle.interleaver_spec.specs.Interleaving.{pairsBit, pairsOf, sourceOf, interleavedBit, interleaved, outputOf, apart}
+use Rattle.interleaver_spec.specs.InterleavingLaws.{outputFrom, outputOf-is}
+use Rattle.interleaver_spec.specs.BlockBuffer.{laidWord, laid, blockRowWord, pairsPlace, pairsWord, pairsWords, sentWords, wordsBlock}
+use Rattle.interleaver_spec.specs.BlockBuffer.{reorderedIn, sentBlock, reorderedBlock, reorderedRow, partsBit, outputBit, columnByte}
+use Rattle.interleaver_spec.specs.BlockBuffer.{linePlace, lineBlock, lineColumn, lineColumns, restoredBlock, restoredRow, rowByte}
+use Rattle.interleaver_spec.specs.BlockBuffer.{heldBit}
+use Rattle.interleaver_spec.specs.Laying.{Held}
+
+-- ---- a word of the buffer by its block row, block and number
+
+word-block : (i C : ℕ) → C < 8 → (8 * i + C) % 8 ≡ C
+word-block i C l = omega arith
+
+word-number : (i C : ℕ) → C < 8 → (8 * i + C) / 8 ≡ i
+word-number i C l = omega arith
+
+held-is : (f : ℕ → List ℕ) (g : BlockRow → ℕ → List ℕ) → ((x : ℕ) → f x ≡ laid (g (record { 0 = x }))) → (rows : List (List ℕ))
+    → Held f 84 rows
+    → (k : BlockRow) (C i j : ℕ) → k .0 < 84 → C < 8 → i < 16 → bitOf 16 (blockRowWord rows k (8 * i + C)) j ≡ bitAt (g k C) i j
+unfolding blockRowWord bitAt laid laidWord
+held-is f g by rows h k C i j lk lC li =
+    ap (λ r. bitOf 16 (getD r (8 * i + C) 0) j) (h .at (k .0) lk ∙ by (k .0))
+    ∙ ap (λ w. bitOf 16 w j)
+    (getD-tabulate 128 (laidWord (g k)) (8 * i + C) (omega arith)
+    ∙ ap₂ (λ x y. getD (g k x) y 0) (word-block i C lC) (word-number i C lC))
+
+-- ---- from pairs to bits, as code finds them
+
+-- A word is two bytes of the pairs.
+pub pairs-word : (s : List ℕ) (k : BlockRow) (at x u v : ℕ) → at * 8 ≡ pairsBit (rowIn k) (x % 8) (x / 8) 0 → u ≡ getD s (at + 1) 0
+    → v ≡ getD s at 0 → u < 256 → v < 256 → u * 256 + v ≡ pairsWord s k x
+unfolding pairsWord pairsPlace pairsBit
+pairs-word s k at x u v e p q lu lv =
+    two-bytes s (at + 1) at u v (λ c. pairsPlace s k (x % 8) (x / 8) ((c + 8) % 16)) p q lu lv
+    (λ j l. let n : (j + 8) % 16 ≡ 8 + j = omega arith in rw n (ap (bit s) (omega arith)))
+    (λ j l. let n : (8 + j + 8) % 16 ≡ j = omega arith in rw n (ap (bit s) (omega arith)))
+
+-- By its encoder.
+pub sent-0 : (pairs0 pairs1 : List ℕ) (k : BlockRow) (w : List ℕ) → k .0 % 2 ≡ 0 → w ≡ pairsWords pairs0 k → w ≡ sentWords pairs0 pairs1 k
+unfolding sentWords pairsOf
+sent-0 pairs0 pairs1 k w e p = p ∙ simp (eq-eqb (k .0 % 2) 0 e)
+
+pub sent-1 : (pairs0 pairs1 : List ℕ) (k : BlockRow) (w : List ℕ) → (k .0 % 2 ≡ 0 → ⊥) → w ≡ pairsWords pairs1 k
+    → w ≡ sentWords pairs0 pairs1 k
+unfolding sentWords pairsOf
+sent-1 pairs0 pairs1 k w e p = p ∙ simp (ne-eqb (k .0 % 2) 0 e)
+
+-- Turned by 8 columns more, the words of block C are its bit rows.
+block-words : (pairs0 pairs1 : List ℕ) (k : BlockRow) (C : ℕ) → C < 8
+    → wordsBlock (sentWords pairs0 pairs1 k) C ≡ sentBlock pairs0 pairs1 k C
+unfolding wordsBlock sentWords sentBlock pairsWords pairsWord block rowWord turned
+block-words pairs0 pairs1 k C lC = tabulate-ext 16 (λ r. turned (getD (pairsWords s k) (8 * r + C) 0) 8) (rowWord (pairsPlace s k C)) row
+  where
+    s : List ℕ
+    s = pairsOf pairs0 pairs1 (encoderIn k)
+
+    twice : (x : ℕ) → x % 2 % 2 ≡ x % 2
+    twice x = omega arith
+
+    row : (r : ℕ) → r < 16 → turned (getD (pairsWords s k) (8 * r + C) 0) 8 ≡ rowWord (pairsPlace s k C) r
+    row r lr =
+        ap (λ z. turned z 8)
+        (getD-tabulate 128 (pairsWord s k) (8 * r + C) (omega arith)
+        ∙ ap₂ (λ x y. fromBits 16 (λ c. pairsPlace s k x y ((c + 8) % 16))) (word-block r C lC) (word-number r C lC))
+        ∙ fromBits-ext 16 (λ c. bitOf 16 (fromBits 16 (λ d. pairsPlace s k C r ((d + 8) % 16))) ((c + 8) % 16)) (pairsPlace s k C r)
+        (λ c lc.
+        let n : ((c + 8) % 16 + 8) % 16 ≡ c = omega arith in
+        ap (λ z. z % 2)
+        (bitOf-fromBits 16 (λ d. pairsPlace s k C r ((d + 8) % 16)) ((c + 8) % 16) (omega arith) ∙ ap (λ d. pairsPlace s k C r d % 2) n)
+        ∙ twice (pairsPlace s k C r c))
+
+pub reordered-in : (words : List ℕ) (C : ℕ) (b r : List ℕ) → b ≡ wordsBlock words C → r ≡ transposed (reordered b) → r ≡ reorderedIn words C
+unfolding reorderedIn
+reordered-in words C b r p q = q ∙ ap (λ s. transposed (reordered s)) p
+
+pub reordered-words : (pairs0 pairs1 : List ℕ) (k : ℕ) (words row : List ℕ) → words ≡ sentWords pairs0 pairs1 (record { 0 = k })
+    → row ≡ laid (reorderedIn words) → row ≡ reorderedRow pairs0 pairs1 k
+unfolding reorderedRow laid laidWord reorderedIn reorderedBlock
+reordered-words pairs0 pairs1 k words row p q =
+    q ∙ ap (λ w. laid (reorderedIn w)) p
+    ∙ tabulate-ext 128 (laidWord (reorderedIn (sentWords pairs0 pairs1 (record { 0 = k })))) (laidWord (reorderedBlock pairs0 pairs1 (record { 0 = k })))
+    (λ x l. ap (λ b. getD (transposed (reordered b)) (x / 8) 0) (block-words pairs0 pairs1 (record { 0 = k }) (x % 8) (omega arith)))
+
+-- Byte y of the eight of a column in which block row x of each subset stands: half y div 4 of a word of subset y mod 4.
+pub eight-byte : (rows : List (List ℕ)) (column x y : ℕ) (k : BlockRow) (w : ℕ) → k ≡ blockRowOf (y % 4) (record { 0 = 16 * x })
+    → w ≡ blockRowWord rows k (8 * (column % 16) + column / 16) → w < 2 ^ 16 → x < 21 → y < 8
+    → w / 2 ^ (8 - 8 * (y / 4)) % 256 ≡ columnByte rows column (x * 8 + y)
+unfolding columnByte byteOf outputBit partsBit
+eight-byte rows column x y k w p q lw lx ly =
+    half-is w (y / 4) lw (omega arith)
+    ∙ fromBits-ext 8 (λ c. bitOf 16 w (8 * (y / 4) + c)) (λ c. outputBit rows ((column * 168 + (x * 8 + y)) * 8 + c))
+    (λ c l. ap (λ b. b % 2) (here c l))
+  where
+    here : (c : ℕ) → c < 8 → bitOf 16 w (8 * (y / 4) + c) ≡ outputBit rows ((column * 168 + (x * 8 + y)) * 8 + c)
+    here c l =
+        let n : (column * 168 + (x * 8 + y)) * 8 + c ≡ 1344 * column + 32 * (2 * x + y / 4) + 8 * (y % 4) + c = omega arith in
+        let t : 2 * x + y / 4 < 42 = omega arith in
+        let s : y % 4 < 4 = omega arith in
+        let row : 16 * x / 16 ≡ (8 * (2 * x + y / 4) + c) / 16 = omega arith in
+        let bit-row : 8 * (y / 4) + c ≡ (8 * (2 * x + y / 4) + c) % 16 = omega arith in
+        rw (
+          part-column _ column (2 * x + y / 4) (y % 4) c t s l n,
+          part-t _ column (2 * x + y / 4) (y % 4) c t s l n,
+          part-subset _ column (2 * x + y / 4) (y % 4) c t s l n,
+          part-b _ column (2 * x + y / 4) (y % 4) c t s l n,
+          q,
+          p,
+          row,
+          bit-row,
+        )
+
+-- Of reordered block rows the output bits are the buffer's.
+module _ (pairs0 pairs1 : List ℕ) (rows : List (List ℕ)) (h : Held (reorderedRow pairs0 pairs1) 84 rows) where
+  reordered-place : (k : BlockRow) (C i j : ℕ) → i < 16 → j < 16
+      → bitAt (reorderedBlock pairs0 pairs1 k C) j i
+      ≡ bit (pairsOf pairs0 pairs1 (k .0 % 2)) (pairsBit (k .0 / 2) C (sourceRow i j) (sourceColumn i j))
+  unfolding reorderedBlock sentBlock pairsPlace
+  reordered-place k C i j li lj =
+      transposed-bit (reordered (sentBlock pairs0 pairs1 k C)) i j li lj
+      ∙ bitAt-reordered (sentBlock pairs0 pairs1 k C) i j li lj
+      ∙ bitAt-block-of (pairsPlace (pairsOf pairs0 pairs1 (k .0 % 2)) k C)
+      (λ r c. bit-lt (pairsOf pairs0 pairs1 (k .0 % 2)) (pairsBit (k .0 / 2) C r c))
+      (sourceRow i j) (sourceColumn i j) (sourceRow-lt i j) (sourceColumn-lt i j)
+
+  output-bit : (n : ℕ) → n < 172032 → outputBit rows n ≡ interleavedBit pairs0 pairs1 n
+  unfolding outputBit partsBit reorderedRow interleavedBit sourceOf encoderOf rowOf blockOf bitRowOf columnOf
+  output-bit n ln =
+      held-is (reorderedRow pairs0 pairs1) (reorderedBlock pairs0 pairs1) (λ x. refl) rows h
+      (outBlockRow n) (outColumn n / 16) (placeColumn n) (placeRow n .0) (outBlockRow-lt n ln) (omega arith) (last (outColumn n))
+      ∙ reordered-place (outBlockRow n) (outColumn n / 16) (placeRow n .0) (placeColumn n) (last (8 * tOf n + bOf n)) (last (outColumn n))
+    where
+      last : (x : ℕ) → x % 16 < 16
+      last x = omega arith
+
+pub interleaved-rows : (pairs0 pairs1 : List ℕ) (rows : List (List ℕ)) (bits : List ℕ) → Held (reorderedRow pairs0 pairs1) 84 rows
+    → bits ≡ pack 21504 (outputBit rows) → bits ≡ interleaved pairs0 pairs1
+unfolding interleaved
+interleaved-rows pairs0 pairs1 rows bits h e =
+    e ∙ pack-ext 21504 (outputBit rows) (interleavedBit pairs0 pairs1) (λ n l. output-bit pairs0 pairs1 rows h n (omega arith))
+
+-- ---- from bits to pairs, as code finds them
+
+-- The bit rows of a column of a block are two bytes, four apart.
+pub line-word : (bits : List ℕ) (k : BlockRow) (C j at x y : ℕ) → at * 8 ≡ outputAt k (record { 0 = 0 }) (16 * C + j) → x ≡ getD bits at 0
+    → y ≡ getD bits (at + 4) 0 → x < 256 → y < 256 → x * 256 + y ≡ rowWord (lineColumn bits k C) j
+unfolding rowWord lineColumn linePlace
+line-word bits k C j at x y e p q lx ly =
+    two-bytes bits at (at + 4) x y (lineColumn bits k C j) p q lx ly
+    (λ i l. ap (bit bits) (output-upper k (16 * C + j) at i e l)) (λ i l. ap (bit bits) (output-lower k (16 * C + j) at i e l))
+
+line-lt : (bits : List ℕ) (k : BlockRow) (C i j : ℕ) → linePlace bits k C i j < 2
+unfolding linePlace
+line-lt bits k C i j = bit-lt bits (outputAt k (record { 0 = i }) (16 * C + j))
+
+pub restored-block : (bits : List ℕ) (k : BlockRow) (C : ℕ) (b r : List ℕ) → b ≡ lineColumns bits k C → r ≡ restored (transposed b)
+    → r ≡ restoredBlock bits k C
+unfolding restoredBlock lineColumn transposed moved
+restored-block bits k C b r p q =
+    q ∙ ap (λ s. restored (transposed s)) p
+    ∙ ap restored
+    (block-ext (λ i j. bitAt (block (lineColumn bits k C)) j i) (linePlace bits k C)
+    (λ i j li lj. bitAt-block-of (lineColumn bits k C) (λ u v. line-lt bits k C v u) j i lj li))
+
+-- A word's bytes.
+row-half : (rows : List (List ℕ)) (k : BlockRow) (x h w : ℕ) → w ≡ blockRowWord rows k x → w < 2 ^ 16 → h < 2
+    → w / 2 ^ (8 - 8 * h) % 256 ≡ rowByte rows k (2 * x + h)
+unfolding rowByte
+row-half rows k x h w e l lh =
+    let word : (2 * x + h) / 2 ≡ x = omega arith in
+    let half : (2 * x + h) % 2 ≡ h = omega arith in
+    rw (word, half) (half-is w h l lh ∙ ap (λ v. fromBits 8 (λ c. bitOf 16 v (8 * h + c))) e)
+
+pub row-upper : (rows : List (List ℕ)) (k : BlockRow) (x w : ℕ) → w ≡ blockRowWord rows k x → w < 2 ^ 16
+    → w / 256 % 256 ≡ rowByte rows k (2 * x)
+row-upper rows k x w e l = let n : 2 * x + 0 ≡ 2 * x = omega arith in row-half rows k x 0 w e l (omega arith) ∙ ap (rowByte rows k) n
+
+pub row-lower : (rows : List (List ℕ)) (k : BlockRow) (x w : ℕ) → w ≡ blockRowWord rows k x → w < 2 ^ 16
+    → w % 256 ≡ rowByte rows k (2 * x + 1)
+row-lower rows k x w e l = omega (arith, row-half rows k x 1 w e l (omega arith))
+
+-- The invariant of the loop that writes them: none / more / done.
+pub record Twos (f : ℕ → ℕ) (x : ℕ) (d : List ℕ) : Type 0 where
+  pub filled : Filling f 256 (2 * x) d
+
+pub twos-none : (f : ℕ → ℕ) (d : List ℕ) → length d ≡ 256 → Twos f 0 d
+twos-none f d e = record { filled = fill-none f 256 d e }
+
+pub twos-room : {f : ℕ → ℕ} {x : ℕ} {d : List ℕ} (u : ℕ) → Twos f x d → x < 128 → 2 * x + 1 < length (set d (2 * x) u)
+twos-room {f} {x} {d} u h l = omega (arith, length-set d (2 * x) u, h .filled .long)
+
+pub twos-more : {f : ℕ → ℕ} {x : ℕ} {d : List ℕ} (u v : ℕ) → Twos f x d → x < 128 → u ≡ f (2 * x) → v ≡ f (2 * x + 1)
+    → Twos f (x + 1) (set (set d (2 * x) u) (2 * x + 1) v)
+twos-more {f} {x} {d} u v h l p q =
+    let e : 2 * x + 1 + 1 ≡ 2 * (x + 1) = omega arith in
+    record { filled = rw e at (fill-more v (fill-more u (h .filled) (omega arith) p) (omega arith) q) }
+
+pub twos-done : {f : ℕ → ℕ} {x : ℕ} {d : List ℕ} → Twos f x d → 128 ≤ x → d ≡ tabulate 256 f
+twos-done h l = fill-done (h .filled) (omega arith)
+
+pub ruleset twos = (twos-none, twos-room, twos-more, twos-done, row-upper, row-lower)
+
+-- The bytes of block row 2r+e are those of row r of encoder e's pairs.
+pairs-part : (rows : List (List ℕ)) (e r : ℕ) (ys : List ℕ) → ys ≡ tabulate 256 (rowByte rows (blockRow e r))
+    → ys ≡ tabulate 256 (λ y. byteOf (heldBit rows e) (r * 256 + y))
+unfolding byteOf rowByte heldBit
+pairs-part rows e r ys q =
+    q ∙ tabulate-ext 256 (rowByte rows (blockRow e r)) (λ y. byteOf (heldBit rows e) (r * 256 + y))
+    (λ y l. fromBits-ext 8 (λ c. bitOf 16 (blockRowWord rows (blockRow e r) (y / 2)) (8 * (y % 2) + c))
+    (λ c. heldBit rows e ((r * 256 + y) * 8 + c))
+    (λ c lc.
+    let number : ((r * 256 + y) * 8 + c) / 2048 ≡ r = omega arith in
+    let word : 8 * (((r * 256 + y) * 8 + c) % 2048 / 128) + ((r * 256 + y) * 8 + c) % 128 / 16 ≡ y / 2 = omega arith in
+    let column : ((r * 256 + y) * 8 + c) % 16 ≡ 8 * (y % 2) + c = omega arith in
+    rw (number, word, column)))
+
+pub pairs-next : {r : ℕ} {d : List ℕ} (rows : List (List ℕ)) (e a z : ℕ) (ys : List ℕ) → Blocks (byteOf (heldBit rows e)) 256 42 r d
+    → r < 42
+    → ys ≡ tabulate 256 (rowByte rows (blockRow e r)) → a ≡ r * 256 → z ≡ a + 256
+    → Blocks (byteOf (heldBit rows e)) 256 42 (r + 1) (putMid a (z - a) d ys)
+pairs-next {r} rows e a z ys h l q s t = blocks-next a z ys h l s t (pairs-part rows e r ys q)
+
+-- Of restored block rows the bits are the pairs'.
+from-at : (e m : ℕ)
+    → outputAt (blockRow e (m / 2048)) (record { 0 = targetRow (m % 2048 / 128) (m % 16) }) (16 * (m % 128 / 16) + targetColumn (m % 2048 / 128) (m % 16)) ≡ outputFrom e m
+unfolding outputFrom outputFor
+from-at e m = refl
+
+module _ (bits : List ℕ) (rows : List (List ℕ)) (h : Held (restoredRow bits) 84 rows) where
+  restored-place : (k : BlockRow) (C r c : ℕ) → r < 16 → c < 16
+      → bitAt (restoredBlock bits k C) r c ≡ bit bits (outputAt k (record { 0 = targetRow r c }) (16 * C + targetColumn r c))
+  unfolding restoredBlock linePlace
+  restored-place k C r c lr lc =
+      bitAt-restored (lineBlock bits k C) r c lr lc
+      ∙ bitAt-block-of (linePlace bits k C) (λ i j. bit-lt bits (outputAt k (record { 0 = i }) (16 * C + j)))
+      (targetRow r c) (targetColumn r c) (targetRow-lt r c) (targetColumn-lt r c)
+
+  held-bit : (e m : ℕ) → e < 2 → m < 86016 → heldBit rows e m ≡ bit bits (outputOf e m)
+  unfolding heldBit restoredRow
+  held-bit e m le lm =
+      held-is (restoredRow bits) (restoredBlock bits) (λ x. refl) rows h
+      (blockRow e (m / 2048)) (m % 128 / 16) (m % 2048 / 128) (m % 16) (omega arith) (omega arith) (omega arith)
+      ∙ restored-place (blockRow e (m / 2048)) (m % 128 / 16) (m % 2048 / 128) (m % 16) (omega arith) (omega arith)
+      ∙ ap (bit bits) (from-at e m ∙ sym (outputOf-is e m le lm))
+
+pub apart-rows : (bits : List ℕ) (rows : List (List ℕ)) (e : ℕ) (pairs : List ℕ) → e < 2 → Held (restoredRow bits) 84 rows
+    → pairs ≡ pack 10752 (heldBit rows e) → pairs ≡ apart bits e
+unfolding apart
+apart-rows bits rows e pairs le h q =
+    q ∙ pack-ext 10752 (heldBit rows e) (λ m. bit bits (outputOf e m)) (λ m l. held-bit bits rows h e m le (omega arith))

@@ -1,0 +1,33 @@
+-- The calls: interleaving and taking apart. 01, "Turned-back calls": No. 1, "a lent buffer is not of the stated length".
+-- Assumes nothing.
+use mathlib.Core.List.{List, [], _∷_}
+use Prim.Native.Nat.{ℕ}
+use Rattle.calls.specs.declared.Answer.{Answer}
+use Rattle.calls.specs.declared.Answer.the-variants.{Done}
+use Rattle.calls.specs.Calls.{After, after, misfit, call}
+use Rattle.interleaver_spec.specs.Interleaving.{interleaved, apart}
+
+-- Interleaving writes the bits.
+abbrev pub interleave : List ℕ → List ℕ → List ℕ → After (List ℕ)
+interleave pairs0 pairs1 bits =
+    call (misfit pairs0 10752 ∷ misfit pairs1 10752 ∷ misfit bits 21504 ∷ []) bits
+    (after (Done 0) (interleaved pairs0 pairs1))
+
+-- Taking apart writes the pairs of either encoder.
+pub record PairBuffers : Type 0 where
+  pub pairs0 : List ℕ
+  pub pairs1 : List ℕ
+
+abbrev pub pairBuffers : List ℕ → List ℕ → PairBuffers
+pairBuffers s t = record { pairs0 = s; pairs1 = t }
+
+abbrev pub Apart : Type 0
+Apart = After PairBuffers
+
+abbrev pub parted : Answer → List ℕ → List ℕ → Apart
+parted a s t = after a (pairBuffers s t)
+
+abbrev pub deinterleave : List ℕ → List ℕ → List ℕ → Apart
+deinterleave bits pairs0 pairs1 =
+    call (misfit bits 21504 ∷ misfit pairs0 10752 ∷ misfit pairs1 10752 ∷ []) (pairBuffers pairs0 pairs1)
+    (parted (Done 0) (apart bits 0) (apart bits 1))

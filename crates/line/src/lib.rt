@@ -1,1 +1,0 @@
-// Whole runs of the line: definitions and theorems alone, in specs/.

@@ -1,0 +1,1 @@
+-- The definitions are crate line_file_spec's.

@@ -1,0 +1,17 @@
+-- `line_file_core::opening::open_refusal` meets its contract: the number of the header's answer.
+-- Assumes nothing.
+use Rattle.calls.specs.AnswerLaws.{refusal-eq}
+use Rattle.line_file_spec.specs.OpeningLaws.{answer-of}
+use borrow.Author.Needs.{needs}
+use Rattle.line_file_core.proofs.opening.open_refusal.Statement.{statement}
+use Rattle.line_file_core.proofs.opening.open_refusal.Tie as tie
+
+ruleset kit = (needs, refusal-eq, answer-of)
+
+pub open-refusal-spec : {M : Type 1} → statement M
+open-refusal-spec =
+    tie.close
+    (tie.spec
+    (λ c κs. search kit)  -- open-header-requires
+    (λ c κs. search kit)  -- refusal-of-requires
+    (λ c. search kit))  -- returns

@@ -1,0 +1,12 @@
+// The line file, definitions and laws, and the type that they use: 01, "Line file". The workers are in `line_file_core`, the calls in
+// `line_file`.
+use calls::Answer;
+
+// A header as it is judged: done, with its numbers, or refused, with zeros.
+pub struct Header {
+    pub answer: Answer,
+    pub superframes: u32,
+    pub overhead: u32,
+    pub frames: u32,
+    pub total: u32,
+}

@@ -1,1 +1,0 @@
--- The definitions are crate lineformat's.

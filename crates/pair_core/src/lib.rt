@@ -1,0 +1,3 @@
+// Workers: a pair encoded or received word by word, given buffers that fit. Over `word` and `pair_words_core`; the calls are in `pair`.
+pub mod encoding;
+pub mod receiving;

@@ -1,0 +1,61 @@
+-- A stream of pairs coded one after the other: the history before each pair and what its call gives, from the lent history h and pair
+-- number p on. 01, "Rows and pairs": "Encoding a pair gives its coded bytes, the shifted history and P+1"; "Receiving .. gives payload,
+-- marks, the shifted history and P+1."
+-- Assumes nothing.
+use mathlib.Core.Path.{_≡_}
+use mathlib.Core.List.{List}
+use Prim.Native.Nat.{ℕ, zero, suc, _+_, _*_}
+use lib.ListN.{length}
+use Rattle.bits.specs.Parts.{partOf, endToEnd}
+use Rattle.pair_spec.specs.History.{depth, shift, fresh}
+use Rattle.pair_spec.specs.Encoding.{encoded}
+use Rattle.pair_spec.specs.EncodingLaws.{length-encoded}
+use Rattle.pair_spec.specs.Receiving.{newestPair, payloadOut, marks}
+use Rattle.pair_spec.specs.ReceivingLaws.{length-newest}
+
+-- What a call gives: of the history, the pair number and what it is given.
+abbrev pub Gives : Type 0
+Gives = List ℕ → ℕ → List ℕ → List ℕ
+
+-- A coder: the bytes that it is given for a pair, and the pair that then enters the history.
+pub record Coder : Type 0 where
+  pub given : ℕ
+  pub newest : Gives
+  pub newest-long : (h : List ℕ) (P : ℕ) (s : List ℕ) → length (newest h P s) ≡ 512
+
+abbrev pub pairEncoder : Coder
+pairEncoder = record { given = 444; newest = encoded depth; newest-long = length-encoded depth }
+
+abbrev pub pairReceiver : Coder
+pairReceiver = record { given = 512; newest = newestPair depth; newest-long = length-newest depth }
+
+module _ (c : Coder) (h : List ℕ) (p : ℕ) (given : ℕ → List ℕ) where
+  -- The history before pair k, and what the call on it gives.
+  unfoldable pub historyAt : ℕ → List ℕ
+  historyAt zero = h
+  historyAt (suc k) = shift (historyAt k) (c .newest (historyAt k) (p + k) (given k))
+
+  unfoldable pub givenAt : Gives → ℕ → List ℕ
+  givenAt out k = out (historyAt k) (p + k) (given k)
+
+-- m pairs of a super-frame, which are given end to end: what their calls give, w bytes a pair, end to end; and the history after them.
+unfoldable pub givenOver : Coder → Gives → ℕ → ℕ → List ℕ → ℕ → List ℕ → List ℕ
+givenOver c out w m h p s = endToEnd m w (givenAt c h p (partOf (c .given) s) out)
+
+unfoldable pub historyOver : Coder → ℕ → List ℕ → ℕ → List ℕ → List ℕ
+historyOver c m h p s = historyAt c h p (partOf (c .given) s) m
+
+-- The coded pairs of payload; payload and marks of coded pairs.
+abbrev pub codedOf : ℕ → List ℕ → ℕ → List ℕ → List ℕ
+codedOf = givenOver pairEncoder (encoded depth) 512
+
+abbrev pub payloadsOf : ℕ → List ℕ → ℕ → List ℕ → List ℕ
+payloadsOf = givenOver pairReceiver (payloadOut depth) 444
+
+abbrev pub marksOf : ℕ → List ℕ → ℕ → List ℕ → List ℕ
+marksOf = givenOver pairReceiver (marks depth) 32
+
+-- The history before super-frame q, from fresh, where S is what is given for each super-frame.
+unfoldable pub historyBefore : Coder → ℕ → (ℕ → List ℕ) → ℕ → List ℕ
+historyBefore c m S zero = fresh depth
+historyBefore c m S (suc q) = historyOver c m (historyBefore c m S q) (m * q) (S q)

@@ -1,0 +1,93 @@
+// Streams of pairs, one call after the other: encoded and received. Over `pair`, by the definitions of `pair_spec`.
+ghost use mathlib.Core.Path.{_≡_};
+ghost use Prim.Native.Nat.{_+_, _*_, _≤_, _<_};
+ghost use lib.ListN.{length};
+ghost use Rattle.bits.specs.Parts.{partOf};
+ghost use Rattle.pair_spec.specs.Encoding.{encoded};
+ghost use Rattle.pair_spec.specs.Receiving.{newestPair, payloadOut, marks as pairMarks};
+ghost use Rattle.pair_spec.specs.History.{depth, shift};
+ghost use Rattle.pair_spec.specs.Stream.{pairEncoder, pairReceiver, codedOf, payloadsOf, marksOf, historyOver};
+
+// Encodes pair k.
+fn encode_next(
+    k: usize,
+    pairs: usize,
+    payload: &[u8],
+    number: u32,
+    history: &mut [u8],
+    coded: &mut [u8],
+)
+    requires { ⌜ (k < pairs) × (pairs ≤ 4294967295) × (length (now payload) ≡ pairs * 444) × (number < 4294967295) × (length (now history) ≡ 512 * depth) × (length (now coded) ≡ 512) ⌝ }
+    ensures { λ _. ⌜ (now (coded .exit) ≡ encoded depth (now (history .entry)) number (partOf 444 (now (payload .entry)) k)) × (now (history .exit) ≡ shift (now (history .entry)) (encoded depth (now (history .entry)) number (partOf 444 (now (payload .entry)) k))) ⌝ }
+{
+    let a = k * 444;
+    let e = a + 444;
+    pair::encode_pair(&payload[a..e], coded, history, number);
+}
+
+// Encodes the pairs, numbered from `first` on.
+pub fn encode(pairs: usize, payload: &[u8], first: u32, history: &mut [u8], coded: &mut [u8])
+    requires { ⌜ (length (now payload) ≡ pairs * 444) × (first + pairs ≤ 4294967295) × (length (now history) ≡ 512 * depth) × (length (now coded) ≡ pairs * 512) ⌝ }
+    ensures { λ _. ⌜ (now (coded .exit) ≡ codedOf pairs (now (history .entry)) first (now (payload .entry))) × (now (history .exit) ≡ historyOver pairEncoder pairs (now (history .entry)) first (now (payload .entry))) ⌝ }
+{
+    for k in 0..pairs {
+        let f = k * 512;
+        let g = f + 512;
+        encode_next(
+            k,
+            pairs,
+            payload,
+            first + k as u32,
+            history,
+            &mut coded[f..g],
+        );
+    }
+}
+
+// Receives pair k.
+fn receive_next(
+    k: usize,
+    pairs: usize,
+    coded: &[u8],
+    number: u32,
+    history: &mut [u8],
+    payload: &mut [u8],
+    marks: &mut [u8],
+)
+    requires { ⌜ (k < pairs) × (pairs ≤ 4294967295) × (length (now coded) ≡ pairs * 512) × (number < 4294967295) × (length (now history) ≡ 512 * depth) × (length (now payload) ≡ 444) × (length (now marks) ≡ 32) ⌝ }
+    ensures { λ _. ⌜ (now (payload .exit) ≡ payloadOut depth (now (history .entry)) number (partOf 512 (now (coded .entry)) k)) × (now (marks .exit) ≡ pairMarks depth (now (history .entry)) number (partOf 512 (now (coded .entry)) k)) × (now (history .exit) ≡ shift (now (history .entry)) (newestPair depth (now (history .entry)) number (partOf 512 (now (coded .entry)) k))) ⌝ }
+{
+    let a = k * 512;
+    let e = a + 512;
+    pair::receive_pair(&coded[a..e], payload, marks, history, number);
+}
+
+// Receives the pairs, numbered from `first` on.
+pub fn receive(
+    pairs: usize,
+    coded: &[u8],
+    first: u32,
+    history: &mut [u8],
+    payload: &mut [u8],
+    marks: &mut [u8],
+)
+    requires { ⌜ (length (now coded) ≡ pairs * 512) × (first + pairs ≤ 4294967295) × (length (now history) ≡ 512 * depth) × (length (now payload) ≡ pairs * 444) × (length (now marks) ≡ pairs * 32) ⌝ }
+    ensures { λ _. ⌜ (now (payload .exit) ≡ payloadsOf pairs (now (history .entry)) first (now (coded .entry))) × (now (marks .exit) ≡ marksOf pairs (now (history .entry)) first (now (coded .entry))) × (now (history .exit) ≡ historyOver pairReceiver pairs (now (history .entry)) first (now (coded .entry))) ⌝ }
+{
+    for k in 0..pairs {
+        let f = k * 444;
+        let g = f + 444;
+        let i = k * 32;
+        let j = i + 32;
+        let number = first + k as u32;
+        receive_next(
+            k,
+            pairs,
+            coded,
+            number,
+            history,
+            &mut payload[f..g],
+            &mut marks[i..j],
+        );
+    }
+}

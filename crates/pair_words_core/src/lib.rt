@@ -1,0 +1,6 @@
+// Workers: the words of a pair gathered from history, payload and coded pair; coded pair and payload gathered from the words; a pair
+// that enters the history. Over `pair_spec`, below `pair_core`.
+mod columns;
+pub mod history;
+pub mod pairs;
+pub mod words;

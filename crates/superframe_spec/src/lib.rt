@@ -1,0 +1,1 @@
+// Super-frames of the line, definitions and laws. Over `line_spec`; the workers are in `superframe_core`, the steps in `superframe`.

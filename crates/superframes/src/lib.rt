@@ -1,1 +1,0 @@
-// Super-frames of the line as definitions and laws, in specs/; the functions are in `superframe`.

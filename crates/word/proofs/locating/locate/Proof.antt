@@ -1,0 +1,28 @@
+-- `word::locating::locate` meets its contract: one law for each branch.
+-- Assumes nothing.
+use Rattle.bits.specs.Xor.{_⊕_}
+use Rattle.word.specs.Finding.{decoding}
+use borrow.Author.Needs.{needs}
+use Rattle.word.proofs.locating.locate.Statement.{statement}
+use Rattle.word.proofs.locating.locate.Tie as tie
+
+ruleset kit = (needs, decoding)
+
+pub locate-spec : {M : Type 1} → statement M
+unfolding _⊕_
+locate-spec =
+    tie.close
+    (tie.spec
+    (λ c κs. search kit)  -- cube-requires
+    (λ c κs. search kit)  -- place-of-requires
+    (λ c. search kit)  -- returns
+    (λ c. search kit)  -- returns-2
+    (λ c. search kit)  -- returns-3
+    (λ c. search kit)  -- returns-4
+    (λ c κs. search kit)  -- powers-requires
+    (λ c κs. search kit)  -- cubes-requires
+    (λ c κs. search kit)  -- find-partners-requires
+    (λ c κs. search kit)  -- locator-requires
+    (λ c κs. search kit)  -- place-of-requires-2
+    (λ c. search kit)  -- returns-5
+    (λ c. search kit))  -- returns-6

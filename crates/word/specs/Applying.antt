@@ -1,0 +1,96 @@
+-- Laws for code that flips the places of a repair in a word of bytes.
+-- Assumes nothing.
+use mathlib.Core.Path.{_≡_, refl, sym, ap, _∙_}
+use mathlib.Core.List.{List}
+use mathlib.Core.Bool.{Bool, true, false, cond}
+use Prim.Native.Nat.{ℕ, _*_, _<_}
+use native.Mathlib.Omega.{arith}
+use lib.Dec.{ltb}
+use lib.ListN.{length, getD}
+use Rattle.bits.specs.Bits.{bit, pack, flipped}
+use Rattle.bits.specs.BitLaws.{bit-lt, bit-pack-of, flipped-lt, length-pack, pack-bit, pack-ext}
+use Rattle.word_spec.specs.CodeWord.{Word}
+use Rattle.word_spec.specs.Repair.{places, flipAll, repaired, repair}
+use Rattle.word_spec.specs.RepairLaws.{flipped-ext}
+use Rattle.word_spec.specs.Locating.{Located, confined, located-repair, one-lost, two-lost}
+use Rattle.word_spec.specs.Syndromes.{syndromesOf}
+use Rattle.word_spec.specs.declared.Repair.{Repair}
+use Rattle.word_spec.specs.declared.Repair.the-variants.{Sound, One, Two, Lost}
+use Rattle.word_spec.specs.declared.Syndromes.{Syndromes}
+
+-- The places of a repair lie in the word.
+abbrev pub Inside : Repair → Type 0
+Inside Sound = Unit {0}
+Inside (One i) = i < 256
+Inside (Two i j) = (i < 256) × (j < 256)
+Inside Lost = Unit {0}
+
+pub inside-one : (r : Repair) (i n : ℕ) → Inside r → r ≡ One i → n ≡ 32 → i < n * 8
+inside-one r i n t e l = omega (arith, rw e at t)
+
+pub inside-second : (r : Repair) (i j n : ℕ) → Inside r → r ≡ Two i j → n ≡ 32 → j < n * 8
+inside-second r i j n t e l = omega (arith, (rw e at t) .1)
+
+pub inside-first : (r : Repair) (i j : ℕ) (s t : List ℕ) (f : ℕ → ℕ) → Inside r → r ≡ Two i j → length s ≡ 32 → t ≡ pack (length s) f
+    → i < length t * 8
+inside-first r i j s t f h e l d = omega (arith, (rw e at h) .0, ap length d, length-pack (length s) f)
+
+-- Nothing flipped.
+pub apply-none : (s : List ℕ) (r : Repair) → length s ≡ 32 → ((j : ℕ) → getD s j 0 < 256) → ((w : Word) → repaired r w ≡ w)
+    → s ≡ pack 32 (repaired r (bit s))
+apply-none s r l b e = sym (ap (pack 32) (e (bit s)) ∙ pack-bit s 32 l b)
+
+pub sound-none : (r : Repair) → r ≡ Sound → (w : Word) → repaired r w ≡ w
+unfolding repaired places flipAll
+sound-none r e w = rw e refl
+
+pub lost-none : (r : Repair) → r ≡ Lost → (w : Word) → repaired r w ≡ w
+unfolding repaired places flipAll
+lost-none r e w = rw e refl
+
+pub apply-one : (s d : List ℕ) (r : Repair) (i : ℕ) → length s ≡ 32 → r ≡ One i → d ≡ pack (length s) (flipped i (bit s))
+    → d ≡ pack 32 (repaired r (bit s))
+unfolding repaired places flipAll
+apply-one s d r i l e h = h ∙ rw (l, e) refl
+
+pub apply-two : (s t d : List ℕ) (r : Repair) (i j : ℕ) → length s ≡ 32 → r ≡ Two i j → t ≡ pack (length s) (flipped j (bit s))
+    → d ≡ pack (length t) (flipped i (bit t)) → d ≡ pack 32 (repaired r (bit s))
+unfolding repaired places flipAll
+apply-two s t d r i j l e f h =
+    h ∙ ap (λ n. pack n (flipped i (bit t))) (ap length f ∙ length-pack (length s) (flipped j (bit s)) ∙ l)
+    ∙ pack-ext 32 (flipped i (bit t)) (flipped i (flipped j (bit s)))
+    (λ k h. flipped-ext i (bit t) (flipped j (bit s)) k
+    (ap (λ x. bit x k) f ∙ bit-pack-of (length s) (flipped j (bit s)) (flipped-lt j (bit s) (bit-lt s)) k (omega arith)))
+    ∙ rw e refl
+
+-- What was located lies in the word, and confined it still does.
+lost-or : (t : Bool) (x : Repair) → Inside x → Inside (cond t Lost x)
+lost-or true x i = tt
+lost-or false x i = i
+
+located-inside : (s : Syndromes) (q : Repair) → Located s q → Inside q
+located-inside s Sound L = tt
+located-inside s (One i) L = L .found (one-lost i) .0 .1
+located-inside s (Two i j) L = let t = L .found (two-lost i j) .0 in (omega (arith, t .1, t .2), t .2)
+located-inside s Lost L = tt
+
+within : (front : Bool) (q : Repair) → Inside q → Inside (confined front q)
+unfolding confined
+within true q i = i
+within false Sound i = tt
+within false (One k) i = lost-or (ltb k 128) (One k) i
+within false (Two j k) i = lost-or (ltb j 128) (Two j k) i
+within false Lost i = tt
+
+pub confined-inside : (s : Syndromes) (front : Bool) (q r : Repair) → Located s q → r ≡ confined front q → Inside r
+confined-inside s front q r L e = rw e (within front q (located-inside s q L))
+
+-- The whole of a repair in place.
+pub repaired-in-place : (s d : List ℕ) (front : Bool) (y : Syndromes) (q r : Repair) → y ≡ syndromesOf (bit s) → Located y q
+    → r ≡ confined front q
+    → d ≡ pack 32 (repaired r (bit s)) → (r ≡ repair front (bit s)) × (d ≡ pack 32 (repaired (repair front (bit s)) (bit s)))
+repaired-in-place s d front y q r ey L er ed =
+    let e : r ≡ repair front (bit s) = er ∙ sym (located-repair (bit s) (λ k l. bit-lt s k) front q (rw ey at L)) in
+    (e, ed ∙ ap (λ x. pack 32 (repaired x (bit s))) e)
+
+pub ruleset applying = (inside-one, inside-second, inside-first, apply-one, apply-two, confined-inside, repaired-in-place)

@@ -1,0 +1,97 @@
+// Check words in bytes, the workers and the call `repair_word`. Over `word_spec`, below `pair_core`.
+// 01, "Code words": "A word lent by itself is 32 bytes, bit 0 first".
+mod checks;
+pub mod completion;
+mod locating;
+pub mod syndrome;
+mod tables;
+
+use calls::Answer;
+use calls::Refusal;
+use word_spec::Repair;
+ghost use mathlib.Core.Path.{_≡_};
+ghost use Prim.Native.Nat.{_<_};
+ghost use lib.ListN.{length};
+ghost use Rattle.bits.specs.Bits.{bit, pack};
+ghost use Rattle.word_spec.specs.Repair.{repair, repaired, mark};
+ghost use Rattle.word_spec.specs.Locating.{confined};
+ghost use Rattle.word.specs.Applying.{Inside};
+ghost use Rattle.word_spec.specs.Calls.{repairCall};
+ghost use Rattle.calls.specs.Calls.{after};
+
+// Lost where a place falls in the front half and may not.
+fn confine(r: Repair, front: bool) -> Repair
+    ensures { λ q. ⌜ q ≡ confined front r ⌝ }
+{
+    if front {
+        return r;
+    }
+    match r {
+        Repair::Sound => Repair::Sound,
+        Repair::One(i) => {
+            if i < 128 {
+                Repair::Lost
+            } else {
+                Repair::One(i)
+            }
+        }
+        Repair::Two(i, j) => {
+            if i < 128 {
+                Repair::Lost
+            } else {
+                Repair::Two(i, j)
+            }
+        }
+        Repair::Lost => Repair::Lost,
+    }
+}
+
+// Flips the places of a repair.
+fn apply(w: &mut [u8], r: Repair)
+    requires { ⌜ (length (now w) ≡ 32) × Inside r ⌝ }
+    ensures { λ _. ⌜ now (w .exit) ≡ pack 32 (repaired r (bit (now (w .entry)))) ⌝ }
+{
+    match r {
+        Repair::Sound => {}
+        Repair::One(i) => bits::flip(w, i),
+        Repair::Two(i, j) => {
+            bits::flip(w, j);
+            bits::flip(w, i);
+        }
+        Repair::Lost => {}
+    }
+}
+
+// Repairs a word of 32 bytes in place and says what it flipped; `front` says whether flips may fall in the front half.
+pub fn repair_in_place(w: &mut [u8], front: bool) -> Repair
+    requires { ⌜ length (now w) ≡ 32 ⌝ }
+    ensures { λ r. ⌜ (r ≡ repair front (bit (now (w .entry)))) × (now (w .exit) ≡ pack 32 (repaired (repair front (bit (now (w .entry)))) (bit (now (w .entry))))) ⌝ }
+{
+    let s = syndrome::syndromes_of(w);
+    let r = confine(locating::locate(s), front);
+    apply(w, r);
+    r
+}
+
+// The number of a repair: its flips, or 3 for lost.
+pub fn mark_of(r: Repair) -> u8
+    ensures { λ m. ⌜ (m ≡ mark r) × (m < 4) ⌝ }
+{
+    match r {
+        Repair::Sound => 0,
+        Repair::One(_) => 1,
+        Repair::Two(_, _) => 2,
+        Repair::Lost => 3,
+    }
+}
+
+// Repairs a lent word in place: the number of flips, 0 to 2; or 3, and the word is lost and unaltered.
+pub fn repair_word(word: &mut [u8], front: bool) -> Answer
+    ensures { λ r. ⌜ after r (now (word .exit)) ≡ repairCall (now (word .entry)) front ⌝ }
+{
+    if word.len() != 32 {
+        return Answer::Refused(Refusal::Misfit);
+    }
+    let r = repair_in_place(word, front);
+    Answer::Done(mark_of(r) as u32)
+}

@@ -1,0 +1,16 @@
+-- What a mark says of its word. 01, "Rows and pairs": "Marks: .. each 0, 1 or 2 flips, or 3 for lost."
+-- Assumes nothing.
+use Prim.Native.Nat.{ℕ, zero, suc}
+
+pub data MarkMeaning : Type 0 where
+  notLost : MarkMeaning
+  lost : MarkMeaning
+  neither : MarkMeaning
+
+-- By cases of the mark; any other number says neither.
+unfoldable pub markMeaning : ℕ → MarkMeaning
+markMeaning zero = notLost
+markMeaning (suc zero) = notLost
+markMeaning (suc (suc zero)) = notLost
+markMeaning (suc (suc (suc zero))) = lost
+markMeaning (suc (suc (suc (suc m)))) = neither

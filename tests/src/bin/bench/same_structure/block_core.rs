@@ -1,0 +1,159 @@
+//! crates/block_core and interleaver_core: the 84 block rows of a buffer, each block reordered by itself.
+
+type Block = [u16; 16];
+
+/// The eight blocks of a block row side by side: word i of block C is number 8i+C.
+pub type BlockRow = [u16; 128];
+
+const BY_8: u16 = 0x0F0F;
+const BY_4: u16 = 0x3333;
+const BY_2: u16 = 0x5555;
+const BY_1: u16 = 0x00FF;
+
+fn turn(x: u16, n: usize) -> u16 {
+    (x << n) | ((x >> 1) >> (15 - n))
+}
+
+fn choose(m: u16, x: u16, y: u16) -> u16 {
+    y ^ ((x ^ y) & m)
+}
+
+fn turn_rows(b: Block, n: usize) -> Block {
+    let mut out = [0; 16];
+    for i in 0..16 {
+        out[i] = turn(b[i], n * i % 16);
+    }
+    out
+}
+
+fn move_columns(b: Block, n: usize, m: u16) -> Block {
+    let mut out = [0; 16];
+    for i in 0..16 {
+        out[i] = choose(m, b[(i + n) % 16], b[i]);
+    }
+    out
+}
+
+fn reorder(b: Block) -> Block {
+    let t = turn_rows(b, 1);
+    let u = move_columns(t, 8, BY_8);
+    let v = move_columns(u, 12, BY_4);
+    let w = move_columns(v, 14, BY_2);
+    move_columns(w, 15, BY_1)
+}
+
+fn restore(b: Block) -> Block {
+    let t = move_columns(b, 8, BY_8);
+    let u = move_columns(t, 4, BY_4);
+    let v = move_columns(u, 2, BY_2);
+    let w = move_columns(v, 1, BY_1);
+    turn_rows(w, 15)
+}
+
+fn lay(row: &mut BlockRow, block: usize, b: Block) {
+    for i in 0..16 {
+        row[8 * i + block] = b[i];
+    }
+}
+
+fn pairs_words(pairs: &[u8; 10752], block_row: usize) -> BlockRow {
+    let mut words = [0; 128];
+    for x in 0..128 {
+        let at = 256 * (block_row / 2) + 2 * x;
+        words[x] = (usize::from(pairs[at + 1]) * 256 + usize::from(pairs[at])) as u16;
+    }
+    words
+}
+
+fn sent_words(pairs0: &[u8; 10752], pairs1: &[u8; 10752], block_row: usize) -> BlockRow {
+    if block_row.is_multiple_of(2) {
+        return pairs_words(pairs0, block_row);
+    }
+    pairs_words(pairs1, block_row)
+}
+
+fn block_in(words: &BlockRow, block: usize) -> Block {
+    let mut b = [0; 16];
+    for r in 0..16 {
+        b[r] = turn(words[8 * r + block], 8);
+    }
+    b
+}
+
+fn reordered_row(words: &BlockRow) -> BlockRow {
+    let mut row = [0; 128];
+    for block in 0..8 {
+        lay(&mut row, block, reorder(block_in(words, block)));
+    }
+    row
+}
+
+pub fn reordered_rows(pairs0: &[u8; 10752], pairs1: &[u8; 10752]) -> [BlockRow; 84] {
+    let mut rows = [[0; 128]; 84];
+    for k in 0..84 {
+        let words = sent_words(pairs0, pairs1, k);
+        rows[k] = reordered_row(&words);
+    }
+    rows
+}
+
+fn write_eight(rows: &[BlockRow; 84], column: usize, x: usize, out: &mut [u8]) {
+    for y in 0..8 {
+        let block_row = y % 4 / 2 * 42 + y % 4 % 2 + 2 * (16 * x / 16);
+        let w = rows[block_row][8 * (column % 16) + column / 16];
+        out[y] = ((w >> (8 - 8 * (y / 4))) % 256) as u8;
+    }
+}
+
+fn write_column(rows: &[BlockRow; 84], column: usize, out: &mut [u8]) {
+    for x in 0..21 {
+        write_eight(rows, column, x, &mut out[x * 8..x * 8 + 8]);
+    }
+}
+
+pub fn write_bits(rows: &[BlockRow; 84], bits: &mut [u8; 21504]) {
+    for column in 0..128 {
+        write_column(rows, column, &mut bits[column * 168..column * 168 + 168]);
+    }
+}
+
+fn line_block(bits: &[u8; 21504], block_row: usize, block: usize) -> Block {
+    let subset = block_row / 42 * 2 + block_row % 2;
+    let q = block_row % 42 / 2 * 16;
+    let mut b = [0; 16];
+    for j in 0..16 {
+        let at = 168 * (16 * block + j) + 4 * (q / 8) + subset;
+        b[j] = (usize::from(bits[at]) * 256 + usize::from(bits[at + 4])) as u16;
+    }
+    b
+}
+
+fn restored_row(bits: &[u8; 21504], block_row: usize) -> BlockRow {
+    let mut row = [0; 128];
+    for block in 0..8 {
+        lay(&mut row, block, restore(line_block(bits, block_row, block)));
+    }
+    row
+}
+
+pub fn restored_rows(bits: &[u8; 21504]) -> [BlockRow; 84] {
+    let mut rows = [[0; 128]; 84];
+    for k in 0..84 {
+        rows[k] = restored_row(bits, k);
+    }
+    rows
+}
+
+fn write_row(row: &BlockRow, out: &mut [u8]) {
+    for x in 0..128 {
+        let w = row[x];
+        out[2 * x] = (w / 256 % 256) as u8;
+        out[2 * x + 1] = (w % 256) as u8;
+    }
+}
+
+pub fn write_pairs(rows: &[BlockRow; 84], encoder: usize, pairs: &mut [u8; 10752]) {
+    for r in 0..42 {
+        write_row(&rows[2 * r + encoder], &mut pairs[r * 256..r * 256 + 256]);
+    }
+}
