@@ -16,12 +16,12 @@ fn put(text: &[u8], path: &mut [u8], from: usize)
     }
 }
 
-// A path as the C library takes it.
+// A path as the C library takes it; one that is too long becomes the empty one, which names nothing.
 fn ended(path: &[u8]) -> [u8; 4096]
     ensures { λ r. ⌜ Ended r ⌝ }
 {
     let mut text = io::buffer();
-    if 4096 < path.len() {
+    if 4095 < path.len() {
         return [0u8; 4096];
     }
     put(path, &mut text, 0);

@@ -54,7 +54,7 @@ pub fn mode(fd: i32) -> u32 {
     said.st_mode % 4096
 }
 
-// Whether both are the same file, by device and number.
+// Whether both are the same open file, by device and number. A mode of 0 is that of none.
 pub fn same(a: i32, b: i32) -> bool {
     let first = of(a);
     let second = of(b);

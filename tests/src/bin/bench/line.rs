@@ -9,8 +9,8 @@ use ofec_tests::outcome::Outcome;
 use ofec_tests::random::Random;
 
 use crate::for_speed::interleaver::{by_rows, packed};
-use crate::{for_speed as fast, same_structure};
 use crate::table::{for_speed, head_for_speed, three};
+use crate::{for_speed as fast, same_structure};
 
 pub fn run(random: &mut Random) {
     let pairs = [0; 2].map(|_| random.bytes(PAIRS_BYTES));

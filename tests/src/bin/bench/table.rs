@@ -96,7 +96,11 @@ pub fn for_speed<T: Clone + PartialEq, const N: usize>(
     let (times, _) = agreed(name, SHORT_ROUNDS, out, works);
     print!("| {name} | {} ", microseconds(times[0]));
     for other in &times[1..] {
-        print!("| {} | {:.2} ", microseconds(*other), ratio(times[0], *other));
+        print!(
+            "| {} | {:.2} ",
+            microseconds(*other),
+            ratio(times[0], *other)
+        );
     }
     println!("|{}", " | |".repeat(4 - N));
 }

@@ -15,12 +15,7 @@ fn edge(number: u32) -> (usize, usize) {
 
 /// The sub-frame's own part of the overhead list, where no test fails.
 #[inline(always)]
-fn own<'a>(
-    number: u32,
-    overhead: &'a [u8],
-    frame: usize,
-    payload: usize,
-) -> Result<&'a [u8], Outcome> {
+fn own(number: u32, overhead: &[u8], frame: usize, payload: usize) -> Result<&[u8], Outcome> {
     let (start, length) = match number {
         0 => (0, 444),
         _ => (number as usize * 252 + 192, 252),
