@@ -19,8 +19,8 @@ use Rattle.pair_spec.specs.HistoryLaws.{length-shift, historyAfter}
 use Rattle.pair_spec.specs.Encoding.{encoded}
 use Rattle.pair_spec.specs.EncodingLaws.{length-encoded}
 use Rattle.pair_spec.specs.ReceivingLaws.{length-payloadOut, length-marks}
-use Rattle.pair_spec.specs.Receiving.{newestPair, payloadOut, marks}
-use Rattle.pair_spec.specs.Calls.{Encoded, afterEncode, encodePair, encodeCall, Received, afterReceive, receivePair, receiveCall}
+use Rattle.pair_spec.specs.Receiving.{payloadOut, marks}
+use Rattle.pair_spec.specs.Calls.{encodeBuffers, Encoded, afterEncode, encodePair, encodeCall, receiveBuffers, Received, afterReceive, receivePair, receiveCall}
 use Rattle.pair_spec.specs.CallLaws.{encode-done, receive-done}
 use Rattle.pair_spec.specs.Stream.{Gives, Coder, pairEncoder, pairReceiver, historyAt, givenAt, givenOver, historyOver, historyBefore}
 
@@ -41,11 +41,8 @@ module _ (m k a e : ℕ) (lk : k < m) (ea : a ≡ k * 444) (ee : e ≡ a + 444) 
       ∙ sym (encode-done (part a (e - a) payload) coded history number (part-long a e 444 payload ee (omega arith)) lc lh (omega arith) _ refl)
       ∙ ap (λ s. after (Done (number + 1)) (encodePair history number s)) (lent-is 444 m k a e lk ea ee payload lp)
 
-  pub pair-coded : c ≡ encoded depth history number (partOf 444 payload k)
-  pair-coded = ap (λ (x : Encoded). x .written .coded) encode-left
-
-  pub pair-history : h ≡ shift history (encoded depth history number (partOf 444 payload k))
-  pair-history = ap (λ (x : Encoded). x .written .history) encode-left
+  pub pair-encoded : encodeBuffers c h ≡ encodePair history number (partOf 444 payload k)
+  pair-encoded = ap (λ (x : Encoded). x .written) encode-left
 
 -- What the call that receives a pair leaves.
 module _ (m k a e : ℕ) (lk : k < m) (ea : a ≡ k * 512) (ee : e ≡ a + 512) (number : ℕ) (ln : number < 4294967295) (coded : List ℕ) (lc : length coded ≡ m * 512)
@@ -57,16 +54,10 @@ module _ (m k a e : ℕ) (lk : k < m) (ea : a ≡ k * 512) (ee : e ≡ a + 512) 
       ∙ sym (receive-done (part a (e - a) coded) payload marks′ history number (part-long a e 512 coded ee (omega arith)) lp lm lh (omega arith) _ refl)
       ∙ ap (λ s. after (Done (number + 1)) (receivePair depth history number s)) (lent-is 512 m k a e lk ea ee coded lc)
 
-  pub pair-payload : y ≡ payloadOut depth history number (partOf 512 coded k)
-  pair-payload = ap (λ (x : Received). x .written .payload) receive-left
+  pub pair-received : receiveBuffers y w h ≡ receivePair depth history number (partOf 512 coded k)
+  pair-received = ap (λ (x : Received). x .written) receive-left
 
-  pub pair-marks : w ≡ marks depth history number (partOf 512 coded k)
-  pair-marks = ap (λ (x : Received). x .written .marks) receive-left
-
-  pub pair-repaired : h ≡ shift history (newestPair depth history number (partOf 512 coded k))
-  pair-repaired = ap (λ (x : Received). x .written .history) receive-left
-
-pub ruleset pair-calls = (pair-coded, pair-history, pair-payload, pair-marks, pair-repaired)
+pub ruleset pair-calls = (pair-encoded, pair-received)
 
 -- ---- the pairs of a super-frame
 

@@ -3,9 +3,8 @@ ghost use mathlib.Core.Path.{_≡_};
 ghost use Prim.Native.Nat.{_+_, _*_, _≤_, _<_};
 ghost use lib.ListN.{length};
 ghost use Rattle.bits.specs.Parts.{partOf};
-ghost use Rattle.pair_spec.specs.Encoding.{encoded};
-ghost use Rattle.pair_spec.specs.Receiving.{newestPair, payloadOut, marks as pairMarks};
-ghost use Rattle.pair_spec.specs.History.{depth, shift};
+ghost use Rattle.pair_spec.specs.History.{depth};
+ghost use Rattle.pair_spec.specs.Calls.{encodeBuffers, encodePair, receiveBuffers, receivePair};
 ghost use Rattle.pair_spec.specs.Stream.{pairEncoder, pairReceiver, codedOf, payloadsOf, marksOf, historyOver};
 
 // Encodes pair k.
@@ -18,7 +17,7 @@ fn encode_next(
     coded: &mut [u8],
 )
     requires { ⌜ (k < pairs) × (pairs ≤ 4294967295) × (length (now payload) ≡ pairs * 444) × (number < 4294967295) × (length (now history) ≡ 512 * depth) × (length (now coded) ≡ 512) ⌝ }
-    ensures { λ _. ⌜ (now (coded .exit) ≡ encoded depth (now (history .entry)) number (partOf 444 (now (payload .entry)) k)) × (now (history .exit) ≡ shift (now (history .entry)) (encoded depth (now (history .entry)) number (partOf 444 (now (payload .entry)) k))) ⌝ }
+    ensures { λ _. ⌜ encodeBuffers (now (coded .exit)) (now (history .exit)) ≡ encodePair (now (history .entry)) number (partOf 444 (now (payload .entry)) k) ⌝ }
 {
     let a = k * 444;
     let e = a + 444;
@@ -55,7 +54,7 @@ fn receive_next(
     marks: &mut [u8],
 )
     requires { ⌜ (k < pairs) × (pairs ≤ 4294967295) × (length (now coded) ≡ pairs * 512) × (number < 4294967295) × (length (now history) ≡ 512 * depth) × (length (now payload) ≡ 444) × (length (now marks) ≡ 32) ⌝ }
-    ensures { λ _. ⌜ (now (payload .exit) ≡ payloadOut depth (now (history .entry)) number (partOf 512 (now (coded .entry)) k)) × (now (marks .exit) ≡ pairMarks depth (now (history .entry)) number (partOf 512 (now (coded .entry)) k)) × (now (history .exit) ≡ shift (now (history .entry)) (newestPair depth (now (history .entry)) number (partOf 512 (now (coded .entry)) k))) ⌝ }
+    ensures { λ _. ⌜ receiveBuffers (now (payload .exit)) (now (marks .exit)) (now (history .exit)) ≡ receivePair depth (now (history .entry)) number (partOf 512 (now (coded .entry)) k) ⌝ }
 {
     let a = k * 512;
     let e = a + 512;

@@ -1,13 +1,14 @@
 -- `pair_stream::encode` meets its contract: one pair a turn.
 -- Assumes nothing.
-use mathlib.Core.Path.{refl}
+use mathlib.Core.Path.{refl, ap}
 use Prim.Native.Nat.{_+_, _-_, _*_}
 use Rattle.bits.specs.Filling.{Blocks, by-blocks, blocks-next}
 use Rattle.bits.specs.Parts.{partOf, byteOfEach}
 use Rattle.pair_spec.specs.History.{depth}
 use Rattle.pair_spec.specs.Encoding.{encoded}
+use Rattle.pair_spec.specs.Calls.{EncodeBuffers}
 use Rattle.pair_spec.specs.Stream.{pairEncoder, givenAt}
-use Rattle.pair_spec.specs.StreamLaws.{Streaming, streaming, coded-block}
+use Rattle.pair_spec.specs.StreamLaws.{Streaming, streaming, stream-more, coded-block}
 use borrow.Author.Needs.{needs}
 use Rattle.pair_stream.proofs.encode.Statement.{statement}
 use Rattle.pair_stream.proofs.encode.Tie as tie
@@ -40,8 +41,8 @@ encode-spec =
     (λ c. search kit)  -- loop-less
     (λ c. let made = c .before .before .before .before .encode-next .ensures in
     let l = c .before .before .before .before .before .before .before .before .loop in (
-      blocks-next {d = l .coded} (l .k * 512) (l .k * 512 + 512) _ (l .inv .0) (search needs) refl refl (coded-block _ _ (l .inv .1) (search needs) (made .0)),
-      search kit,
+      blocks-next {d = l .coded} (l .k * 512) (l .k * 512 + 512) _ (l .inv .0) (search needs) refl refl (coded-block _ _ (l .inv .1) (search needs) (ap (λ (b : EncodeBuffers). b .coded) made)),
+      stream-more _ (l .inv .1) (search needs) _ (ap (λ (b : EncodeBuffers). b .history) made),
     ))  -- loop-again
     (λ c. search kit)  -- same-length
     (λ c. search kit)  -- same-length-2

@@ -1,11 +1,12 @@
 -- `pair_stream::receive` meets its contract: one pair a turn.
 -- Assumes nothing.
-use mathlib.Core.Path.{refl}
+use mathlib.Core.Path.{refl, ap}
 use Prim.Native.Nat.{_+_, _-_, _*_}
 use Rattle.bits.specs.Filling.{Blocks, by-blocks, blocks-next}
 use Rattle.bits.specs.Parts.{partOf, byteOfEach}
 use Rattle.pair_spec.specs.History.{depth}
 use Rattle.pair_spec.specs.Receiving.{payloadOut, marks as pairMarks}
+use Rattle.pair_spec.specs.Calls.{ReceiveBuffers}
 use Rattle.pair_spec.specs.Stream.{pairReceiver, givenAt}
 use Rattle.pair_spec.specs.StreamLaws.{Streaming, streaming, stream-more, payload-block, marks-block}
 use borrow.Author.Needs.{needs}
@@ -47,9 +48,9 @@ receive-spec =
     (λ c. search kit)  -- loop-less
     (λ c. let made = c .before .before .before .before .before .before .receive-next .ensures in
     let l = c .before .before .before .before .before .before .before .before .before .before .before .loop in (
-      blocks-next {d = l .payload} (l .k * 444) (l .k * 444 + 444) _ (l .inv .0) (search needs) refl refl (payload-block _ _ (l .inv .2) (search needs) (made .0)),
-      blocks-next {d = l .marks} (l .k * 32) (l .k * 32 + 32) _ (l .inv .1) (search needs) refl refl (marks-block _ _ (l .inv .2) (search needs) (made .1)),
-      stream-more _ (l .inv .2) (search needs) _ (made .2),
+      blocks-next {d = l .payload} (l .k * 444) (l .k * 444 + 444) _ (l .inv .0) (search needs) refl refl (payload-block _ _ (l .inv .2) (search needs) (ap (λ (b : ReceiveBuffers). b .payload) made)),
+      blocks-next {d = l .marks} (l .k * 32) (l .k * 32 + 32) _ (l .inv .1) (search needs) refl refl (marks-block _ _ (l .inv .2) (search needs) (ap (λ (b : ReceiveBuffers). b .marks) made)),
+      stream-more _ (l .inv .2) (search needs) _ (ap (λ (b : ReceiveBuffers). b .history) made),
     ))  -- loop-again
     (λ c. search kit)  -- same-length
     (λ c. search kit)  -- same-length-2

@@ -20,4 +20,4 @@ receive-next-spec =
     (λ c. search kit)  -- same-length
     (λ c. search kit)  -- same-length-2
     (λ c. search kit)  -- same-length-3
-    (λ c. (search kit, search kit, search kit)))  -- returns
+    (λ c. search kit))  -- returns
