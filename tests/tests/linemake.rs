@@ -2,11 +2,11 @@
 
 use std::fs::{self, File};
 use std::io::{BufRead, BufReader, Read};
+use std::ops::Deref;
 use std::os::unix::fs::{chown, symlink, FileTypeExt, MetadataExt, PermissionsExt};
 use std::os::unix::process::CommandExt;
-use std::path::{Path, PathBuf};
+use std::path::Path;
 use std::process::{Child, Command, Stdio};
-use std::sync::atomic::{AtomicU32, Ordering};
 use std::thread::sleep;
 use std::time::Duration;
 
@@ -15,7 +15,7 @@ use ofec_tests::chain::sending::send;
 use ofec_tests::chain::SUPERFRAME_PAIRS;
 use ofec_tests::frames::OVERHEAD_BYTES;
 use ofec_tests::line_file::Header;
-use ofec_tests::programs::program;
+use ofec_tests::programs::{program, progress, Folder, Printed};
 use ofec_tests::random::Random;
 use ofec_tests::rows::PAYLOAD_BYTES;
 
@@ -24,41 +24,25 @@ const PAYLOAD: u64 = (SUPERFRAME_PAIRS * PAYLOAD_BYTES) as u64;
 const KEPT: &[u8] = b"what had the name before";
 const NAMES: [&str; 4] = ["payload0", "payload1", "overhead", "line"];
 
-/// What a run printed.
-#[derive(Debug)]
-struct Printed {
-    out: String,
-    said: String,
-}
-
 /// What a run prints before it ends.
 fn printed(child: Child) -> Printed {
-    let output = child.wait_with_output().expect("the program runs");
-    assert_eq!(output.status.code(), Some(0), "{}", output.status);
-    let text = |bytes| String::from_utf8(bytes).expect("text");
-    Printed {
-        out: text(output.stdout),
-        said: text(output.stderr),
-    }
+    Printed::of(child.wait_with_output().expect("the program runs"))
 }
 
-/// A folder of its own with the three files that are read, removed at the end.
-struct Room(PathBuf);
+/// A folder with the three files that are read.
+struct Room(Folder);
 
-impl Drop for Room {
-    fn drop(&mut self) {
-        let _ = fs::remove_dir_all(&self.0);
+impl Deref for Room {
+    type Target = Folder;
+
+    fn deref(&self) -> &Folder {
+        &self.0
     }
 }
 
 impl Room {
     fn empty() -> Self {
-        static NUMBER: AtomicU32 = AtomicU32::new(0);
-        let number = NUMBER.fetch_add(1, Ordering::Relaxed);
-        let name = format!("ofec-linemake-{}-{number}", std::process::id());
-        let folder = std::env::temp_dir().join(name);
-        fs::create_dir(&folder).expect("a temporary folder");
-        Room(folder)
+        Room(Folder::empty("linemake"))
     }
 
     /// Payload files of zeros that take no room, and a legal overhead list.
@@ -70,14 +54,6 @@ impl Room {
         room
     }
 
-    fn path(&self, name: &str) -> PathBuf {
-        self.0.join(name)
-    }
-
-    fn put(&self, name: &str, bytes: &[u8]) {
-        fs::write(self.path(name), bytes).expect("a file is written");
-    }
-
     /// A file of zeros, or the same file with another length.
     fn sized(&self, name: &str, length: u64) {
         File::options()
@@ -87,21 +63,6 @@ impl Room {
             .open(self.path(name))
             .and_then(|file| file.set_len(length))
             .expect("a sparse file");
-    }
-
-    fn read(&self, name: &str) -> Vec<u8> {
-        fs::read(self.path(name)).expect("a file is read")
-    }
-
-    /// The names in the folder, in order.
-    fn names(&self) -> Vec<String> {
-        let entries = fs::read_dir(&self.0).expect("the folder is read");
-        let mut names: Vec<_> = entries
-            .map(|entry| entry.expect("an entry").file_name())
-            .map(|name| name.into_string().expect("text"))
-            .collect();
-        names.sort();
-        names
     }
 
     /// The program with these arguments, in the folder.
@@ -120,7 +81,7 @@ impl Room {
     }
 
     fn piped(&self, mut command: Command) -> Command {
-        command.current_dir(&self.0).stdin(Stdio::null());
+        command.current_dir(self.folder()).stdin(Stdio::null());
         command.stdout(Stdio::piped()).stderr(Stdio::piped());
         command
     }
@@ -176,12 +137,6 @@ fn assert_one_line(said: &str) {
 fn line(superframes: u32) -> String {
     let total = Header::written(superframes).total;
     format!("superframes {superframes} overhead 16 frames 12304 total {total}\n")
-}
-
-fn progress(superframes: u32) -> String {
-    (1..=superframes)
-        .map(|done| format!("super-frame {done} of {superframes}\n"))
-        .collect()
 }
 
 /// The line file of the code written apart.
@@ -730,7 +685,7 @@ fn files_that_are_not_permitted() {
     room.set_mode("folder", 0o555);
     if privileged {
         for path in [
-            room.0.clone(),
+            room.folder().to_path_buf(),
             room.path("line"),
             room.path("secret"),
             room.path("folder"),

@@ -1,9 +1,8 @@
 //! The program `linereceive`: payload and marks that it writes, what it prints, and what it leaves where it is refused.
 
 use std::fs::{self, File};
-use std::path::PathBuf;
+use std::ops::Deref;
 use std::process::{Command, Stdio};
-use std::sync::atomic::{AtomicU32, Ordering};
 
 use ofec_tests::chain::calls::REFERENCE;
 use ofec_tests::chain::damage::Damage;
@@ -12,7 +11,7 @@ use ofec_tests::chain::sending::send;
 use ofec_tests::chain::{SUPERFRAME_BYTES, SUPERFRAME_PAIRS};
 use ofec_tests::frames::OVERHEAD_BYTES;
 use ofec_tests::line_file::{Header, HEADER_BYTES};
-use ofec_tests::programs::program;
+use ofec_tests::programs::{program, progress, Folder, Printed};
 use ofec_tests::random::Random;
 use ofec_tests::rows::{MARKS, PAYLOAD_BYTES};
 
@@ -24,42 +23,26 @@ const NAMES: [&str; 6] = [
 ];
 const OUTPUTS: [&str; 4] = ["payload0", "payload1", "marks0", "marks1"];
 
-/// What a run printed.
-#[derive(Debug)]
-struct Printed {
-    out: String,
-    said: String,
-}
-
 /// What a command prints before it ends.
 fn printed(mut command: Command) -> Printed {
     command.stdin(Stdio::null());
-    let output = command.output().expect("it starts");
-    assert_eq!(output.status.code(), Some(0), "{}", output.status);
-    let text = |bytes| String::from_utf8(bytes).expect("text");
-    Printed {
-        out: text(output.stdout),
-        said: text(output.stderr),
-    }
+    Printed::of(command.output().expect("it starts"))
 }
 
-/// A folder of its own, removed at the end.
-struct Room(PathBuf);
+/// The folder of a run.
+struct Room(Folder);
 
-impl Drop for Room {
-    fn drop(&mut self) {
-        let _ = fs::remove_dir_all(&self.0);
+impl Deref for Room {
+    type Target = Folder;
+
+    fn deref(&self) -> &Folder {
+        &self.0
     }
 }
 
 impl Room {
     fn empty() -> Self {
-        static NUMBER: AtomicU32 = AtomicU32::new(0);
-        let number = NUMBER.fetch_add(1, Ordering::Relaxed);
-        let name = format!("ofec-linereceive-{}-{number}", std::process::id());
-        let folder = std::env::temp_dir().join(name);
-        fs::create_dir(&folder).expect("a temporary folder");
-        Room(folder)
+        Room(Folder::empty("linereceive"))
     }
 
     /// A line file and a capture, both of zeros behind the header, that take no room.
@@ -69,14 +52,6 @@ impl Room {
             room.headed(name, Header::written(superframes));
         }
         room
-    }
-
-    fn path(&self, name: &str) -> PathBuf {
-        self.0.join(name)
-    }
-
-    fn put(&self, name: &str, bytes: &[u8]) {
-        fs::write(self.path(name), bytes).expect("a file is written");
     }
 
     /// A file of this header and its total length, with zeros behind the header.
@@ -99,24 +74,9 @@ impl Room {
             .expect("another byte");
     }
 
-    fn read(&self, name: &str) -> Vec<u8> {
-        fs::read(self.path(name)).expect("a file is read")
-    }
-
-    /// The names in the folder, in order.
-    fn names(&self) -> Vec<String> {
-        let entries = fs::read_dir(&self.0).expect("the folder is read");
-        let mut names: Vec<_> = entries
-            .map(|entry| entry.expect("an entry").file_name())
-            .map(|name| name.into_string().expect("text"))
-            .collect();
-        names.sort();
-        names
-    }
-
     fn run_program(&self, name: &str, arguments: &[&str]) -> Printed {
         let mut command = Command::new(program(name));
-        command.args(arguments).current_dir(&self.0);
+        command.args(arguments).current_dir(self.folder());
         printed(command)
     }
 
@@ -129,7 +89,7 @@ impl Room {
         let mut command = Command::new("sh");
         command.args(["-c", &format!("{first} exec \"$0\" \"$@\"")]);
         command.arg(program("linereceive")).args(NAMES);
-        command.current_dir(&self.0);
+        command.current_dir(self.folder());
         printed(command)
     }
 
@@ -159,12 +119,6 @@ impl Room {
             }
         }
     }
-}
-
-fn progress(superframes: usize) -> String {
-    (1..=superframes)
-        .map(|done| format!("super-frame {done} of {superframes}\n"))
-        .collect()
 }
 
 /// What the code written apart makes of frames.
@@ -231,7 +185,7 @@ fn a_clean_round_trip() {
                 given.out,
                 format!("superframes {superframes} flips 0 lost 0 overhead 0\n")
             );
-            assert_eq!(given.said, progress(superframes));
+            assert_eq!(given.said, progress(superframes as u32));
             let marks = [0; 2].map(|_| vec![0; superframes * SUPERFRAME_PAIRS * MARKS]);
             let sent = Expected {
                 payloads: payloads.clone(),
@@ -296,7 +250,7 @@ fn a_damaged_capture() {
         assert!(!expected.line.contains("flips 0"), "{}", expected.line);
         let given = room.run(&NAMES);
         assert_eq!(given.out, expected.line);
-        assert_eq!(given.said, progress(superframes));
+        assert_eq!(given.said, progress(superframes as u32));
         assert_received(&room, &expected);
         assert_eq!(room.names().len(), 6);
     }
@@ -536,7 +490,7 @@ fn a_constant_amount_of_memory() {
         let given = room.run_after("ulimit -v 16384 && ulimit -s 1024 &&");
         let line = format!("superframes {superframes} flips 0 lost 0 overhead 0\n");
         assert_eq!(given.out, line);
-        assert_eq!(given.said, progress(superframes as usize));
+        assert_eq!(given.said, progress(superframes));
         for name in OUTPUTS {
             let bytes = if name.starts_with('p') {
                 PAYLOAD

@@ -1,4 +1,4 @@
-// One line on standard error that says why a program refuses: it begins with the name of the file.
+// Lines on standard error: why a program refuses, which begins with the name of the file, and how far it is.
 use filestatus::is_regular;
 use libc::STDERR_FILENO;
 
@@ -34,6 +34,15 @@ pub fn line_with(argument: usize, words: &[u8], n: usize) {
     begin(argument);
     text(words);
     number(n);
+    text(b"\n");
+}
+
+// How many super-frames are done, of how many.
+pub fn progress(done: u32, of: u32) {
+    text(b"super-frame ");
+    number(done as usize);
+    text(b" of ");
+    number(of as usize);
     text(b"\n");
 }
 

@@ -4,20 +4,11 @@ use crate::inputs::PAYLOAD0;
 use crate::inputs::PAYLOAD1;
 use crate::line::put;
 use crate::pairs::encode;
-use libc::STDERR_FILENO;
+use files::message;
 ghost use mathlib.Core.Path.{_≡_};
 ghost use Prim.Native.Nat.{_≤_, _<_};
 ghost use lib.ListN.{length};
 ghost use Rattle.cells_spec.specs.Cells.{overheadRule, Legal};
-
-// Says how far it is.
-fn say(done: u32, of: u32) {
-    io::write_all(STDERR_FILENO, b"super-frame ");
-    io::print_decimal(STDERR_FILENO, done as u64);
-    io::write_all(STDERR_FILENO, b" of ");
-    io::print_decimal(STDERR_FILENO, of as u64);
-    io::write_all(STDERR_FILENO, b"\n");
-}
 
 // Makes the frames of coded pairs and writes them.
 fn write_frames(
@@ -93,7 +84,7 @@ pub fn write_all(inputs: Inputs, superframes: u32, overhead: &[u8], out: i32) ->
         if refusal != 0 {
             return refusal;
         }
-        say(q + 1, superframes);
+        message::progress(q + 1, superframes);
     }
     0
 }

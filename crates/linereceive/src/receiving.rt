@@ -8,6 +8,7 @@ use crate::outputs::put;
 use crate::say;
 use calls::Answer;
 use calls::Refusal;
+use files::message;
 ghost use mathlib.Core.Path.{_≡_};
 ghost use Prim.Native.Nat.{_*_, _≤_, _<_};
 ghost use lib.ListN.{length};
@@ -222,7 +223,7 @@ pub fn receive_all(capture: Input, overhead: &[u8], outputs: Descriptors) -> Rec
         flips = flips + next.flips;
         lost = lost + next.lost;
         differing = differing + next.overhead;
-        say::progress(q + 1, n);
+        message::progress(q + 1, n);
     }
     Received {
         refusal: 0,

@@ -27,12 +27,3 @@ pub fn header(argument: usize, fd: i32, first: &[u8; 16], size: usize) {
     let n = os::arg(argument, &mut name);
     report::explain_header(&name[..n], first, size);
 }
-
-// How far it is.
-pub fn progress(done: u32, of: u32) {
-    message::text(b"super-frame ");
-    message::number(done as usize);
-    message::text(b" of ");
-    message::number(of as usize);
-    message::text(b"\n");
-}
