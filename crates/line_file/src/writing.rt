@@ -1,7 +1,7 @@
 // Writing a header.
 use calls::Answer;
 use calls::Refusal;
-use line_file_core::writing::put_numbers;
+use header_core::writing::put_numbers;
 ghost use mathlib.Core.Path.{_≡_};
 ghost use Rattle.calls.specs.Calls.{after};
 ghost use Rattle.line_file_spec.specs.Writing.{writeCall};

@@ -1,8 +1,8 @@
 // Opening a lent file: its header, the refusal, and the part that an open file holds.
-use crate::rules::judge;
-use crate::rules::refused;
 use calls::Answer;
 use calls::Refusal;
+use header_core::rules::judge;
+use header_core::rules::refused;
 use line_file_spec::Header;
 ghost use mathlib.Core.Path.{_≡_};
 ghost use Rattle.line_file_spec.specs.Opening.{headerOf, openRefusal, openPart};

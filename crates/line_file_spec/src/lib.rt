@@ -1,4 +1,4 @@
-// The line file, definitions and laws, and the type that they use: 01, "Line file". The workers are in `line_file_core`, the calls in
+// The line file, definitions and laws, and the type that they use: 01, "Line file". The workers are in `header_core` and `line_file_core`, the calls in
 // `line_file`.
 use calls::Answer;
 

@@ -1,6 +1,6 @@
 // Reads a file on standard input and prints what its header says, or why it is refused. The bytes are counted and, but for
 // the first sixteen, not kept.
-// Over `line_file_core` and `report`.
+// Over `header_core` and `report`.
 use libc::STDERR_FILENO;
 use libc::STDIN_FILENO;
 ghost use Prim.Native.Nat.{_≤_};
@@ -56,6 +56,6 @@ fn main() {
     if size == 16 {
         size = count_on(size);
     }
-    report::print_header(line_file_core::rules::judge(&first, size));
+    report::print_header(header_core::rules::judge(&first, size));
     explain(&first, size);
 }

@@ -1,6 +1,6 @@
 // Makes a line file of two payload files and an overhead list, super-frame by super-frame, and prints its header's numbers, or why
 // it is refused: linemake PAYLOAD0 PAYLOAD1 OVERHEAD LINE.
-// Over `cells_core`, `pair_stream`, `superframe`, `line_file_core`, `line_file`, `report` and `files`.
+// Over `cells_core`, `pair_stream`, `superframe`, `header_core`, `line_file`, `report` and `files`.
 mod inputs;
 mod line;
 mod pairs;
@@ -58,7 +58,7 @@ fn print_made() {
     let mut first = [0u8; 16];
     io::read_full(fd, &mut first);
     let length = files::length(fd);
-    report::print_header(line_file_core::rules::judge(&first, length));
+    report::print_header(header_core::rules::judge(&first, length));
     report::explain_header(b"line file", &first, length);
 }
 

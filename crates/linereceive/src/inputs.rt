@@ -25,7 +25,7 @@ pub struct Input {
 fn header(first: &[u8; 16], size: usize) -> Header
     ensures { λ h. ⌜ h .superframes ≤ 64 ⌝ }
 {
-    line_file_core::rules::judge(first, size)
+    header_core::rules::judge(first, size)
 }
 
 // Judges the header of an open file, and says why it is refused.

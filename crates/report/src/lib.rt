@@ -1,8 +1,8 @@
 // What the programs print of a line file: its header's numbers on one line, or the refusal. Over `line_file_spec`, below the programs.
 use calls::Answer;
+use header_core::rules::number;
 use libc::STDERR_FILENO;
 use libc::STDOUT_FILENO;
-use line_file_core::rules::number;
 use line_file_spec::Header;
 ghost use Prim.Native.Nat.{_^_, _<_};
 

@@ -1,9 +1,9 @@
--- `line_file_core::number` meets its contract: two halves are one number.
+-- `header_core::number` meets its contract: two halves are one number.
 -- Assumes nothing.
 use Rattle.line_file_spec.specs.HeaderLaws.{by-halves}
 use borrow.Author.Needs.{needs}
-use Rattle.line_file_core.proofs.rules.number.Statement.{statement}
-use Rattle.line_file_core.proofs.rules.number.Tie as tie
+use Rattle.header_core.proofs.rules.number.Statement.{statement}
+use Rattle.header_core.proofs.rules.number.Tie as tie
 
 ruleset kit = (needs, by-halves)
 

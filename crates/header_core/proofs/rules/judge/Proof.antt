@@ -1,9 +1,9 @@
--- `line_file_core::judge` meets its contract: the three cases of the judgement.
+-- `header_core::judge` meets its contract: the three cases of the judgement.
 -- Assumes nothing.
 use Rattle.line_file_spec.specs.HeaderLaws.{header-cases}
 use borrow.Author.Needs.{needs}
-use Rattle.line_file_core.proofs.rules.judge.Statement.{statement}
-use Rattle.line_file_core.proofs.rules.judge.Tie as tie
+use Rattle.header_core.proofs.rules.judge.Statement.{statement}
+use Rattle.header_core.proofs.rules.judge.Tie as tie
 
 ruleset kit = (needs, header-cases)
 

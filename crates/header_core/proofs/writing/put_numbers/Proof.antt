@@ -1,4 +1,4 @@
--- `line_file_core::put_numbers` meets its contract: the buffer is filled byte by byte.
+-- `header_core::put_numbers` meets its contract: the buffer is filled byte by byte.
 -- Assumes nothing.
 use Prim.Native.Nat.{_-_, _/_, _%_}
 use mathlib.Core.List.{[], _∷_}
@@ -6,8 +6,8 @@ use lib.ListN.{getD}
 use Rattle.bits.specs.Filling.{Filling, fill}
 use Rattle.line_file_spec.specs.Writing.{numberByte, headerBytes}
 use borrow.Author.Needs.{needs}
-use Rattle.line_file_core.proofs.writing.put_numbers.Statement.{statement}
-use Rattle.line_file_core.proofs.writing.put_numbers.Tie as tie
+use Rattle.header_core.proofs.writing.put_numbers.Statement.{statement}
+use Rattle.header_core.proofs.writing.put_numbers.Tie as tie
 
 ruleset kit = (needs, fill)
 

@@ -1,9 +1,9 @@
--- `line_file_core::rules_hold` meets its contract: each rule by itself.
+-- `header_core::rules_hold` meets its contract: each rule by itself.
 -- Assumes nothing.
 use Rattle.line_file_spec.specs.HeaderLaws.{one-by-one}
 use borrow.Author.Needs.{needs}
-use Rattle.line_file_core.proofs.rules.rules_hold.Statement.{statement}
-use Rattle.line_file_core.proofs.rules.rules_hold.Tie as tie
+use Rattle.header_core.proofs.rules.rules_hold.Statement.{statement}
+use Rattle.header_core.proofs.rules.rules_hold.Tie as tie
 
 ruleset kit = (needs, one-by-one)
 
