@@ -3,6 +3,7 @@ use crate::counts::add;
 use crate::counts::print_encoder;
 use crate::random;
 use crate::refusing::refuse_encodings;
+use pair_words_core::history::copy;
 ghost use mathlib.Core.Path.{_≡_};
 ghost use Prim.Native.Nat.{_*_, _<_};
 ghost use lib.ListN.{length, replicate};
@@ -11,6 +12,15 @@ ghost use Rattle.pair_spec.specs.Stream.{pairEncoder as encoderOf, codedOf, his
 ghost use Rattle.loopback.specs.Random.{payloadIn};
 ghost use Rattle.loopback.specs.Sent.{sentIn, frameSent};
 ghost use Rattle.loopback.specs.Steps.{eachStep};
+
+// The 336 coded pairs of an encoder.
+type Coded = [u8; 172032];
+
+pub fn blank_coded() -> Coded
+    ensures { λ r. ⌜ r ≡ replicate 172032 0 ⌝ }
+{
+    [0u8; 172032]
+}
 
 // The payload of an encoder in a super-frame.
 type Payload = [u8; 74592];
@@ -57,7 +67,28 @@ fn encode_both(encoder: u32, coded: &mut [u8], counts: &mut [u32])
     }
 }
 
-// The same, and a print of what was done.
+// The same without the counts, where the pairs are needed again;
+pub fn encode_again(encoder: u32, coded: &mut [u8])
+    requires { ⌜ (encoder < 2) × (length (now coded) ≡ 172032) ⌝ }
+    ensures { λ _. ⌜ now (coded .exit) ≡ endToEnd 2 86016 (sentIn encoder) ⌝ }
+{
+    let mut counts = [0u32; 41];
+    encode_both(encoder, coded, &mut counts);
+}
+
+// those of super-frame q alone;
+pub fn encode_one(encoder: u32, q: usize, coded: &mut [u8])
+    requires { ⌜ (encoder < 2) × (q < 2) × (length (now coded) ≡ 86016) ⌝ }
+    ensures { λ _. ⌜ now (coded .exit) ≡ sentIn encoder q ⌝ }
+{
+    let a = q * 86016;
+    let e = a + 86016;
+    let mut both = blank_coded();
+    encode_again(encoder, &mut both);
+    copy(&both[a..e], coded);
+}
+
+// and those of both, with a print of what was done.
 pub fn encode(encoder: u32, coded: &mut [u8])
     requires { ⌜ (encoder < 2) × (length (now coded) ≡ 172032) ⌝ }
     ensures { λ _. ⌜ now (coded .exit) ≡ endToEnd 2 86016 (sentIn encoder) ⌝ }
