@@ -1,11 +1,14 @@
 -- Laws of the line: frames of coded pairs are legal, damaged too, so that they are taken apart; super-frame by super-frame.
 -- Assumes nothing.
 use mathlib.Core.Path.{_≡_, refl, sym, ap, ap₂, _∙_}
+use mathlib.Core.Bool.{cond}
 use mathlib.Core.List.{List}
 use mathlib.Core.Logic.{_≢_}
 use Prim.Native.Nat.{ℕ, _+_, _-_, _*_, _/_, _%_, _<_, _≤_}
 use native.Mathlib.Omega.{arith}
-use lib.Dec.{lit<}
+use native.Mathlib.Decide.{ℕ-discrete}
+use borrow.Author.Tests.{eq-eqb, ne-eqb}
+use lib.Dec.{eqb, lit<}
 use lib.ListN.{length}
 use Rattle.bits.specs.Lists.{tabulate}
 use Rattle.bits.specs.Parts.{part, byteOfEach, endToEnd}
@@ -22,7 +25,7 @@ use Rattle.frame_spec.specs.Frames.{payloadCells, payloadStart, ownOverhead, fr
 use Rattle.frame_spec.specs.FrameLaws.{framed-length, framed-legal, own-length, own-legal}
 use Rattle.superframe_spec.specs.Superframe.{payload, subFrame, framesEndToEnd, superframe}
 use Rattle.superframe_spec.specs.SuperframeLaws.{part-legal, payload-legal, payload-within}
-use Rattle.superframe_spec.specs.Apart.{takenPairs, differingAll, lineRule, takenApart, takeApart}
+use Rattle.superframe_spec.specs.Apart.{takenCells, takenPairs, differingAll, lineRule, takenApart, takeApart}
 use Rattle.superframe_spec.specs.ApartLaws.{apart-done}
 use Rattle.loopback.specs.Noise.{damaged}
 use Rattle.loopback.specs.NoiseLaws.{damaged-legal}
@@ -75,30 +78,32 @@ pub line-made : (list : List ℕ) (q : ℕ) (coded0 coded1 a b : List ℕ) → c
 unfolding lineIn damagedLine
 line-made list q coded0 coded1 a b e₀ e₁ ea eb = cc
 
--- What comes off legal frames: the differing cells and both encoders' pairs.
-module _ (line list pairs0 pairs1 x y : List ℕ) (r : Answer) (v : ℕ) (hl : Legal overheadRule list) (legal : Legal (lineRule qam16) line)
-    (t : parted r x y ≡ takeApart qam16 line list pairs0 pairs1) (e : v ≡ valueOr r 0) where
+-- Encoder 0's pairs, or those of encoder 1 in their place.
+pub first-kept : (e : ℕ) (x y : List ℕ) → e ≡ 0 → x ≡ cond (eqb e 0) x y
+first-kept e x y h = simp (eq-eqb _ 0 h)
+
+pub second-put : (e : ℕ) (x y z : List ℕ) → e ≢ 0 → z ≡ y → z ≡ cond (eqb e 0) x y
+second-put e x y z h is = is ∙ simp (ne-eqb _ 0 h)
+
+-- What comes off legal frames: the differing cells, and the pairs of an encoder.
+module _ (line list pairs0 pairs1 x y : List ℕ) (r : Answer) (hl : Legal overheadRule list) (legal : Legal (lineRule qam16) line)
+    (t : parted r x y ≡ takeApart qam16 line list pairs0 pairs1) where
   carried : parted r x y ≡ takenApart qam16 line list
   carried = t ∙ sym (apart-done qam16 line list pairs0 pairs1 _ refl (none-illegal overheadRule list hl) _ refl (none-illegal (lineRule qam16) line legal) _ refl)
 
-  pub off-counted : v ≡ differingAll line list
-  off-counted = e ∙ ap (λ (a : Apart). valueOr (a .answer) 0) carried
+  pub off-counted : (v : ℕ) → v ≡ valueOr r 0 → v ≡ differingAll line list
+  off-counted v e = e ∙ ap (λ (a : Apart). valueOr (a .answer) 0) carried
 
-  pub off-first : x ≡ pairsOff line 0
+  pub off-chosen : (e : ℕ) (z : List ℕ) → e < 2 → z ≡ cond (eqb e 0) x y → z ≡ pairsOff line e
   unfolding pairsOff
-  off-first = ap (λ (a : Apart). a .written .pairs0) carried
-
-  pub off-second : y ≡ pairsOff line 1
-  unfolding pairsOff
-  off-second = ap (λ (a : Apart). a .written .pairs1) carried
-
--- An encoder by its number.
-module _ (line ys : List ℕ) (e : ℕ) where
-  pub first-is : ys ≡ pairsOff line 0 → e ≡ 0 → ys ≡ pairsOff line e
-  first-is is en = is ∙ ap (pairsOff line) (sym en)
-
-  pub second-is : ys ≡ pairsOff line 1 → e < 2 → e ≢ 0 → ys ≡ pairsOff line e
-  second-is is l n = let one : 1 ≡ e = omega arith in is ∙ ap (pairsOff line) one
+  off-chosen e z l is = go (ℕ-discrete e 0)
+    where
+      go : Dec (e ≡ 0) → z ≡ takenPairs qam16 (takenCells line) e
+      go (yes h) =
+          is ∙ sym (first-kept e x y h) ∙ ap (λ (a : Apart). a .written .pairs0) carried ∙ ap (takenPairs qam16 (takenCells line)) (sym h)
+      go (no h) =
+          let one : 1 ≡ e = omega arith in
+          is ∙ sym (second-put e x y y h refl) ∙ ap (λ (a : Apart). a .written .pairs1) carried ∙ ap (takenPairs qam16 (takenCells line)) one
 
 -- The damaged frames, which a file leaves as they were: they are legal, and what comes off them.
 module _ (list : List ℕ) (q : ℕ) (made frames : List ℕ) (is : made ≡ lineIn list q) (kept : frames ≡ made) where

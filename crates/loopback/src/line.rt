@@ -5,8 +5,11 @@ use crate::noise::damage;
 use crate::random;
 use crate::refusing::refuse_framing;
 use crate::sending::encode_one;
+use pair_words_core::history::copy;
+ghost use mathlib.Core.Bool.{cond};
 ghost use mathlib.Core.Path.{_≡_};
 ghost use Prim.Native.Nat.{_<_};
+ghost use lib.Dec.{eqb};
 ghost use lib.ListN.{length, replicate};
 ghost use Rattle.calls.specs.declared.Answer.the-variants.{Refused};
 ghost use Rattle.calls.specs.declared.Refusal.the-variants.{NoSuchFrame, OffGrid};
@@ -48,33 +51,25 @@ fn send(q: usize, list: &[u8], room: &mut [u8], frames: &mut [u8])
     damage(q, frames);
 }
 
-// Takes the pairs of encoder 0 off legal frames: the number of overhead cells that differ;
-fn take_first(list: &[u8], frames: &[u8], pairs: &mut [u8]) -> u32
-    requires { ⌜ (length (now list) ≡ 12288) × Legal overheadRule (now list) × (length (now frames) ≡ 356352) × Legal (lineRule qam16) (now frames) × (length (now pairs) ≡ 86016) ⌝ }
-    ensures { λ r. ⌜ (r ≡ differingAll (now (frames .entry)) (now (list .entry))) × (now (pairs .exit) ≡ pairsOff (now (frames .entry)) 0) ⌝ }
+// Puts the pairs of encoder 1 in the place of those of encoder 0 where they are asked for.
+fn choose(encoder: u32, second: &[u8], pairs: &mut [u8])
+    requires { ⌜ (length (now second) ≡ 86016) × (length (now pairs) ≡ 86016) ⌝ }
+    ensures { λ _. ⌜ now (pairs .exit) ≡ cond (eqb encoder 0) (now (pairs .entry)) (now (second .entry)) ⌝ }
 {
-    let mut other = blank();
-    calls::value_or(superframe::take_apart(frames, list, pairs, &mut other), 0)
+    if encoder != 0 {
+        copy(second, pairs);
+    }
 }
 
-// those of encoder 1;
-fn take_second(list: &[u8], frames: &[u8], pairs: &mut [u8]) -> u32
-    requires { ⌜ (length (now list) ≡ 12288) × Legal overheadRule (now list) × (length (now frames) ≡ 356352) × Legal (lineRule qam16) (now frames) × (length (now pairs) ≡ 86016) ⌝ }
-    ensures { λ r. ⌜ (r ≡ differingAll (now (frames .entry)) (now (list .entry))) × (now (pairs .exit) ≡ pairsOff (now (frames .entry)) 1) ⌝ }
-{
-    let mut other = blank();
-    calls::value_or(superframe::take_apart(frames, list, &mut other, pairs), 0)
-}
-
-// and those of either.
+// Takes the pairs of an encoder off legal frames: the number of overhead cells that differ.
 fn take(encoder: u32, list: &[u8], frames: &[u8], pairs: &mut [u8]) -> u32
     requires { ⌜ (encoder < 2) × (length (now list) ≡ 12288) × Legal overheadRule (now list) × (length (now frames) ≡ 356352) × Legal (lineRule qam16) (now frames) × (length (now pairs) ≡ 86016) ⌝ }
     ensures { λ r. ⌜ (r ≡ differingAll (now (frames .entry)) (now (list .entry))) × (now (pairs .exit) ≡ pairsOff (now (frames .entry)) encoder) ⌝ }
 {
-    if encoder == 0 {
-        return take_first(list, frames, pairs);
-    }
-    take_second(list, frames, pairs)
+    let mut other = blank();
+    let differing = calls::value_or(superframe::take_apart(frames, list, pairs, &mut other), 0);
+    choose(encoder, &other, pairs);
+    differing
 }
 
 // Sends the pairs of super-frame q over the line and takes those of an encoder off it: the number of overhead cells that differ.

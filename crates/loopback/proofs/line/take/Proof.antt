@@ -1,6 +1,6 @@
 -- `loopback::line::take` meets its contract.
 -- Assumes nothing.
-use Rattle.loopback.specs.LineLaws.{first-is, second-is}
+use Rattle.loopback.specs.LineLaws.{off-counted, off-chosen}
 use borrow.Author.Needs.{needs}
 use Rattle.loopback.proofs.line.take.Statement.{statement}
 use Rattle.loopback.proofs.line.take.Tie as tie
@@ -9,9 +9,13 @@ pub take-spec : {M : Type 1} → statement M
 take-spec =
     tie.close
     (tie.spec
-    (λ c κs. search needs)  -- take-first-requires
+    (λ c κs. search needs)  -- blank-requires
+    (λ c. search needs)  -- slice-aggregate-take-apart
+    (λ c κs. (search needs, search needs, search needs, search needs))  -- take-apart-requires
+    (λ c κs. search needs)  -- value-or-requires
+    (λ c. search needs)  -- slice-aggregate-choose
+    (λ c κs. search needs)  -- choose-requires
     (λ c. search needs)  -- same-length
-    (λ c. (search needs, search (needs, first-is)))  -- returns
-    (λ c κs. search needs)  -- take-second-requires
-    (λ c. search needs)  -- same-length-2
-    (λ c. (search needs, search (needs, second-is))))  -- returns-2
+    (λ c.
+    let t = c .before .before .before .before .before .before .before .before .before .take-apart .ensures in
+    (off-counted _ _ _ _ _ _ _ (search needs) (search needs) t _ (search needs), off-chosen _ _ _ _ _ _ _ (search needs) (search needs) t _ _ (search needs) (search needs))))  -- returns
