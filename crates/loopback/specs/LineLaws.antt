@@ -1,14 +1,11 @@
 -- Laws of the line: frames of coded pairs are legal, damaged too, so that they are taken apart; super-frame by super-frame.
 -- Assumes nothing.
 use mathlib.Core.Path.{_≡_, refl, sym, ap, ap₂, _∙_}
-use mathlib.Core.Bool.{cond}
 use mathlib.Core.List.{List}
 use mathlib.Core.Logic.{_≢_}
 use Prim.Native.Nat.{ℕ, _+_, _-_, _*_, _/_, _%_, _<_, _≤_}
 use native.Mathlib.Omega.{arith}
-use native.Mathlib.Decide.{ℕ-discrete}
-use borrow.Author.Tests.{eq-eqb, ne-eqb}
-use lib.Dec.{eqb, lit<}
+use lib.Dec.{lit<}
 use lib.ListN.{length}
 use Rattle.bits.specs.Lists.{tabulate}
 use Rattle.bits.specs.Parts.{part, byteOfEach, endToEnd}
@@ -25,7 +22,7 @@ use Rattle.frame_spec.specs.Frames.{payloadCells, payloadStart, ownOverhead, fr
 use Rattle.frame_spec.specs.FrameLaws.{framed-length, framed-legal, own-length, own-legal}
 use Rattle.superframe_spec.specs.Superframe.{payload, subFrame, framesEndToEnd, superframe}
 use Rattle.superframe_spec.specs.SuperframeLaws.{part-legal, payload-legal, payload-within}
-use Rattle.superframe_spec.specs.Apart.{takenCells, takenPairs, differingAll, lineRule, takenApart, takeApart}
+use Rattle.superframe_spec.specs.Apart.{takenPairs, differingAll, lineRule, takenApart, takeApart}
 use Rattle.superframe_spec.specs.ApartLaws.{apart-done}
 use Rattle.loopback.specs.Noise.{damaged}
 use Rattle.loopback.specs.NoiseLaws.{damaged-legal}
@@ -71,51 +68,58 @@ module _ (p : Profile) (pairs0 pairs1 list : List ℕ) (ll : length list ≡ 122
 
 -- ---- one super-frame
 
--- The damaged frames of what the encoders send.
-pub line-made : (list : List ℕ) (q : ℕ) (coded0 coded1 a b : List ℕ) → coded0 ≡ sentIn 0 q → coded1 ≡ sentIn 1 q
-    → a ≡ superframe qam16 coded0 coded1 list → b ≡ damaged q a
-    → b ≡ lineIn list q
-unfolding lineIn damagedLine
-line-made list q coded0 coded1 a b e₀ e₁ ea eb = cc
+pub line-made : (list : List ℕ) (q : ℕ) (coded0 coded1 a b : List ℕ) → a ≡ superframe qam16 coded0 coded1 list → b ≡ damaged q a
+    → b ≡ damagedLine list q coded0 coded1
+unfolding damagedLine
+line-made list q coded0 coded1 a b e f = f ∙ ap (damaged q) e
 
--- Encoder 0's pairs, or those of encoder 1 in their place.
-pub first-kept : (e : ℕ) (x y : List ℕ) → e ≡ 0 → x ≡ cond (eqb e 0) x y
-first-kept e x y h = simp (eq-eqb _ 0 h)
+-- What comes off the damaged frames of coded pairs, which a file leaves as they were.
+module _ (q : ℕ) (coded0 coded1 list made frames got0 got1 x y : List ℕ) (r : Answer) (is : made ≡ damagedLine list q coded0 coded1) (kept : frames ≡ made)
+    (ll : length list ≡ 12288) (hl : Legal overheadRule list) (t : parted r x y ≡ takeApart qam16 frames list got0 got1) where
+  abbrev line : List ℕ
+  line = damagedLine list q coded0 coded1
 
-pub second-put : (e : ℕ) (x y z : List ℕ) → e ≢ 0 → z ≡ y → z ≡ cond (eqb e 0) x y
-second-put e x y z h is = is ∙ simp (ne-eqb _ 0 h)
+  legal : Legal (lineRule qam16) line
+  unfolding damagedLine
+  legal = damaged-legal q (superframe qam16 coded0 coded1 list) (superframe-legal qam16 coded0 coded1 list ll hl)
 
--- What comes off legal frames: the differing cells, and the pairs of an encoder.
-module _ (line list pairs0 pairs1 x y : List ℕ) (r : Answer) (hl : Legal overheadRule list) (legal : Legal (lineRule qam16) line)
-    (t : parted r x y ≡ takeApart qam16 line list pairs0 pairs1) where
   carried : parted r x y ≡ takenApart qam16 line list
-  carried = t ∙ sym (apart-done qam16 line list pairs0 pairs1 _ refl (none-illegal overheadRule list hl) _ refl (none-illegal (lineRule qam16) line legal) _ refl)
+  carried =
+      t ∙ ap (λ l. takeApart qam16 l list got0 got1) (kept ∙ is)
+      ∙ sym (apart-done qam16 line list got0 got1 _ refl (none-illegal overheadRule list hl) _ refl (none-illegal (lineRule qam16) line legal) _ refl)
 
-  pub off-counted : (v : ℕ) → v ≡ valueOr r 0 → v ≡ differingAll line list
-  off-counted v e = e ∙ ap (λ (a : Apart). valueOr (a .answer) 0) carried
-
-  pub off-chosen : (e : ℕ) (z : List ℕ) → e < 2 → z ≡ cond (eqb e 0) x y → z ≡ pairsOff line e
+  -- The differing cells and both encoders' pairs.
+  pub line-carried : (v : ℕ) → v ≡ valueOr r 0
+      → (v ≡ differingAll (damagedLine list q coded0 coded1) list) × (x ≡ pairsOff (damagedLine list q coded0 coded1) 0) × (y ≡ pairsOff (damagedLine list q coded0 coded1) 1)
   unfolding pairsOff
-  off-chosen e z l is = go (ℕ-discrete e 0)
-    where
-      go : Dec (e ≡ 0) → z ≡ takenPairs qam16 (takenCells line) e
-      go (yes h) =
-          is ∙ sym (first-kept e x y h) ∙ ap (λ (a : Apart). a .written .pairs0) carried ∙ ap (takenPairs qam16 (takenCells line)) (sym h)
-      go (no h) =
-          let one : 1 ≡ e = omega arith in
-          is ∙ sym (second-put e x y y h refl) ∙ ap (λ (a : Apart). a .written .pairs1) carried ∙ ap (takenPairs qam16 (takenCells line)) one
+  line-carried v e = (e ∙ ap (λ (a : Apart). valueOr (a .answer) 0) carried, ap (λ (a : Apart). a .written .pairs0) carried, ap (λ (a : Apart). a .written .pairs1) carried)
 
--- The damaged frames, which a file leaves as they were: they are legal, and what comes off them.
-module _ (list : List ℕ) (q : ℕ) (made frames : List ℕ) (is : made ≡ lineIn list q) (kept : frames ≡ made) where
-  pub line-legal : length list ≡ 12288 → Legal overheadRule list → Legal (lineRule qam16) frames
-  unfolding lineIn damagedLine
-  line-legal ll hl = rw (kept ∙ is) (damaged-legal q _ (superframe-legal qam16 (sentIn 0 q) (sentIn 1 q) list ll hl))
+-- The same of what encoder e and the other one send, in the order of the encoders.
+module _ (list : List ℕ) (q e : ℕ) (own other : List ℕ) (eo : own ≡ sentIn e q) (et : other ≡ sentIn (1 - e) q) where
+  module _ (h : e ≡ 0) where
+    first-line : damagedLine list q own other ≡ lineIn list q
+    unfolding lineIn
+    first-line = let one : 1 - e ≡ 1 = omega arith in ap₂ (damagedLine list q) (eo ∙ ap (λ n. sentIn n q) h) (et ∙ ap (λ n. sentIn n q) one)
 
-  pub off-line : (e : ℕ) (ys : List ℕ) → ys ≡ pairsOff frames e → ys ≡ pairsOff (lineIn list q) e
-  off-line e ys es = es ∙ ap (λ l. pairsOff l e) (kept ∙ is)
+    pub first-counted : (v : ℕ) → v ≡ differingAll (damagedLine list q own other) list → v ≡ differingAll (lineIn list q) list
+    first-counted v ev = ev ∙ ap (λ l. differingAll l list) first-line
 
-  pub counted-line : (v : ℕ) → v ≡ differingAll frames list → v ≡ differingAll (lineIn list q) list
-  counted-line v ev = ev ∙ ap (λ l. differingAll l list) (kept ∙ is)
+    pub first-off : (ys : List ℕ) → ys ≡ pairsOff (damagedLine list q own other) 0 → ys ≡ pairsOff (lineIn list q) e
+    first-off ys es = es ∙ ap₂ pairsOff first-line (sym h)
+
+  module _ (l : e < 2) (h : e ≢ 0) where
+    second-line : damagedLine list q other own ≡ lineIn list q
+    unfolding lineIn
+    second-line =
+        let one : e ≡ 1 = omega arith in
+        let zero : 1 - e ≡ 0 = omega arith in
+        ap₂ (damagedLine list q) (et ∙ ap (λ n. sentIn n q) zero) (eo ∙ ap (λ n. sentIn n q) one)
+
+    pub second-counted : (v : ℕ) → v ≡ differingAll (damagedLine list q other own) list → v ≡ differingAll (lineIn list q) list
+    second-counted v ev = ev ∙ ap (λ l. differingAll l list) second-line
+
+    pub second-off : (ys : List ℕ) → ys ≡ pairsOff (damagedLine list q other own) 1 → ys ≡ pairsOff (lineIn list q) e
+    second-off ys es = let one : 1 ≡ e = omega arith in es ∙ ap₂ pairsOff second-line one
 
 -- ---- super-frames end to end
 

@@ -5,19 +5,16 @@ use crate::noise::damage;
 use crate::random;
 use crate::refusing::refuse_framing;
 use crate::sending::encode_one;
-use pair_words_core::history::copy;
-ghost use mathlib.Core.Bool.{cond};
 ghost use mathlib.Core.Path.{_≡_};
-ghost use Prim.Native.Nat.{_<_};
-ghost use lib.Dec.{eqb};
+ghost use Prim.Native.Nat.{_-_, _<_};
 ghost use lib.ListN.{length, replicate};
 ghost use Rattle.calls.specs.declared.Answer.the-variants.{Refused};
 ghost use Rattle.calls.specs.declared.Refusal.the-variants.{NoSuchFrame, OffGrid};
 ghost use Rattle.cells_spec.specs.Cells.{overheadRule, Legal};
-ghost use Rattle.cells_spec.specs.Profiles.{qam16};
-ghost use Rattle.superframe_spec.specs.Apart.{differingAll, lineRule};
-ghost use Rattle.loopback.specs.Line.{lineIn, pairsOff, allOff, lineCounted};
+ghost use Rattle.superframe_spec.specs.Apart.{differingAll};
+ghost use Rattle.loopback.specs.Line.{damagedLine, pairsOff, lineIn, allOff, lineCounted};
 ghost use Rattle.loopback.specs.Random.{drawnList};
+ghost use Rattle.loopback.specs.Sent.{sentIn};
 ghost use Rattle.loopback.specs.Steps.{eachStep};
 ghost use Rattle.loopback.specs.Tally.{answered};
 
@@ -39,48 +36,46 @@ fn blank() -> Pairs
     [0u8; 86016]
 }
 
-// The frames of super-frame q, damaged. `room` is for coded pairs on the way.
-fn send(q: usize, list: &[u8], room: &mut [u8], frames: &mut [u8])
-    requires { ⌜ (q < 2) × (length (now list) ≡ 12288) × Legal overheadRule (now list) × (length (now room) ≡ 86016) × (length (now frames) ≡ 356352) ⌝ }
-    ensures { λ _. ⌜ now (frames .exit) ≡ lineIn (now (list .entry)) q ⌝ }
+// The frames of super-frame q, damaged.
+fn send(q: usize, list: &[u8], coded0: &[u8], coded1: &[u8], frames: &mut [u8])
+    requires { ⌜ (q < 2) × (length (now list) ≡ 12288) × Legal overheadRule (now list) × (length (now coded0) ≡ 86016) × (length (now coded1) ≡ 86016) × (length (now frames) ≡ 356352) ⌝ }
+    ensures { λ _. ⌜ now (frames .exit) ≡ damagedLine (now (list .entry)) q (now (coded0 .entry)) (now (coded1 .entry)) ⌝ }
 {
-    let mut other = blank();
-    encode_one(0, q, room);
-    encode_one(1, q, &mut other);
-    superframe::make(room, &other, list, frames);
+    superframe::make(coded0, coded1, list, frames);
     damage(q, frames);
 }
 
-// Puts the pairs of encoder 1 in the place of those of encoder 0 where they are asked for.
-fn choose(encoder: u32, second: &[u8], pairs: &mut [u8])
-    requires { ⌜ (length (now second) ≡ 86016) × (length (now pairs) ≡ 86016) ⌝ }
-    ensures { λ _. ⌜ now (pairs .exit) ≡ cond (eqb encoder 0) (now (pairs .entry)) (now (second .entry)) ⌝ }
+// Sends the pairs of super-frame q over the line and puts in their place what is taken off it: the number of overhead cells that differ.
+fn transmit(q: usize, list: &[u8], pairs0: &mut [u8], pairs1: &mut [u8]) -> u32
+    requires { ⌜ (q < 2) × (length (now list) ≡ 12288) × Legal overheadRule (now list) × (length (now pairs0) ≡ 86016) × (length (now pairs1) ≡ 86016) ⌝ }
+    ensures { λ r. ⌜ (r ≡ differingAll (damagedLine (now (list .entry)) q (now (pairs0 .entry)) (now (pairs1 .entry))) (now (list .entry))) × (now (pairs0 .exit) ≡ pairsOff (damagedLine (now (list .entry)) q (now (pairs0 .entry)) (now (pairs1 .entry))) 0) × (now (pairs1 .exit) ≡ pairsOff (damagedLine (now (list .entry)) q (now (pairs0 .entry)) (now (pairs1 .entry))) 1) ⌝ }
 {
-    if encoder != 0 {
-        copy(second, pairs);
+    let mut frames = file::blank_frames();
+    send(q, list, pairs0, pairs1, &mut frames);
+    file::pass(list, &mut frames);
+    calls::value_or(superframe::take_apart(&frames, list, pairs0, pairs1), 0)
+}
+
+// The same with the pairs of an encoder and those of the other one.
+fn transmit_own(encoder: u32, q: usize, list: &[u8], own: &mut [u8], other: &mut [u8]) -> u32
+    requires { ⌜ (encoder < 2) × (q < 2) × (length (now list) ≡ 12288) × Legal overheadRule (now list) × (length (now own) ≡ 86016) × (length (now other) ≡ 86016) × (now own ≡ sentIn encoder q) × (now other ≡ sentIn (1 - encoder) q) ⌝ }
+    ensures { λ r. ⌜ (r ≡ differingAll (lineIn (now (list .entry)) q) (now (list .entry))) × (now (own .exit) ≡ pairsOff (lineIn (now (list .entry)) q) encoder) ⌝ }
+{
+    if encoder == 0 {
+        return transmit(q, list, own, other);
     }
+    transmit(q, list, other, own)
 }
 
-// Takes the pairs of an encoder off legal frames: the number of overhead cells that differ.
-fn take(encoder: u32, list: &[u8], frames: &[u8], pairs: &mut [u8]) -> u32
-    requires { ⌜ (encoder < 2) × (length (now list) ≡ 12288) × Legal overheadRule (now list) × (length (now frames) ≡ 356352) × Legal (lineRule qam16) (now frames) × (length (now pairs) ≡ 86016) ⌝ }
-    ensures { λ r. ⌜ (r ≡ differingAll (now (frames .entry)) (now (list .entry))) × (now (pairs .exit) ≡ pairsOff (now (frames .entry)) encoder) ⌝ }
-{
-    let mut other = blank();
-    let differing = calls::value_or(superframe::take_apart(frames, list, pairs, &mut other), 0);
-    choose(encoder, &other, pairs);
-    differing
-}
-
-// Sends the pairs of super-frame q over the line and takes those of an encoder off it: the number of overhead cells that differ.
+// The pairs of an encoder that come off the line in super-frame q, and the number of overhead cells that differ.
 fn carry_next(encoder: u32, q: usize, list: &[u8], pairs: &mut [u8]) -> u32
     requires { ⌜ (encoder < 2) × (q < 2) × (length (now list) ≡ 12288) × Legal overheadRule (now list) × (length (now pairs) ≡ 86016) ⌝ }
     ensures { λ r. ⌜ (r ≡ differingAll (lineIn (now (list .entry)) q) (now (list .entry))) × (now (pairs .exit) ≡ pairsOff (lineIn (now (list .entry)) q) encoder) ⌝ }
 {
-    let mut frames = file::blank_frames();
-    send(q, list, pairs, &mut frames);
-    file::pass(list, &mut frames);
-    take(encoder, list, &frames, pairs)
+    let mut other = blank();
+    encode_one(encoder, q, pairs);
+    encode_one(1 - encoder, q, &mut other);
+    transmit_own(encoder, q, list, pairs, &mut other)
 }
 
 // Carries two super-frames.

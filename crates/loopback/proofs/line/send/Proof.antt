@@ -9,13 +9,7 @@ pub send-spec : {M : Type 1} → statement M
 send-spec =
     tie.close
     (tie.spec
-    (λ c κs. search needs)  -- blank-requires
-    (λ c κs. search needs)  -- encode-one-requires
-    (λ c. search needs)  -- slice-aggregate-encode-one
-    (λ c κs. search needs)  -- encode-one-requires-2
-    (λ c. search needs)  -- slice-aggregate-make
     (λ c κs. search needs)  -- make-requires
     (λ c κs. search needs)  -- damage-requires
     (λ c. search needs)  -- same-length
-    (λ c. search needs)  -- same-length-2
     (λ c. search (needs, line-made)))  -- returns
