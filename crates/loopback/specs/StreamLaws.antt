@@ -9,8 +9,8 @@ use lib.Dec.{lit<}
 use lib.ListN.{length, getD, replicate}
 use Rattle.bits.specs.Bits.{pack}
 use Rattle.bits.specs.Lists.{tabulate}
-use Rattle.bits.specs.Parts.{part, partOf, byteOfEach, endToEnd}
-use Rattle.bits.specs.PartLaws.{endToEnd-length, part-endToEnd, each-block}
+use Rattle.bits.specs.Parts.{part, partOf, byteOfEach}
+use Rattle.bits.specs.PartLaws.{endToEnd-length, each-block}
 use Rattle.word_spec.specs.Completion.{firstBits}
 use Rattle.pair_spec.specs.History.{depth, fresh}
 use Rattle.pair_spec.specs.Encoding.{openWord}
@@ -44,14 +44,14 @@ unfolding sentIn givenOver
 sent-block e q h ys is es =
     each-block (sentIn e) 86016 q ys (lit< tt) (ap length es ∙ endToEnd-length 168 512 _) (es ∙ ap (λ x. codedOf 168 x (168 * q) (payloadIn e q)) is)
 
--- A super-frame out of two.
-pub sent-part : (e q a b : ℕ) (both ys : List ℕ) → q < 2 → a ≡ q * 86016 → b ≡ a + 86016 → both ≡ endToEnd 2 86016 (sentIn e)
-    → ys ≡ part a (b - a) both
+-- A super-frame after those before it.
+pub sent-one : (e q i : ℕ) (h ys : List ℕ) → h ≡ historyBefore pairEncoder 168 (payloadIn e) i → i ≤ q → q ≤ i
+    → ys ≡ codedOf 168 h (168 * q) (payloadIn e q)
     → ys ≡ sentIn e q
-unfolding sentIn givenOver
-sent-part e q a b both ys l ea eb is es =
-    let size : b - a ≡ 86016 = omega arith in
-    es ∙ ap₂ (λ x n. part x n both) ea size ∙ ap (λ s. partOf 86016 s q) is ∙ part-endToEnd 2 86016 (sentIn e) q (lit< tt) l (endToEnd-length 168 512 _)
+unfolding sentIn
+sent-one e q i h ys is l m es =
+    let same : i ≡ q = omega arith in
+    es ∙ ap (λ x. codedOf 168 x (168 * q) (payloadIn e q)) (is ∙ ap (historyBefore pairEncoder 168 (payloadIn e)) same)
 
 -- From payload that is known by another name.
 module _ (e q : ℕ) (h s ys : List ℕ) (es : s ≡ payloadIn e q) where

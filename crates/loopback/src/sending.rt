@@ -3,7 +3,6 @@ use crate::counts::add;
 use crate::counts::print_encoder;
 use crate::random;
 use crate::refusing::refuse_encodings;
-use pair_words_core::history::copy;
 ghost use mathlib.Core.Path.{_≡_};
 ghost use Prim.Native.Nat.{_*_, _<_};
 ghost use lib.ListN.{length, replicate};
@@ -76,16 +75,16 @@ pub fn encode_again(encoder: u32, coded: &mut [u8])
     encode_both(encoder, coded, &mut counts);
 }
 
-// those of super-frame q alone;
-pub fn encode_one(encoder: u32, q: usize, coded: &mut [u8])
+// those of super-frame q alone, after those before it;
+pub fn encode_one(encoder: u32, q: u32, coded: &mut [u8])
     requires { ⌜ (encoder < 2) × (q < 2) × (length (now coded) ≡ 86016) ⌝ }
     ensures { λ _. ⌜ now (coded .exit) ≡ sentIn encoder q ⌝ }
 {
-    let a = q * 86016;
-    let e = a + 86016;
-    let mut both = blank_coded();
-    encode_again(encoder, &mut both);
-    copy(&both[a..e], coded);
+    let mut history = [0u8; 5120];
+    for i in 0..q {
+        encode_next(encoder, i, &mut history, coded);
+    }
+    encode_next(encoder, q, &mut history, coded);
 }
 
 // and those of both, with a print of what was done.
