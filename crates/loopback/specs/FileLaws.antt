@@ -55,13 +55,14 @@ module _ (d list line : List ℕ) (is : d ≡ lineFile list line) (ll : length l
   unfolding lineFile
   file-rest = ap (drop 16) is ∙ drop-at (headerBytes (numbersFor 1)) (list ++ line) 16 (headerBytes-length (numbersFor 1))
 
-  pub file-list : part 16 12288 d ≡ list
-  file-list = ap (take 12288) file-rest ∙ take-at list line 12288 ll
-
-  pub file-line : length d ≡ 368656 → part 12304 356352 d ≡ line
+  file-line : length d ≡ 368656 → part 12304 356352 d ≡ line
   file-line l =
       ap (take 356352) (sym (drop-drop 12288 16 d) ∙ ap (drop 12288) file-rest ∙ drop-at list line 12288 ll)
       ∙ take-all 356352 line (omega (arith, length-drop 16 d, ap length file-rest ∙ length-append list line))
+
+  -- Frames that are read from it are what was written.
+  pub frames-kept : length d ≡ 368656 → (after : List ℕ) → after ≡ part 12304 356352 d → after ≡ line
+  frames-kept l after e = e ∙ file-line l
 
 -- ---- a sub-frame: m is the number that the companion gave, and got the part that was handed back
 

@@ -8,10 +8,10 @@ pub mod RefusedLaws
 pub mod Noise
 pub mod NoiseLaws
 pub mod PlaceLaws
+pub mod Sent
 pub mod Line
 pub mod File
 pub mod FileLaws
 pub mod LineLaws
-pub mod Sent
 pub mod Received
 pub mod StreamLaws

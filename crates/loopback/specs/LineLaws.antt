@@ -2,6 +2,7 @@
 -- Assumes nothing.
 use mathlib.Core.Path.{_≡_, refl, sym, ap, ap₂, _∙_}
 use mathlib.Core.List.{List}
+use mathlib.Core.Logic.{_≢_}
 use Prim.Native.Nat.{ℕ, _+_, _-_, _*_, _/_, _%_, _<_, _≤_}
 use native.Mathlib.Omega.{arith}
 use lib.Dec.{lit<}
@@ -10,7 +11,6 @@ use Rattle.bits.specs.Lists.{tabulate}
 use Rattle.bits.specs.Parts.{part, byteOfEach, endToEnd}
 use Rattle.bits.specs.PartLaws.{part-length, endToEnd-length, endToEnd-at, each-block}
 use Rattle.calls.specs.declared.Answer.{Answer}
-use Rattle.calls.specs.declared.Answer.the-variants.{Done}
 use Rattle.calls.specs.Answers.{valueOr}
 use Rattle.interleaver_spec.specs.Calls.{Apart, parted}
 use Rattle.cells_spec.specs.Profile.{Profile, cellsPerBuffer}
@@ -22,13 +22,14 @@ use Rattle.frame_spec.specs.Frames.{payloadCells, payloadStart, ownOverhead, fr
 use Rattle.frame_spec.specs.FrameLaws.{framed-length, framed-legal, own-length, own-legal}
 use Rattle.superframe_spec.specs.Superframe.{payload, subFrame, framesEndToEnd, superframe}
 use Rattle.superframe_spec.specs.SuperframeLaws.{part-legal, payload-legal, payload-within}
-use Rattle.superframe_spec.specs.Apart.{takenCells, takenPairs, differingAll, lineRule, takeApart}
+use Rattle.superframe_spec.specs.Apart.{takenPairs, differingAll, lineRule, takenApart, takeApart}
 use Rattle.superframe_spec.specs.ApartLaws.{apart-done}
 use Rattle.loopback.specs.Noise.{damaged}
 use Rattle.loopback.specs.NoiseLaws.{damaged-legal}
-use Rattle.loopback.specs.FileLaws.{file-list, file-line}
+use Rattle.loopback.specs.Sent.{sentIn}
+use Rattle.loopback.specs.Steps.{eachStep}
 use Rattle.loopback.specs.Tally.{tallySum}
-use Rattle.loopback.specs.Line.{lineFile, takenOff, damagedLine, pairsOff, lineIn, allOff, lineCounted}
+use Rattle.loopback.specs.Line.{damagedLine, pairsOff, lineIn, allOff, lineCounted}
 
 -- ---- legal
 
@@ -72,9 +73,9 @@ pub line-made : (list : List ℕ) (q : ℕ) (coded0 coded1 a b : List ℕ) → a
 unfolding damagedLine
 line-made list q coded0 coded1 a b e f = f ∙ ap (damaged q) e
 
--- What comes off a line file that has the damaged frames of coded pairs.
-module _ (q : ℕ) (coded0 coded1 list file got0 got1 x y : List ℕ) (r : Answer) (is : file ≡ lineFile list (damagedLine list q coded0 coded1)) (lf : length file ≡ 368656)
-    (ll : length list ≡ 12288) (hl : Legal overheadRule list) (t : parted r x y ≡ takenOff file got0 got1) where
+-- What comes off the damaged frames of coded pairs, which a file leaves as they were.
+module _ (q : ℕ) (coded0 coded1 list made frames got0 got1 x y : List ℕ) (r : Answer) (is : made ≡ damagedLine list q coded0 coded1) (kept : frames ≡ made)
+    (ll : length list ≡ 12288) (hl : Legal overheadRule list) (t : parted r x y ≡ takeApart qam16 frames list got0 got1) where
   abbrev line : List ℕ
   line = damagedLine list q coded0 coded1
 
@@ -82,55 +83,69 @@ module _ (q : ℕ) (coded0 coded1 list file got0 got1 x y : List ℕ) (r : Answe
   unfolding damagedLine
   legal = damaged-legal q (superframe qam16 coded0 coded1 list) (superframe-legal qam16 coded0 coded1 list ll hl)
 
-  taken : parted r x y ≡ parted (Done (differingAll line list)) (takenPairs qam16 (takenCells line) 0) (takenPairs qam16 (takenCells line) 1)
-  unfolding takenOff
-  taken =
-      t ∙ ap₂ (λ a b. takeApart qam16 a b got0 got1) (file-line file list line is ll lf) (file-list file list line is ll)
-      ∙ sym
-      (apart-done qam16 line list got0 got1 _ refl (none-illegal overheadRule list hl) _ refl (none-illegal (lineRule qam16) line legal) _ refl)
+  carried : parted r x y ≡ takenApart qam16 line list
+  carried =
+      t ∙ ap (λ l. takeApart qam16 l list got0 got1) (kept ∙ is)
+      ∙ sym (apart-done qam16 line list got0 got1 _ refl (none-illegal overheadRule list hl) _ refl (none-illegal (lineRule qam16) line legal) _ refl)
 
   -- The differing cells and both encoders' pairs.
   pub line-carried : (v : ℕ) → v ≡ valueOr r 0
       → (v ≡ differingAll (damagedLine list q coded0 coded1) list) × (x ≡ pairsOff (damagedLine list q coded0 coded1) 0) × (y ≡ pairsOff (damagedLine list q coded0 coded1) 1)
   unfolding pairsOff
-  line-carried v e = (e ∙ ap (λ (a : Apart). valueOr (a .answer) 0) taken, ap (λ (a : Apart). a .written .pairs0) taken, ap (λ (a : Apart). a .written .pairs1) taken)
+  line-carried v e = (e ∙ ap (λ (a : Apart). valueOr (a .answer) 0) carried, ap (λ (a : Apart). a .written .pairs0) carried, ap (λ (a : Apart). a .written .pairs1) carried)
+
+-- The same of what encoder e and the other one send, in the order of the encoders.
+module _ (list : List ℕ) (q e : ℕ) (own other : List ℕ) (eo : own ≡ sentIn e q) (et : other ≡ sentIn (1 - e) q) where
+  module _ (h : e ≡ 0) where
+    first-line : damagedLine list q own other ≡ lineIn list q
+    unfolding lineIn
+    first-line = let one : 1 - e ≡ 1 = omega arith in ap₂ (damagedLine list q) (eo ∙ ap (λ n. sentIn n q) h) (et ∙ ap (λ n. sentIn n q) one)
+
+    pub first-counted : (v : ℕ) → v ≡ differingAll (damagedLine list q own other) list → v ≡ differingAll (lineIn list q) list
+    first-counted v ev = ev ∙ ap (λ l. differingAll l list) first-line
+
+    pub first-off : (ys : List ℕ) → ys ≡ pairsOff (damagedLine list q own other) 0 → ys ≡ pairsOff (lineIn list q) e
+    first-off ys es = es ∙ ap₂ pairsOff first-line (sym h)
+
+  module _ (l : e < 2) (h : e ≢ 0) where
+    second-line : damagedLine list q other own ≡ lineIn list q
+    unfolding lineIn
+    second-line =
+        let one : e ≡ 1 = omega arith in
+        let zero : 1 - e ≡ 0 = omega arith in
+        ap₂ (damagedLine list q) (et ∙ ap (λ n. sentIn n q) zero) (eo ∙ ap (λ n. sentIn n q) one)
+
+    pub second-counted : (v : ℕ) → v ≡ differingAll (damagedLine list q other own) list → v ≡ differingAll (lineIn list q) list
+    second-counted v ev = ev ∙ ap (λ l. differingAll l list) second-line
+
+    pub second-off : (ys : List ℕ) → ys ≡ pairsOff (damagedLine list q other own) 1 → ys ≡ pairsOff (lineIn list q) e
+    second-off ys es = let one : 1 ≡ e = omega arith in es ∙ ap₂ pairsOff second-line one
 
 -- ---- super-frames end to end
 
-module _ (list sent0 sent1 : List ℕ) (q a e : ℕ) (ea : a ≡ q * 86016) (ee : e ≡ a + 86016) where
-  own-line : damagedLine list q (part a (e - a) sent0) (part a (e - a) sent1) ≡ lineIn list sent0 sent1 q
-  unfolding lineIn
-  own-line = let size : e - a ≡ 86016 = omega arith in ap₂ (λ x y. damagedLine list q (part x y sent0) (part x y sent1)) ea size
+pub off-block : (list : List ℕ) (q e : ℕ) (ys : List ℕ) → ys ≡ pairsOff (lineIn list q) e
+    → ys ≡ tabulate 86016 (λ i. byteOfEach 86016 (λ s. pairsOff (lineIn list s) e) (q * 86016 + i))
+unfolding pairsOff takenPairs qam16
+off-block list q e ys is = each-block (λ s. pairsOff (lineIn list s) e) 86016 q ys (lit< tt) (ap length is ∙ endToEnd-length 8 10752 _) is
 
-  pub off-block : (c : ℕ) (ys : List ℕ) → ys ≡ pairsOff (damagedLine list q (part a (e - a) sent0) (part a (e - a) sent1)) c
-      → ys ≡ tabulate 86016 (λ i. byteOfEach 86016 (λ s. pairsOff (lineIn list sent0 sent1 s) c) (q * 86016 + i))
-  unfolding pairsOff takenPairs qam16
-  off-block c ys is =
-      each-block (λ s. pairsOff (lineIn list sent0 sent1 s) c) 86016 q ys (lit< tt) (ap length is ∙ endToEnd-length 8 10752 _) (is ∙ ap (λ l. pairsOff l c) own-line)
+pub line-counted : (list : List ℕ) (q n : ℕ) (d d′ : List ℕ) → n ≡ differingAll (lineIn list q) list → d′ ≡ tallySum 7 n d
+    → d′ ≡ lineCounted list q d
+unfolding lineCounted
+line-counted list q n d d′ en is = is ∙ ap (λ m. tallySum 7 m d) en
 
-  pub line-counted : (n : ℕ) (d d′ : List ℕ) → n ≡ differingAll (damagedLine list q (part a (e - a) sent0) (part a (e - a) sent1)) list
-      → d′ ≡ tallySum 7 n d
-      → d′ ≡ lineCounted list sent0 sent1 q d
-  unfolding lineCounted
-  line-counted n d d′ en is = is ∙ ap (λ m. tallySum 7 m d) (en ∙ ap (λ l. differingAll l list) own-line)
-
-pub off-whole : (list sent0 sent1 : List ℕ) (e : ℕ) (d : List ℕ)
-    → d ≡ tabulate 172032 (byteOfEach 86016 (λ q. pairsOff (lineIn list sent0 sent1 q) e))
-    → d ≡ allOff list sent0 sent1 e
+pub off-whole : (list : List ℕ) (e : ℕ) (d : List ℕ) → d ≡ tabulate 172032 (byteOfEach 86016 (λ q. pairsOff (lineIn list q) e))
+    → d ≡ allOff list e
 unfolding allOff endToEnd
-off-whole list sent0 sent1 e d is = is
+off-whole list e d is = is
 
 pub whole : (m w : ℕ) (f : ℕ → List ℕ) (d : List ℕ) → d ≡ tabulate (m * w) (byteOfEach w f) → d ≡ endToEnd m w f
 unfolding endToEnd
 whole m w f d e = e
 
--- What is taken off a file is taken off the frames and the list in it.
-pub taken-of : (a : Apart) (file framesEndToEnd list pairs0 pairs1 : List ℕ) → a ≡ takeApart qam16 framesEndToEnd list pairs0 pairs1
-    → framesEndToEnd ≡ part 12304 356352 file
-    → list ≡ part 16 12288 file → a ≡ takenOff file pairs0 pairs1
-unfolding takenOff
-taken-of a file framesEndToEnd list pairs0 pairs1 is ef el = is ∙ ap₂ (λ x y. takeApart qam16 x y pairs0 pairs1) ef el
+-- With a list that is known by another name.
+module _ (list known : List ℕ) (el : list ≡ known) where
+  pub off-list : (e : ℕ) (d : List ℕ) → d ≡ allOff list e → d ≡ allOff known e
+  off-list e d is = is ∙ ap (λ l. allOff l e) el
 
-pub off-list : (list known sent0 sent1 : List ℕ) (e : ℕ) (d : List ℕ) → list ≡ known → d ≡ allOff list sent0 sent1 e
-    → d ≡ allOff known sent0 sent1 e
-off-list list known sent0 sent1 e d el is = is ∙ ap (λ l. allOff l sent0 sent1 e) el
+  pub counted-list : (d d₁ d₂ : List ℕ) → d₁ ≡ d → d₂ ≡ eachStep 2 (lineCounted list) d₁ → d₂ ≡ eachStep 2 (lineCounted known) d
+  counted-list d d₁ d₂ e₁ is = is ∙ ap₂ (λ l x. eachStep 2 (lineCounted l) x) el e₁

@@ -44,6 +44,15 @@ unfolding sentIn givenOver
 sent-block e q h ys is es =
     each-block (sentIn e) 86016 q ys (lit< tt) (ap length es ∙ endToEnd-length 168 512 _) (es ∙ ap (λ x. codedOf 168 x (168 * q) (payloadIn e q)) is)
 
+-- A super-frame after those before it.
+pub sent-one : (e q i : ℕ) (h ys : List ℕ) → h ≡ historyBefore pairEncoder 168 (payloadIn e) i → i ≤ q → q ≤ i
+    → ys ≡ codedOf 168 h (168 * q) (payloadIn e q)
+    → ys ≡ sentIn e q
+unfolding sentIn
+sent-one e q i h ys is l m es =
+    let same : i ≡ q = omega arith in
+    es ∙ ap (λ x. codedOf 168 x (168 * q) (payloadIn e q)) (is ∙ ap (historyBefore pairEncoder 168 (payloadIn e)) same)
+
 -- From payload that is known by another name.
 module _ (e q : ℕ) (h s ys : List ℕ) (es : s ≡ payloadIn e q) where
   pub coded-of : ys ≡ codedOf 168 h (168 * q) s → ys ≡ codedOf 168 h (168 * q) (payloadIn e q)

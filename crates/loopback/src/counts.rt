@@ -23,21 +23,39 @@ pub fn answered(counts: &mut [u32], a: Answer)
     add(counts, 1 + calls::refusal_of(a) as usize % 6, 1);
 }
 
-fn number(n: u32) {
-    io::print_decimal(STDOUT_FILENO, n as u64);
+// Prints a byte, or a count for a number sign, and answers whether it could.
+fn put(byte: u8, count: u32) -> bool {
+    if byte == b'#' {
+        return io::print_decimal(STDOUT_FILENO, count as u64);
+    }
+    let one = [byte; 1];
+    io::write_all(STDOUT_FILENO, &one)
 }
 
-// Prints a text with the counts, from a place on, for its number signs.
+// The place of the next count, behind a byte.
+fn next(at: usize, byte: u8) -> usize
+    requires { ⌜ at < 41 ⌝ }
+    ensures { λ r. ⌜ r < 41 ⌝ }
+{
+    if byte == b'#' {
+        return (at + 1) % 41;
+    }
+    at
+}
+
+// Prints a text with the counts, from a place on, for its number signs; or says why it cannot.
 fn print(text: &[u8], counts: &[u32; 41], from: usize) {
     let mut at = from % 41;
+    let mut whole = true;
     for i in 0..text.len() {
-        if text[i] == b'#' {
-            number(counts[at]);
-            at = (at + 1) % 41;
-        } else {
-            let e = i + 1;
-            io::write_all(STDOUT_FILENO, &text[i..e]);
+        let byte = text[i];
+        if !put(byte, counts[at]) {
+            whole = false;
         }
+        at = next(at, byte);
+    }
+    if !whole {
+        os::fail(b"standard output");
     }
 }
 

@@ -1,6 +1,5 @@
-// The line file of one super-frame, 368,656 bytes: header at byte 0, overhead list at 16, frames at 12,304. How it is begun, and what its
-// receiver reads of it.
-use calls::Answer;
+// The line file of one super-frame, 368,656 bytes: header at byte 0, overhead list at 16, frames at 12,304. Frames are written to it and
+// read from it.
 use pair_words_core::history::copy;
 ghost use mathlib.Core.Path.{_≡_};
 ghost use lib.ListN.{length, take, drop, replicate};
@@ -8,14 +7,13 @@ ghost use Rattle.bits.specs.Parts.{part};
 ghost use Rattle.line_file_spec.specs.Opening.{openCall};
 ghost use Rattle.line_file_spec.specs.Reading.{readRefusalIn, readPartIn};
 ghost use Rattle.line_file_spec.specs.Writing.{numbersFor, headerBytes};
-ghost use Rattle.interleaver_spec.specs.Calls.{parted};
 ghost use Rattle.loopback.specs.File.{takenWhen};
-ghost use Rattle.loopback.specs.Line.{lineFile, takenOff};
+ghost use Rattle.loopback.specs.Line.{lineFile};
 
 // The whole file.
 type File = [u8; 368656];
 
-pub fn blank() -> File
+fn blank() -> File
     ensures { λ r. ⌜ r ≡ replicate 368656 0 ⌝ }
 {
     [0u8; 368656]
@@ -24,19 +22,28 @@ pub fn blank() -> File
 // Its frames.
 type Frames = [u8; 356352];
 
-fn blank_frames() -> Frames
+pub fn blank_frames() -> Frames
     ensures { λ r. ⌜ r ≡ replicate 356352 0 ⌝ }
 {
     [0u8; 356352]
 }
 
 // Writes header and overhead list.
-pub fn begin(list: &[u8], file: &mut [u8])
+fn begin(list: &[u8], file: &mut [u8])
     requires { ⌜ (length (now list) ≡ 12288) × (length (now file) ≡ 368656) ⌝ }
     ensures { λ _. ⌜ now (file .exit) ≡ lineFile (now (list .entry)) (drop 12304 (now (file .entry))) ⌝ }
 {
     copy(list, &mut file[16..12304]);
     line_file::write_header(1, &mut file[0..16]);
+}
+
+// Writes the whole file.
+fn write(list: &[u8], frames: &[u8], file: &mut [u8])
+    requires { ⌜ (length (now list) ≡ 12288) × (length (now frames) ≡ 356352) × (length (now file) ≡ 368656) ⌝ }
+    ensures { λ _. ⌜ now (file .exit) ≡ lineFile (now (list .entry)) (now (frames .entry)) ⌝ }
+{
+    copy(frames, &mut file[12304..368656]);
+    begin(list, file);
 }
 
 // Reads sub-frame s of super-frame 0, if it is not refused.
@@ -61,20 +68,12 @@ fn read_frames(file: &[u8], frames: &mut [u8])
     }
 }
 
-// The overhead list.
-fn list_of(file: &[u8]) -> &[u8]
-    requires { ⌜ length (now file) ≡ 368656 ⌝ }
-    ensures { λ r. ⌜ (now r ≡ part 16 12288 (now (file .entry))) × (length (now r) ≡ 12288) ⌝ }
+// Writes frames to a file and reads them from it: they are what they were.
+pub fn pass(list: &[u8], frames: &mut [u8])
+    requires { ⌜ (length (now list) ≡ 12288) × (length (now frames) ≡ 356352) ⌝ }
+    ensures { λ _. ⌜ now (frames .exit) ≡ now (frames .entry) ⌝ }
 {
-    &file[16..12304]
-}
-
-// Takes the pairs of both encoders off the frames.
-pub fn take(file: &[u8], pairs0: &mut [u8], pairs1: &mut [u8]) -> Answer
-    requires { ⌜ (take 16 (now file) ≡ headerBytes (numbersFor 1)) × (length (now file) ≡ 368656) × (length (now pairs0) ≡ 86016) × (length (now pairs1) ≡ 86016) ⌝ }
-    ensures { λ r. ⌜ parted r (now (pairs0 .exit)) (now (pairs1 .exit)) ≡ takenOff (now (file .entry)) (now (pairs0 .entry)) (now (pairs1 .entry)) ⌝ }
-{
-    let mut frames = blank_frames();
-    read_frames(file, &mut frames);
-    superframe::take_apart(&frames, list_of(file), pairs0, pairs1)
+    let mut file = blank();
+    write(list, frames, &mut file);
+    read_frames(&file, frames);
 }

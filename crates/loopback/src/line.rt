@@ -1,18 +1,22 @@
 // The line: coded pairs to the frames of a line file, which are damaged, and back.
 use crate::counts::add;
-use crate::counts::print_line;
 use crate::file;
 use crate::noise::damage;
 use crate::random;
 use crate::refusing::refuse_framing;
+use crate::sending::encode_one;
 ghost use mathlib.Core.Path.{_≡_};
-ghost use Prim.Native.Nat.{_<_};
-ghost use lib.ListN.{length};
+ghost use Prim.Native.Nat.{_-_, _<_};
+ghost use lib.ListN.{length, replicate};
+ghost use Rattle.calls.specs.declared.Answer.the-variants.{Refused};
+ghost use Rattle.calls.specs.declared.Refusal.the-variants.{NoSuchFrame, OffGrid};
 ghost use Rattle.cells_spec.specs.Cells.{overheadRule, Legal};
 ghost use Rattle.superframe_spec.specs.Apart.{differingAll};
-ghost use Rattle.loopback.specs.Line.{lineFile, damagedLine, pairsOff, allOff, lineCounted};
+ghost use Rattle.loopback.specs.Line.{damagedLine, pairsOff, lineIn, allOff, lineCounted};
 ghost use Rattle.loopback.specs.Random.{drawnList};
+ghost use Rattle.loopback.specs.Sent.{sentIn};
 ghost use Rattle.loopback.specs.Steps.{eachStep};
+ghost use Rattle.loopback.specs.Tally.{answered};
 
 // An overhead list that is drawn.
 fn overhead() -> [u8; 12288]
@@ -23,76 +27,88 @@ fn overhead() -> [u8; 12288]
     list
 }
 
+// The coded pairs of an encoder in a super-frame.
+type Pairs = [u8; 86016];
+
+fn blank() -> Pairs
+    ensures { λ r. ⌜ r ≡ replicate 86016 0 ⌝ }
+{
+    [0u8; 86016]
+}
+
 // The frames of super-frame q, damaged.
-fn frames(q: usize, coded0: &[u8], coded1: &[u8], list: &[u8], line: &mut [u8])
-    requires { ⌜ (q < 2) × (length (now coded0) ≡ 86016) × (length (now coded1) ≡ 86016) × (length (now list) ≡ 12288) × Legal overheadRule (now list) × (length (now line) ≡ 356352) ⌝ }
-    ensures { λ _. ⌜ now (line .exit) ≡ damagedLine (now (list .entry)) q (now (coded0 .entry)) (now (coded1 .entry)) ⌝ }
+fn send(q: usize, list: &[u8], coded0: &[u8], coded1: &[u8], frames: &mut [u8])
+    requires { ⌜ (q < 2) × (length (now list) ≡ 12288) × Legal overheadRule (now list) × (length (now coded0) ≡ 86016) × (length (now coded1) ≡ 86016) × (length (now frames) ≡ 356352) ⌝ }
+    ensures { λ _. ⌜ now (frames .exit) ≡ damagedLine (now (list .entry)) q (now (coded0 .entry)) (now (coded1 .entry)) ⌝ }
 {
-    superframe::make(coded0, coded1, list, line);
-    damage(q, line);
+    superframe::make(coded0, coded1, list, frames);
+    damage(q, frames);
 }
 
-// The line file of super-frame q.
-fn send(q: usize, coded0: &[u8], coded1: &[u8], list: &[u8], file: &mut [u8])
-    requires { ⌜ (q < 2) × (length (now coded0) ≡ 86016) × (length (now coded1) ≡ 86016) × (length (now list) ≡ 12288) × Legal overheadRule (now list) × (length (now file) ≡ 368656) ⌝ }
-    ensures { λ _. ⌜ now (file .exit) ≡ lineFile (now (list .entry)) (damagedLine (now (list .entry)) q (now (coded0 .entry)) (now (coded1 .entry))) ⌝ }
+// Sends the pairs of super-frame q over the line and puts in their place what is taken off it: the number of overhead cells that differ.
+// Here `own` are the pairs of encoder 0,
+fn transmit_first(q: usize, list: &[u8], own: &mut [u8], other: &mut [u8]) -> u32
+    requires { ⌜ (q < 2) × (length (now list) ≡ 12288) × Legal overheadRule (now list) × (length (now own) ≡ 86016) × (length (now other) ≡ 86016) ⌝ }
+    ensures { λ r. ⌜ (r ≡ differingAll (damagedLine (now (list .entry)) q (now (own .entry)) (now (other .entry))) (now (list .entry))) × (now (own .exit) ≡ pairsOff (damagedLine (now (list .entry)) q (now (own .entry)) (now (other .entry))) 0) ⌝ }
 {
-    frames(q, coded0, coded1, list, &mut file[12304..368656]);
-    file::begin(list, file);
+    let mut frames = file::blank_frames();
+    send(q, list, own, other, &mut frames);
+    file::pass(list, &mut frames);
+    calls::value_or(superframe::take_apart(&frames, list, own, other), 0)
 }
 
-// Sends the pairs of super-frame q over the line and takes them off it: the number of overhead cells that differ.
-fn carry_next(
-    q: usize,
-    coded0: &[u8],
-    coded1: &[u8],
-    list: &[u8],
-    got0: &mut [u8],
-    got1: &mut [u8],
-) -> u32
-    requires { ⌜ (q < 2) × (length (now coded0) ≡ 86016) × (length (now coded1) ≡ 86016) × (length (now list) ≡ 12288) × Legal overheadRule (now list) × (length (now got0) ≡ 86016) × (length (now got1) ≡ 86016) ⌝ }
-    ensures { λ r. ⌜ (r ≡ differingAll (damagedLine (now (list .entry)) q (now (coded0 .entry)) (now (coded1 .entry))) (now (list .entry))) × (now (got0 .exit) ≡ pairsOff (damagedLine (now (list .entry)) q (now (coded0 .entry)) (now (coded1 .entry))) 0) × (now (got1 .exit) ≡ pairsOff (damagedLine (now (list .entry)) q (now (coded0 .entry)) (now (coded1 .entry))) 1) ⌝ }
+// here they are those of encoder 1,
+fn transmit_second(q: usize, list: &[u8], own: &mut [u8], other: &mut [u8]) -> u32
+    requires { ⌜ (q < 2) × (length (now list) ≡ 12288) × Legal overheadRule (now list) × (length (now own) ≡ 86016) × (length (now other) ≡ 86016) ⌝ }
+    ensures { λ r. ⌜ (r ≡ differingAll (damagedLine (now (list .entry)) q (now (other .entry)) (now (own .entry))) (now (list .entry))) × (now (own .exit) ≡ pairsOff (damagedLine (now (list .entry)) q (now (other .entry)) (now (own .entry))) 1) ⌝ }
 {
-    let mut file = file::blank();
-    send(q, coded0, coded1, list, &mut file);
-    calls::value_or(file::take(&file, got0, got1), 0)
+    let mut frames = file::blank_frames();
+    send(q, list, other, own, &mut frames);
+    file::pass(list, &mut frames);
+    calls::value_or(superframe::take_apart(&frames, list, other, own), 0)
+}
+
+// and here those of either.
+fn transmit(encoder: u32, q: usize, list: &[u8], own: &mut [u8], other: &mut [u8]) -> u32
+    requires { ⌜ (encoder < 2) × (q < 2) × (length (now list) ≡ 12288) × Legal overheadRule (now list) × (length (now own) ≡ 86016) × (length (now other) ≡ 86016) × (now own ≡ sentIn encoder q) × (now other ≡ sentIn (1 - encoder) q) ⌝ }
+    ensures { λ r. ⌜ (r ≡ differingAll (lineIn (now (list .entry)) q) (now (list .entry))) × (now (own .exit) ≡ pairsOff (lineIn (now (list .entry)) q) encoder) ⌝ }
+{
+    if encoder == 0 {
+        return transmit_first(q, list, own, other);
+    }
+    transmit_second(q, list, own, other)
+}
+
+// The pairs of an encoder that come off the line in super-frame q, and the number of overhead cells that differ.
+fn carry_next(encoder: u32, q: usize, list: &[u8], pairs: &mut [u8]) -> u32
+    requires { ⌜ (encoder < 2) × (q < 2) × (length (now list) ≡ 12288) × Legal overheadRule (now list) × (length (now pairs) ≡ 86016) ⌝ }
+    ensures { λ r. ⌜ (r ≡ differingAll (lineIn (now (list .entry)) q) (now (list .entry))) × (now (pairs .exit) ≡ pairsOff (lineIn (now (list .entry)) q) encoder) ⌝ }
+{
+    let mut other = blank();
+    encode_one(encoder, q as u32, pairs);
+    encode_one(1 - encoder, q as u32, &mut other);
+    transmit(encoder, q, list, pairs, &mut other)
 }
 
 // Carries two super-frames.
-fn carry_both(
-    sent0: &[u8],
-    sent1: &[u8],
-    list: &[u8],
-    got0: &mut [u8],
-    got1: &mut [u8],
-    counts: &mut [u32],
-)
-    requires { ⌜ (length (now sent0) ≡ 172032) × (length (now sent1) ≡ 172032) × (length (now list) ≡ 12288) × Legal overheadRule (now list) × (length (now got0) ≡ 172032) × (length (now got1) ≡ 172032) × (length (now counts) ≡ 41) ⌝ }
-    ensures { λ _. ⌜ (now (got0 .exit) ≡ allOff (now (list .entry)) (now (sent0 .entry)) (now (sent1 .entry)) 0) × (now (got1 .exit) ≡ allOff (now (list .entry)) (now (sent0 .entry)) (now (sent1 .entry)) 1) × (now (counts .exit) ≡ eachStep 2 (lineCounted (now (list .entry)) (now (sent0 .entry)) (now (sent1 .entry))) (now (counts .entry))) ⌝ }
+fn carry_both(encoder: u32, list: &[u8], got: &mut [u8], counts: &mut [u32])
+    requires { ⌜ (encoder < 2) × (length (now list) ≡ 12288) × Legal overheadRule (now list) × (length (now got) ≡ 172032) × (length (now counts) ≡ 41) ⌝ }
+    ensures { λ _. ⌜ (now (got .exit) ≡ allOff (now (list .entry)) encoder) × (now (counts .exit) ≡ eachStep 2 (lineCounted (now (list .entry))) (now (counts .entry))) ⌝ }
 {
     for q in 0..2 {
         let a = q * 86016;
         let e = a + 86016;
-        let n = carry_next(
-            q,
-            &sent0[a..e],
-            &sent1[a..e],
-            list,
-            &mut got0[a..e],
-            &mut got1[a..e],
-        );
+        let n = carry_next(encoder, q, list, &mut got[a..e]);
         add(counts, 7, n);
     }
 }
 
-// The same with a list that is drawn, after refused calls, and a print of what the line did.
-pub fn carry(sent0: &[u8], sent1: &[u8], got0: &mut [u8], got1: &mut [u8])
-    requires { ⌜ (length (now sent0) ≡ 172032) × (length (now sent1) ≡ 172032) × (length (now got0) ≡ 172032) × (length (now got1) ≡ 172032) ⌝ }
-    ensures { λ _. ⌜ (now (got0 .exit) ≡ allOff drawnList (now (sent0 .entry)) (now (sent1 .entry)) 0) × (now (got1 .exit) ≡ allOff drawnList (now (sent0 .entry)) (now (sent1 .entry)) 1) ⌝ }
+// The same with a list that is drawn, after refused calls.
+pub fn carry(encoder: u32, got: &mut [u8], counts: &mut [u32])
+    requires { ⌜ (encoder < 2) × (length (now got) ≡ 172032) × (length (now counts) ≡ 41) ⌝ }
+    ensures { λ _. ⌜ (now (got .exit) ≡ allOff drawnList encoder) × (now (counts .exit) ≡ eachStep 2 (lineCounted drawnList) (answered (Refused (OffGrid 0)) (answered (Refused NoSuchFrame) (now (counts .entry))))) ⌝ }
 {
     let list = overhead();
-    let mut counts = [0u32; 41];
-    refuse_framing(&mut counts);
-    carry_both(sent0, sent1, &list, got0, got1, &mut counts);
-    print_line(&counts);
+    refuse_framing(counts);
+    carry_both(encoder, &list, got, counts);
 }

@@ -1,6 +1,9 @@
 // Two payload streams from a fixed seed, through the whole chain and back over two super-frames of a damaged line, with refused
 // calls in between; what came of it, in counts.
 // Over `pair_words_core`, `pair`, `pair_stream`, `superframe`, `frame` and `line_file`.
+//
+// Each function that has a large array returns before the next such array is needed, so that the program stays within a megabyte of
+// stack: one receiver after the other, each with a run of the line of its own, and what was sent is encoded again where it is needed.
 mod comparing;
 mod counts;
 mod file;
@@ -12,15 +15,37 @@ mod refusing;
 mod sending;
 
 ghost use mathlib.Core.Path.{_≡_};
-ghost use lib.ListN.{replicate};
+ghost use Prim.Native.Nat.{_<_};
+ghost use lib.ListN.{length};
 
-// The 336 coded pairs of an encoder.
-type Coded = [u8; 172032];
-
-fn blank() -> Coded
-    ensures { λ r. ⌜ r ≡ replicate 172032 0 ⌝ }
+// Runs an encoder.
+fn run_encoder(encoder: u32)
+    requires { ⌜ encoder < 2 ⌝ }
 {
-    [0u8; 172032]
+    let mut coded = sending::blank_coded();
+    sending::encode(encoder, &mut coded);
+}
+
+// Receives what came off the line, beside what was sent.
+fn compare_with_sent(encoder: u32, got: &[u8])
+    requires { ⌜ (encoder < 2) × (length (now got) ≡ 172032) ⌝ }
+{
+    let mut sent = sending::blank_coded();
+    sending::encode_again(encoder, &mut sent);
+    receiving::receive(encoder, &sent, got);
+}
+
+// Runs the line and the receiver of an encoder. The line is the same for both receivers, and what it did is printed once.
+fn run_receiver(encoder: u32)
+    requires { ⌜ encoder < 2 ⌝ }
+{
+    let mut got = sending::blank_coded();
+    let mut counts = [0u32; 41];
+    line::carry(encoder, &mut got, &mut counts);
+    if encoder == 0 {
+        counts::print_line(&counts);
+    }
+    compare_with_sent(encoder, &got);
 }
 
 fn main() {
@@ -30,13 +55,8 @@ fn main() {
             b"loopback takes no argument: it reads nothing and makes its own payload\n",
         );
     }
-    let mut sent0 = blank();
-    let mut sent1 = blank();
-    sending::encode(0, &mut sent0);
-    sending::encode(1, &mut sent1);
-    let mut got0 = blank();
-    let mut got1 = blank();
-    line::carry(&sent0, &sent1, &mut got0, &mut got1);
-    receiving::receive(0, &sent0, &got0);
-    receiving::receive(1, &sent1, &got1);
+    run_encoder(0);
+    run_encoder(1);
+    run_receiver(0);
+    run_receiver(1);
 }

@@ -12,6 +12,15 @@ ghost use Rattle.loopback.specs.Random.{payloadIn};
 ghost use Rattle.loopback.specs.Sent.{sentIn, frameSent};
 ghost use Rattle.loopback.specs.Steps.{eachStep};
 
+// The 336 coded pairs of an encoder.
+type Coded = [u8; 172032];
+
+pub fn blank_coded() -> Coded
+    ensures { λ r. ⌜ r ≡ replicate 172032 0 ⌝ }
+{
+    [0u8; 172032]
+}
+
 // The payload of an encoder in a super-frame.
 type Payload = [u8; 74592];
 
@@ -57,7 +66,28 @@ fn encode_both(encoder: u32, coded: &mut [u8], counts: &mut [u32])
     }
 }
 
-// The same, and a print of what was done.
+// The same without the counts, where the pairs are needed again;
+pub fn encode_again(encoder: u32, coded: &mut [u8])
+    requires { ⌜ (encoder < 2) × (length (now coded) ≡ 172032) ⌝ }
+    ensures { λ _. ⌜ now (coded .exit) ≡ endToEnd 2 86016 (sentIn encoder) ⌝ }
+{
+    let mut counts = [0u32; 41];
+    encode_both(encoder, coded, &mut counts);
+}
+
+// those of super-frame q alone, after those before it;
+pub fn encode_one(encoder: u32, q: u32, coded: &mut [u8])
+    requires { ⌜ (encoder < 2) × (q < 2) × (length (now coded) ≡ 86016) ⌝ }
+    ensures { λ _. ⌜ now (coded .exit) ≡ sentIn encoder q ⌝ }
+{
+    let mut history = [0u8; 5120];
+    for i in 0..q {
+        encode_next(encoder, i, &mut history, coded);
+    }
+    encode_next(encoder, q, &mut history, coded);
+}
+
+// and those of both, with a print of what was done.
 pub fn encode(encoder: u32, coded: &mut [u8])
     requires { ⌜ (encoder < 2) × (length (now coded) ≡ 172032) ⌝ }
     ensures { λ _. ⌜ now (coded .exit) ≡ endToEnd 2 86016 (sentIn encoder) ⌝ }

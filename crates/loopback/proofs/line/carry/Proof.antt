@@ -1,6 +1,6 @@
 -- `loopback::line::carry` meets its contract.
 -- Assumes nothing.
-use Rattle.loopback.specs.LineLaws.{off-list}
+use Rattle.loopback.specs.LineLaws.{off-list, counted-list}
 use borrow.Author.Needs.{needs}
 use Rattle.loopback.proofs.line.carry.Statement.{statement}
 use Rattle.loopback.proofs.line.carry.Tie as tie
@@ -10,12 +10,9 @@ carry-spec =
     tie.close
     (tie.spec
     (λ c κs. search needs)  -- overhead-requires
-    (λ c. search needs)  -- slice-aggregate-refuse-framing
     (λ c κs. search needs)  -- refuse-framing-requires
     (λ c. search needs)  -- slice-aggregate-carry-both
-    (λ c. search needs)  -- slice-aggregate-carry-both-2
     (λ c κs. search needs)  -- carry-both-requires
-    (λ c κs. search needs)  -- print-line-requires
     (λ c. search needs)  -- same-length
     (λ c. search needs)  -- same-length-2
-    (λ c. (search (needs, off-list), search (needs, off-list))))  -- returns
+    (λ c. (search (needs, off-list), search (needs, counted-list))))  -- returns

@@ -18,10 +18,10 @@ ruleset near = (needs, part-long)
 ruleset kit = (needs, by-blocks, off-whole, step-none, step-done)
 
 abbrev Inv-loop : tie.InvT-loop
-Inv-loop sent0 sent1 list got0₀ got1₀ counts₀ q₀ got0 got1 counts q = (length got0 ≡ 172032) × (length got1 ≡ 172032) × (length counts ≡ 41) × Blocks (byteOfEach 86016 (λ s. pairsOff (lineIn list sent0 sent1 s) 0)) 86016 2 q got0 × Blocks (byteOfEach 86016 (λ s. pairsOff (lineIn list sent0 sent1 s) 1)) 86016 2 q got1 × Stepping (lineCounted list sent0 sent1) 2 counts₀ q counts
+Inv-loop encoder list got₀ counts₀ q₀ got counts q = (length got ≡ 172032) × (length counts ≡ 41) × Blocks (byteOfEach 86016 (λ s. pairsOff (lineIn list s) encoder)) 86016 2 q got × Stepping (lineCounted list) 2 counts₀ q counts
 
 abbrev μ-loop : tie.MeasureT-loop
-μ-loop sent0 sent1 list got0₀ got1₀ counts₀ q₀ got0 got1 counts q = 2 - q
+μ-loop encoder list got₀ counts₀ q₀ got counts q = 2 - q
 
 pub carry-both-spec : {M : Type 1} → statement M
 carry-both-spec =
@@ -35,30 +35,18 @@ carry-both-spec =
     (λ c. search near)  -- sub-carry-next
     (λ c. search near)  -- part-carry-next-start
     (λ c. search near)  -- part-carry-next-end
-    (λ c. search near)  -- sub-carry-next-2
-    (λ c. search near)  -- part-carry-next-start-2
-    (λ c. search near)  -- part-carry-next-end-2
-    (λ c. search near)  -- sub-carry-next-3
-    (λ c. search near)  -- part-carry-next-start-3
-    (λ c. search near)  -- part-carry-next-end-3
-    (λ c. search near)  -- sub-carry-next-4
-    (λ c. search near)  -- part-carry-next-start-4
-    (λ c. search near)  -- part-carry-next-end-4
-    (λ c κs. (search needs, search near, search near, search needs, search needs, search near, search near))  -- carry-next-requires
+    (λ c κs. (search needs, search needs, search needs, search needs, search near))  -- carry-next-requires
     (λ c κs. search near)  -- add-requires
     (λ c. search near)  -- add-q
     (λ c. search near)  -- loop-less
     (λ c.
-    let l = c .before .before .before .before .before .before .before .before .before .before .before .before .before .before .loop in
-    let made = c .before .before .before .before .before .before .before .before .carry-next .ensures in (
+    let l = c .before .before .before .before .before .before .before .before .before .loop in
+    let made = c .before .before .before .before .before .before .carry-next .ensures in (
       search needs,
       search needs,
-      search needs,
-      blocks-next {d = l .got0} (l .q * 86016) (l .q * 86016 + 86016) _ (l .inv .3) (search needs) refl refl (off-block _ _ _ (l .q) (l .q * 86016) (l .q * 86016 + 86016) refl refl 0 _ (made .1)),
-      blocks-next {d = l .got1} (l .q * 86016) (l .q * 86016 + 86016) _ (l .inv .4) (search needs) refl refl (off-block _ _ _ (l .q) (l .q * 86016) (l .q * 86016 + 86016) refl refl 1 _ (made .2)),
-      step-more _ (l .inv .5) (search needs) (line-counted _ _ _ (l .q) (l .q * 86016) (l .q * 86016 + 86016) refl refl _ _ _ (made .0) (c .before .before .add .ensures)),
+      blocks-next {d = l .got} (l .q * 86016) (l .q * 86016 + 86016) _ (l .inv .2) (search needs) refl refl (off-block _ (l .q) _ _ (made .1)),
+      step-more _ (l .inv .3) (search needs) (line-counted _ (l .q) _ _ _ (made .0) (c .before .before .add .ensures)),
     ))  -- loop-again
     (λ c. search near)  -- same-length
     (λ c. search near)  -- same-length-2
-    (λ c. search near)  -- same-length-3
-    (λ c. (search kit, search kit, search kit)))  -- returns
+    (λ c. (search kit, search kit)))  -- returns

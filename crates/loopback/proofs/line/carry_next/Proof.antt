@@ -1,7 +1,5 @@
 -- `loopback::line::carry_next` meets its contract.
 -- Assumes nothing.
-use Rattle.loopback.specs.FileLaws.{file-starts}
-use Rattle.loopback.specs.LineLaws.{line-carried}
 use borrow.Author.Needs.{needs}
 use Rattle.loopback.proofs.line.carry_next.Statement.{statement}
 use Rattle.loopback.proofs.line.carry_next.Tie as tie
@@ -11,11 +9,13 @@ carry-next-spec =
     tie.close
     (tie.spec
     (λ c κs. search needs)  -- blank-requires
-    (λ c. search needs)  -- slice-aggregate-send
-    (λ c κs. search needs)  -- send-requires
-    (λ c. search needs)  -- slice-aggregate-take
-    (λ c κs. (search (needs, file-starts), search needs, search needs, search needs))  -- take-requires
-    (λ c κs. search needs)  -- value-or-requires
+    (λ c. search needs)  -- cast-encode-one
+    (λ c κs. search needs)  -- encode-one-requires
+    (λ c. search needs)  -- sub-encode-one
+    (λ c. search needs)  -- cast-encode-one-2
+    (λ c. search needs)  -- slice-aggregate-encode-one
+    (λ c κs. search needs)  -- encode-one-requires-2
+    (λ c. search needs)  -- slice-aggregate-transmit
+    (λ c κs. (search needs, search needs, search needs, search needs, search needs, search needs, search needs, search needs))  -- transmit-requires
     (λ c. search needs)  -- same-length
-    (λ c. search needs)  -- same-length-2
-    (λ c. line-carried _ _ _ _ _ _ _ _ _ _ (c .before .before .before .before .before .before .before .before .before .before .send .ensures) (search needs) (search needs) (search needs) (c .before .before .before .before .before .take .ensures) _ (c .value-or .ensures)))  -- returns
+    (λ c. (search needs, search needs)))  -- returns

@@ -1,6 +1,6 @@
 -- `loopback::line::send` meets its contract.
 -- Assumes nothing.
-use Rattle.loopback.specs.FileLaws.{file-sent}
+use Rattle.loopback.specs.LineLaws.{line-made}
 use borrow.Author.Needs.{needs}
 use Rattle.loopback.proofs.line.send.Statement.{statement}
 use Rattle.loopback.proofs.line.send.Tie as tie
@@ -9,10 +9,7 @@ pub send-spec : {M : Type 1} → statement M
 send-spec =
     tie.close
     (tie.spec
-    (λ c. search needs)  -- sub-frames
-    (λ c. search needs)  -- part-frames-start
-    (λ c. search needs)  -- part-frames-end
-    (λ c κs. search needs)  -- frames-requires
-    (λ c κs. search needs)  -- begin-requires
+    (λ c κs. search needs)  -- make-requires
+    (λ c κs. search needs)  -- damage-requires
     (λ c. search needs)  -- same-length
-    (λ c. search (needs, file-sent)))  -- returns
+    (λ c. search (needs, line-made)))  -- returns
