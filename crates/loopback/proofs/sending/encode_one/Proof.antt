@@ -10,8 +10,6 @@ use borrow.Author.Needs.{needs}
 use Rattle.loopback.proofs.sending.encode_one.Statement.{statement}
 use Rattle.loopback.proofs.sending.encode_one.Tie as tie
 
-ruleset kit = (needs, before-none)
-
 abbrev Inv-loop : tie.InvT-loop
 Inv-loop encoder q coded₀ history₀ i₀ coded history i = (i ≤ q) × (length history ≡ 5120) × (length coded ≡ 86016) × (history ≡ historyBefore encoderOf 168 (payloadIn encoder) i)
 
@@ -24,11 +22,11 @@ encode-one-spec =
     (tie.spec
     Inv-loop
     μ-loop
-    (λ c. search kit)  -- loop-holds
-    (λ c. search kit)  -- slice-aggregate-encode-next
-    (λ c κs. search kit)  -- encode-next-requires
-    (λ c. search kit)  -- add-i
-    (λ c. search kit)  -- loop-less
+    (λ c. search (needs, before-none))  -- loop-holds
+    (λ c. search needs)  -- slice-aggregate-encode-next
+    (λ c κs. search needs)  -- encode-next-requires
+    (λ c. search needs)  -- add-i
+    (λ c. search needs)  -- loop-less
     (λ c.
     let l = c .before .before .before .before .before .before .before .loop in
     let made = c .before .before .before .encode-next .ensures in (
@@ -37,7 +35,7 @@ encode-one-spec =
       search needs,
       before-more _ _ _ _ _ _ _ (l .inv .3) refl (made .1),
     ))  -- loop-again
-    (λ c. search kit)  -- slice-aggregate-encode-next-2
-    (λ c κs. search kit)  -- encode-next-requires-2
-    (λ c. search kit)  -- same-length
+    (λ c. search needs)  -- slice-aggregate-encode-next-2
+    (λ c κs. search needs)  -- encode-next-requires-2
+    (λ c. search needs)  -- same-length
     (λ c. search (needs, sent-one)))  -- returns
