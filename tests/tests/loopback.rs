@@ -1,5 +1,6 @@
-//! The program `loopback`: what it prints, within a limit of stack.
+//! The program `loopback`: what it prints within a limit of stack, and what it says where it cannot print.
 
+use std::fs::File;
 use std::process::Command;
 
 use ofec_tests::programs::program;
@@ -18,4 +19,19 @@ fn stack() {
         .expect("the shell starts");
     assert!(output.status.success(), "{}", output.status);
     assert_eq!(String::from_utf8(output.stdout).expect("text"), COUNTS);
+}
+
+/// Standard error says that standard output cannot be written.
+#[test]
+fn standard_output_that_is_full() {
+    let full = File::options().write(true).open("/dev/full");
+    let output = Command::new(program("loopback"))
+        .stdout(full.expect("a device that is full"))
+        .output()
+        .expect("it starts");
+    let said = String::from_utf8(output.stderr).expect("text");
+    assert!(
+        said.starts_with("standard output: "),
+        "what it said: {said}"
+    );
 }

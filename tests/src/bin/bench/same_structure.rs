@@ -15,11 +15,11 @@
 use ofec_tests::outcome::{Outcome, COUNT_SPENT, MISFIT, NO_SUCH_FRAME};
 
 mod block_core;
-mod word;
-mod pair_words_core;
 mod cells_core;
-mod pair_core;
 mod frame_core;
+mod pair_core;
+mod pair_words_core;
+mod word;
 
 /// Bit i of a buffer.
 fn bit(s: &[u8], i: usize) -> u8 {

@@ -1,7 +1,9 @@
 //! crates/pair_core: a pair encoded or received word by word.
 
+use super::pair_words_core::{
+    held_word, open_word, put_back_half, put_coded, put_payload, shift_in,
+};
 use super::word::{complete, mark_of, repair_in_place};
-use super::pair_words_core::{held_word, open_word, put_back_half, put_coded, put_payload, shift_in};
 
 fn encode_word(history: &[u8; 5120], payload: &[u8; 444], pair: u32, w: usize, back: &mut [u8]) {
     let mut word = open_word(history, payload, pair, w);
