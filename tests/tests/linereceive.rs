@@ -519,7 +519,7 @@ fn a_write_that_fails() {
         let given = room.run_after("trap '' XFSZ && ulimit -f 1000 &&");
         assert_eq!(given.out, "refused 1\n");
         assert!(
-            given.said.ends_with("payload file: File too large\n"),
+            given.said.ends_with("PAYLOAD0: File too large\n"),
             "{}",
             given.said
         );

@@ -51,9 +51,13 @@ power-log : (x : ℕ) → x < 255 → getD powers (getD logs (suc x) 0) 0 ≡ su
 unfolding powers logs
 power-log = agree 255 (λ x. getD powers (getD logs (suc x) 0) 0) suc tt
 
-pub log-of : (x : ℕ) → 0 < x → x < 256 → (getD logs x 0 < 255) × (getD powers (getD logs x 0) 0 ≡ x)
+log-of : (x : ℕ) → 0 < x → x < 256 → (getD logs x 0 < 255) × (getD powers (getD logs x 0) 0 ≡ x)
 log-of zero p h = absurd (omega arith)
 log-of (suc x) p h = (log-lt (suc x) h, power-log x (omega arith))
+
+-- A lookup in a lent table.
+pub log-in : (t : List ℕ) (x : ℕ) → t ≡ logs → 0 < x → x < 256 → (getD t x 0 < 255) × (getD powers (getD t x 0) 0 ≡ x)
+log-in t x e p l = rw e (log-of x p l)
 
 -- ---- no zero divisors
 
@@ -112,7 +116,7 @@ cubed-power (suc k) h =
     ∙ ap (λ u. shiftA (shiftA (shiftA u))) (cubed-power k (omega arith)) ∙ sym (cube-shiftA (getD powers k 0))
     ∙ ap cube (powers-next k (omega arith))
 
-pub cubed-at : (x : ℕ) → x < 256 → getD cubed x 0 ≡ cube x
+cubed-at : (x : ℕ) → x < 256 → getD cubed x 0 ≡ cube x
 cubed-at zero h = cubed-zero ∙ sym cube-zero
 cubed-at (suc x) h =
     let e = power-log x (omega arith) in

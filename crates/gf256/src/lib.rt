@@ -5,7 +5,7 @@ ghost use mathlib.Core.Path.{_≡_};
 ghost use Prim.Native.Nat.{_<_};
 ghost use lib.ListN.{getD};
 ghost use Rattle.gf256.specs.Field.{cube};
-ghost use Rattle.gf256.specs.Tables.{powers, cubed};
+ghost use Rattle.gf256.specs.Tables.{powers, logs, cubed};
 
 // The table of powers.
 pub fn powers() -> [u8; 255]
@@ -14,26 +14,26 @@ pub fn powers() -> [u8; 255]
     tables::POWERS
 }
 
-// The exponent of an element that is not 0.
-pub fn log(x: u8) -> usize
-    requires { ⌜ 0 < x ⌝ }
-    ensures { λ r. ⌜ (r < 255) × (getD powers r 0 ≡ x) ⌝ }
+// The table of exponents.
+pub fn logs() -> [u8; 256]
+    ensures { λ r. ⌜ r ≡ logs ⌝ }
 {
-    tables::LOGS[x as usize] as usize
+    tables::LOGS
 }
 
-// x times x times x, from the table.
-pub fn cube(x: u8) -> u8
-    ensures { λ r. ⌜ r ≡ cube x ⌝ }
-{
-    tables::CUBES[x as usize]
-}
-
-// The table of cubes, for those that look up much.
+// The table of cubes.
 pub fn cubes() -> [u8; 256]
     ensures { λ r. ⌜ r ≡ cubed ⌝ }
 {
     tables::CUBES
+}
+
+// The exponent of an element that is not 0, from a lent table.
+pub fn log_in(table: &[u8; 256], x: u8) -> usize
+    requires { ⌜ (now table ≡ logs) × (0 < x) ⌝ }
+    ensures { λ r. ⌜ (r < 255) × (getD powers r 0 ≡ x) ⌝ }
+{
+    table[x as usize] as usize
 }
 
 // x times x times x, from a lent table.

@@ -72,24 +72,26 @@ fn judge(taken: Answer, capture: Input, q: u32) -> u32
     refusal
 }
 
-// Receives the pairs of one encoder, numbered from `first` on, and writes payload and marks.
+// Receives the pairs of one encoder, numbered from `first` on, and writes payload and marks to files that are called so where a write fails.
 fn receive_and_write(
     pairs: &[u8; 86016],
     first: u32,
     history: &mut [u8; 5120],
     payload: &mut [u8],
     payload_file: i32,
+    payload_name: &[u8],
     marks_file: i32,
+    marks_name: &[u8],
 ) -> Received
     requires { ⌜ (first < 65536) × (length (now payload) ≡ 74592) ⌝ }
     ensures { λ r. ⌜ (r .flips < 4294967296) × (r .lost < 4294967296) ⌝ }
 {
     let mut marks = [0u8; 5376];
     pair_stream::receive(168, pairs, first, history, payload, &mut marks);
-    if !put(payload_file, payload, b"payload file") {
+    if !put(payload_file, payload, payload_name) {
         return refused(MISFIT);
     }
-    if !put(marks_file, &marks, b"marks file") {
+    if !put(marks_file, &marks, marks_name) {
         return refused(MISFIT);
     }
     let sums = marks::add_up(&marks);
@@ -108,7 +110,9 @@ fn receive(
     history: &mut [u8; 5120],
     space: &mut [u8],
     payload_file: i32,
+    payload_name: &[u8],
     marks_file: i32,
+    marks_name: &[u8],
 ) -> Received
     requires { ⌜ (first < 65536) × (length (now space) ≡ 356352) ⌝ }
     ensures { λ r. ⌜ (r .flips < 4294967296) × (r .lost < 4294967296) ⌝ }
@@ -119,7 +123,9 @@ fn receive(
         history,
         &mut space[0..74592],
         payload_file,
+        payload_name,
         marks_file,
+        marks_name,
     )
 }
 
@@ -142,7 +148,9 @@ fn receive_both(
         history0,
         space,
         outputs.payload0,
+        b"PAYLOAD0",
         outputs.marks0,
+        b"MARKS0",
     );
     if received0.refusal != 0 {
         return received0;
@@ -153,7 +161,9 @@ fn receive_both(
         history1,
         space,
         outputs.payload1,
+        b"PAYLOAD1",
         outputs.marks1,
+        b"MARKS1",
     );
     Received {
         refusal: received1.refusal,

@@ -15,7 +15,8 @@ use Rattle.word_spec.specs.Completion.{firstBits}
 use Rattle.pair_spec.specs.History.{depth, fresh}
 use Rattle.pair_spec.specs.Encoding.{openWord}
 use Rattle.pair_spec.specs.Receiving.{heldWord}
-use Rattle.pair_spec.specs.Stream.{Coder, pairEncoder, pairReceiver, givenOver, codedOf, payloadsOf, marksOf, historyOver, historyBefore}
+use Rattle.pair_spec.specs.Calls.{EncodeBuffers, encodeBuffers, ReceiveBuffers, receiveBuffers}
+use Rattle.pair_spec.specs.Stream.{Coder, pairEncoder, pairReceiver, givenOver, codedOf, payloadsOf, marksOf, historyOver, encodeStream, receiveStream, historyBefore}
 use Rattle.loopback.specs.Random.{pairPayload, payloadIn}
 use Rattle.loopback.specs.Sent.{sentIn}
 use Rattle.loopback.specs.StepLaws.{Stepping, step-more, step-done}
@@ -55,11 +56,11 @@ sent-one e q i h ys is l m es =
 
 -- From payload that is known by another name.
 module _ (e q : ℕ) (h s ys : List ℕ) (es : s ≡ payloadIn e q) where
-  pub coded-of : ys ≡ codedOf 168 h (168 * q) s → ys ≡ codedOf 168 h (168 * q) (payloadIn e q)
-  coded-of is = is ∙ ap (codedOf 168 h (168 * q)) es
+  pub coded-of : (g : List ℕ) → encodeBuffers ys g ≡ encodeStream 168 h (168 * q) s → ys ≡ codedOf 168 h (168 * q) (payloadIn e q)
+  coded-of g is = ap (λ (b : EncodeBuffers). b .coded) is ∙ ap (codedOf 168 h (168 * q)) es
 
-  pub history-of : ys ≡ historyOver pairEncoder 168 h (168 * q) s → ys ≡ historyOver pairEncoder 168 h (168 * q) (payloadIn e q)
-  history-of is = is ∙ ap (historyOver pairEncoder 168 h (168 * q)) es
+  pub history-of : (c : List ℕ) → encodeBuffers c ys ≡ encodeStream 168 h (168 * q) s → ys ≡ historyOver pairEncoder 168 h (168 * q) (payloadIn e q)
+  history-of c is = ap (λ (b : EncodeBuffers). b .history) is ∙ ap (historyOver pairEncoder 168 h (168 * q)) es
 
 -- A super-frame sent, after refused calls that leave the history.
 module _ (e q : ℕ) (h h₁ ys : List ℕ) (is : h ≡ historyBefore pairEncoder 168 (payloadIn e) q) (left : h₁ ≡ h) where
@@ -116,15 +117,18 @@ module _ (k a b : ℕ) (got h : List ℕ) (ea : a ≡ k * 512) (eb : b ≡ a + 5
   own-pair : part a (b - a) got ≡ partOf 512 got k
   own-pair = let size : b - a ≡ 512 = omega arith in ap₂ (λ x y. part x y got) ea size
 
-  pub step-history : (h₁ : List ℕ) → h₁ ≡ historyOver pairReceiver 1 h k (part a (b - a) got)
-      → h₁ ≡ historyOver pairReceiver 1 h k (partOf 512 got k)
-  step-history h₁ is = is ∙ ap (historyOver pairReceiver 1 h k) own-pair
+  module _ (h₁ out marks : List ℕ) (is : receiveBuffers out marks h₁ ≡ receiveStream 1 h k (part a (b - a) got)) where
+    pub step-history : h₁ ≡ historyOver pairReceiver 1 h k (partOf 512 got k)
+    step-history = ap (λ (x : ReceiveBuffers). x .history) is ∙ ap (historyOver pairReceiver 1 h k) own-pair
 
-  pub pair-taken : (e : ℕ) (sent h₁ out marks d d₁ : List ℕ) → h₁ ≡ historyOver pairReceiver 1 h k (part a (b - a) got)
-      → out ≡ payloadsOf 1 h k (part a (b - a) got)
-      → marks ≡ marksOf 1 h k (part a (b - a) got) → d₁ ≡ pairCompared e k sent got h₁ out marks d → d₁ ≡ pairTaken e sent got h k d
-  unfolding pairTaken
-  pair-taken e sent h₁ out marks d d₁ eh eo em e₁ = cc own-pair
+    pub pair-taken : (e : ℕ) (sent d d₁ : List ℕ) → d₁ ≡ pairCompared e k sent got h₁ out marks d → d₁ ≡ pairTaken e sent got h k d
+    unfolding pairTaken
+    pair-taken e sent d d₁ e₁ =
+        let own : part a (b - a) got ≡ partOf 512 got k = own-pair in
+        let eo : out ≡ payloadsOf 1 h k (part a (b - a) got) = ap (λ (x : ReceiveBuffers). x .payload) is in
+        let em : marks ≡ marksOf 1 h k (part a (b - a) got) = ap (λ (x : ReceiveBuffers). x .marks) is in
+        let eh : h₁ ≡ historyOver pairReceiver 1 h k (part a (b - a) got) = ap (λ (x : ReceiveBuffers). x .history) is in
+        cc
 
 pub before-pair : (c : Coder) (S : ℕ → List ℕ) (k : ℕ) (h h′ : List ℕ) → h ≡ historyBefore c 1 S k → h′ ≡ historyOver c 1 h k (S k)
     → h′ ≡ historyBefore c 1 S (k + 1)

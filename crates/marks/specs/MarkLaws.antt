@@ -2,37 +2,14 @@
 -- Assumes nothing.
 use mathlib.Core.Path.{_≡_, ap₂}
 use mathlib.Core.List.{List}
-use mathlib.Core.Logic.{_≢_}
 use Prim.Native.Nat.{ℕ, _+_, _*_, _<_, _≤_}
 use native.Mathlib.Omega.{arith}
-use borrow.Author.Tests.{eq-eqb, ne-eqb, lt-ltb, le-ltb}
 use lib.ListN.{length, getD}
 use mir.Syntax.{w32}
 use mir.Val.{Fits}
 use Rattle.bits.specs.Folding.{Counting, count-start, count-more, count-done}
-use Rattle.marks.specs.Marks.{flipsIn, lostIn, sumOf, markSums}
-
--- ---- one mark
-
-pub mark-flips : (mark : ℕ) → mark < 3 → mark ≡ flipsIn mark
-unfolding flipsIn
-mark-flips mark h = simp (lt-ltb mark 3 h)
-
-pub mark-no-flips : (mark : ℕ) → 3 ≤ mark → 0 ≡ flipsIn mark
-unfolding flipsIn
-mark-no-flips mark h = simp (le-ltb mark 3 h)
-
-pub mark-lost : (mark : ℕ) → mark ≡ 3 → 1 ≡ lostIn mark
-unfolding lostIn
-mark-lost mark h = simp (eq-eqb mark 3 h)
-
-pub mark-not-lost : (mark : ℕ) → mark ≢ 3 → 0 ≡ lostIn mark
-unfolding lostIn
-mark-not-lost mark h = simp (ne-eqb mark 3 h)
-
-pub ruleset mark-telling = (mark-flips, mark-no-flips, mark-lost, mark-not-lost)
-
--- ---- sums
+use Rattle.word_spec.specs.Marks.{flipsIn, lostIn}
+use Rattle.marks.specs.Marks.{sumOf, markSums}
 
 -- acc is the sum of what the first k marks tell, each at most 2.
 pub record MarkSum (told : ℕ → ℕ) (marks : List ℕ) (k acc : ℕ) : Type 0 where

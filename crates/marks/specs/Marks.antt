@@ -1,20 +1,12 @@
 -- What the marks of received words add up to. 01, "Rows and pairs": "Marks: 32 bytes, word (2P, 0) first, each 0, 1 or 2 flips, or 3 for
 -- lost."
 -- Assumes nothing.
-use mathlib.Core.Bool.{cond}
 use mathlib.Core.List.{List}
 use Prim.Native.Nat.{ℕ}
-use lib.Dec.{ltb, eqb}
 use lib.ListN.{length, getD}
 use Rattle.bits.specs.Count.{count}
+use Rattle.word_spec.specs.Marks.{flipsIn, lostIn}
 use Rattle.marks.specs.declared.Sums.{Sums}
-
--- The flips that a mark tells of, and the lost words: 0 or 1.
-unfoldable pub flipsIn : ℕ → ℕ
-flipsIn mark = cond (ltb mark 3) mark 0
-
-unfoldable pub lostIn : ℕ → ℕ
-lostIn mark = cond (eqb mark 3) 1 0
 
 -- The sum over all marks of what each one tells.
 unfoldable pub sumOf : (ℕ → ℕ) → List ℕ → ℕ

@@ -1,8 +1,9 @@
-// What the marks of received words add up to.
+// What the marks of received words add up to. Over `word_spec`, below `linereceive`.
 ghost use mathlib.Core.Path.{_≡_};
 ghost use Prim.Native.Nat.{_*_, _≤_};
 ghost use lib.ListN.{length};
-ghost use Rattle.marks.specs.Marks.{flipsIn, lostIn, markSums};
+ghost use Rattle.word_spec.specs.Marks.{flipsIn, lostIn};
+ghost use Rattle.marks.specs.Marks.{markSums};
 
 // The flips in words that were repaired, and the number of lost words.
 pub struct Sums {

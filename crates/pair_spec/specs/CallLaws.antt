@@ -80,9 +80,9 @@ pub receive-done : (coded payload marks′ history : List ℕ) (P : ℕ) → len
     → after (Done (P + 1)) w ≡ receiveCall coded payload marks′ history P
 receive-done coded payload marks′ history P a b c d e w ew = rw ew (search cases depth 9)
 
-pub receive-written : (history coded y m h : List ℕ) (P : ℕ) → y ≡ payloadOut depth history P coded → m ≡ marks depth history P coded
-    → h ≡ shift history (newestPair depth history P coded) → receiveBuffers y m h ≡ receivePair depth history P coded
-receive-written history coded y m h P ey em eh = rw (ey, em, eh)
+pub receive-written : {payload payload′ marks marks′ history history′ : List ℕ} → payload ≡ payload′ → marks ≡ marks′ → history ≡ history′
+    → receiveBuffers payload marks history ≡ receiveBuffers payload′ marks′ history′
+receive-written e f g = rw (e, f, g)
 
 pub record ReceiveFits (c : Receiving) : Type 0 where
   pub coded : length (c .coded) ≡ 512

@@ -4,7 +4,7 @@
 -- Assumes nothing.
 use mathlib.Core.Path.{_≡_}
 use mathlib.Core.List.{List}
-use Prim.Native.Nat.{ℕ, zero, suc, _+_, _*_}
+use Prim.Native.Nat.{ℕ, zero, suc, _+_, _*_, _≤_}
 use lib.ListN.{length}
 use Rattle.bits.specs.Parts.{partOf, endToEnd}
 use Rattle.pair_spec.specs.History.{depth, shift, fresh}
@@ -12,6 +12,7 @@ use Rattle.pair_spec.specs.Encoding.{encoded}
 use Rattle.pair_spec.specs.EncodingLaws.{length-encoded}
 use Rattle.pair_spec.specs.Receiving.{newestPair, payloadOut, marks}
 use Rattle.pair_spec.specs.ReceivingLaws.{length-newest}
+use Rattle.pair_spec.specs.Calls.{EncodeBuffers, encodeBuffers, ReceiveBuffers, receiveBuffers}
 
 -- What a call gives: of the history, the pair number and what it is given.
 abbrev pub Gives : Type 0
@@ -54,6 +55,27 @@ payloadsOf = givenOver pairReceiver (payloadOut depth) 444
 
 abbrev pub marksOf : ℕ → List ℕ → ℕ → List ℕ → List ℕ
 marksOf = givenOver pairReceiver (marks depth) 32
+
+-- Buffers and pair numbers for m pairs, from p on.
+pub record EncodesStream (m : ℕ) (payload : List ℕ) (p : ℕ) (history coded : List ℕ) : Type 0 where
+  pub payload-fits : length payload ≡ m * 444
+  pub numbers-fit : p + m ≤ 4294967295
+  pub history-fits : length history ≡ 512 * depth
+  pub coded-fits : length coded ≡ m * 512
+
+pub record ReceivesStream (m : ℕ) (coded : List ℕ) (p : ℕ) (history payload marks : List ℕ) : Type 0 where
+  pub coded-fits : length coded ≡ m * 512
+  pub numbers-fit : p + m ≤ 4294967295
+  pub history-fits : length history ≡ 512 * depth
+  pub payload-fits : length payload ≡ m * 444
+  pub marks-fit : length marks ≡ m * 32
+
+-- What stands in the buffers after all m.
+abbrev pub encodeStream : ℕ → List ℕ → ℕ → List ℕ → EncodeBuffers
+encodeStream m h p payload = encodeBuffers (codedOf m h p payload) (historyOver pairEncoder m h p payload)
+
+abbrev pub receiveStream : ℕ → List ℕ → ℕ → List ℕ → ReceiveBuffers
+receiveStream m h p coded = receiveBuffers (payloadsOf m h p coded) (marksOf m h p coded) (historyOver pairReceiver m h p coded)
 
 -- The history before super-frame q, from fresh, where S is what is given for each super-frame.
 unfoldable pub historyBefore : Coder → ℕ → (ℕ → List ℕ) → ℕ → List ℕ

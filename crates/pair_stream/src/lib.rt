@@ -1,11 +1,11 @@
 // Streams of pairs, one call after the other: encoded and received. Over `pair`, by the definitions of `pair_spec`.
 ghost use mathlib.Core.Path.{_≡_};
-ghost use Prim.Native.Nat.{_+_, _*_, _≤_, _<_};
+ghost use Prim.Native.Nat.{_*_, _≤_, _<_};
 ghost use lib.ListN.{length};
 ghost use Rattle.bits.specs.Parts.{partOf};
 ghost use Rattle.pair_spec.specs.History.{depth};
 ghost use Rattle.pair_spec.specs.Calls.{encodeBuffers, encodePair, receiveBuffers, receivePair};
-ghost use Rattle.pair_spec.specs.Stream.{pairEncoder, pairReceiver, codedOf, payloadsOf, marksOf, historyOver};
+ghost use Rattle.pair_spec.specs.Stream.{EncodesStream, ReceivesStream, encodeStream, receiveStream};
 
 // Encodes pair k.
 fn encode_next(
@@ -26,8 +26,8 @@ fn encode_next(
 
 // Encodes the pairs, numbered from `first` on.
 pub fn encode(pairs: usize, payload: &[u8], first: u32, history: &mut [u8], coded: &mut [u8])
-    requires { ⌜ (length (now payload) ≡ pairs * 444) × (first + pairs ≤ 4294967295) × (length (now history) ≡ 512 * depth) × (length (now coded) ≡ pairs * 512) ⌝ }
-    ensures { λ _. ⌜ (now (coded .exit) ≡ codedOf pairs (now (history .entry)) first (now (payload .entry))) × (now (history .exit) ≡ historyOver pairEncoder pairs (now (history .entry)) first (now (payload .entry))) ⌝ }
+    requires { ⌜ EncodesStream pairs (now payload) first (now history) (now coded) ⌝ }
+    ensures { λ _. ⌜ encodeBuffers (now (coded .exit)) (now (history .exit)) ≡ encodeStream pairs (now (history .entry)) first (now (payload .entry)) ⌝ }
 {
     for k in 0..pairs {
         let f = k * 512;
@@ -70,8 +70,8 @@ pub fn receive(
     payload: &mut [u8],
     marks: &mut [u8],
 )
-    requires { ⌜ (length (now coded) ≡ pairs * 512) × (first + pairs ≤ 4294967295) × (length (now history) ≡ 512 * depth) × (length (now payload) ≡ pairs * 444) × (length (now marks) ≡ pairs * 32) ⌝ }
-    ensures { λ _. ⌜ (now (payload .exit) ≡ payloadsOf pairs (now (history .entry)) first (now (coded .entry))) × (now (marks .exit) ≡ marksOf pairs (now (history .entry)) first (now (coded .entry))) × (now (history .exit) ≡ historyOver pairReceiver pairs (now (history .entry)) first (now (coded .entry))) ⌝ }
+    requires { ⌜ ReceivesStream pairs (now coded) first (now history) (now payload) (now marks) ⌝ }
+    ensures { λ _. ⌜ receiveBuffers (now (payload .exit)) (now (marks .exit)) (now (history .exit)) ≡ receiveStream pairs (now (history .entry)) first (now (coded .entry)) ⌝ }
 {
     for k in 0..pairs {
         let f = k * 444;

@@ -17,11 +17,11 @@ use Rattle.pair_spec.specs.History.{shift}
 pub record Moving (m : ℕ) (h : List ℕ) (i : ℕ) (d : List ℕ) : Type 0 where
   pub upto : i + m ≤ length h
   pub long : length d ≡ length h
-  pub moved : (k : ℕ) → k < i → getD d k 0 ≡ getD h (m + k) 0
+  pub came-down : (k : ℕ) → k < i → getD d k 0 ≡ getD h (m + k) 0
   pub left : (k : ℕ) → i ≤ k → getD d k 0 ≡ getD h k 0
 
 pub move-none : (m : ℕ) (h : List ℕ) → m ≤ length h → Moving m h 0 h
-move-none m h l = record { upto = omega arith; long = refl; moved = below-none (λ k. getD h k 0 ≡ getD h (m + k) 0); left = λ k _. refl }
+move-none m h l = record { upto = omega arith; long = refl; came-down = below-none (λ k. getD h k 0 ≡ getD h (m + k) 0); left = λ k _. refl }
 
 pub move-more : {m : ℕ} {h : List ℕ} {i : ℕ} {d : List ℕ} (v : ℕ) → Moving m h i d → i < length h - m → v ≡ getD d (i + m) 0
     → Moving m h (i + 1) (set d i v)
@@ -29,8 +29,8 @@ move-more {m} {h} {i} {d} v s l e =
     record {
       upto = omega arith;
       long = length-set d i v ∙ s .long;
-      moved = below-more (λ k. getD (set d i v) k 0 ≡ getD h (m + k) 0) i
-          (λ k lk. let ne : k ≢ i = omega arith in getD-set-other d i k v 0 ne ∙ s .moved k lk)
+      came-down = below-more (λ k. getD (set d i v) k 0 ≡ getD h (m + k) 0) i
+          (λ k lk. let ne : k ≢ i = omega arith in getD-set-other d i k v 0 ne ∙ s .came-down k lk)
           (getD-set-same d i v 0 (omega (arith, s .long, s .upto)) ∙ e ∙ s .left (i + m) (omega arith) ∙ ap (λ k. getD h k 0) (omega arith));
       left = λ k lk. let ne : k ≢ i = omega arith in getD-set-other d i k v 0 ne ∙ s .left k (omega arith);
     }
@@ -39,7 +39,7 @@ pub move-done : {m : ℕ} {h : List ℕ} {i : ℕ} {d : List ℕ} → Moving m h
 move-done {m} {h} {i} {d} s l =
     ext-getD 0 (take (length h - m) d) (drop m h) (length-take-le (length h - m) d (omega (arith, s .long)) ∙ sym (length-drop m h))
     (λ k lk. let b : k < length h - m = omega (arith, length-take-le (length h - m) d (omega (arith, s .long))) in
-    getD-take (length h - m) d k 0 b ∙ s .moved k (omega arith) ∙ sym (getD-drop m h k 0))
+    getD-take (length h - m) d k 0 b ∙ s .came-down k (omega arith) ∙ sym (getD-drop m h k 0))
 
 pub ruleset moving = (move-none, move-more, move-done)
 

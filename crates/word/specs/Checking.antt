@@ -9,6 +9,7 @@ use lib.ListN.{getD}
 use Rattle.bits.specs.Bits.{bit}
 use Rattle.bits.specs.BitLaws.{bit-lt}
 use Rattle.bits.specs.CountLaws.{count-none}
+use Rattle.bits.specs.Folding.{Summing, sum-done}
 use Rattle.bits.specs.Xor.{_⊕_, xorSum}
 use Rattle.bits.specs.XorLaws.{xorSum-none, xorSum-split}
 use Rattle.gf256.specs.Field.{cube}
@@ -47,14 +48,17 @@ by-eights (suc n) f =
     let e : suc n * 8 ≡ n * 8 + 8 = omega arith in
     ap (λ u. u ⊕ xorSum 8 (λ b. f (n * 8 + b))) (by-eights n f) ∙ sym (xorSum-split (n * 8) 8 f) ∙ ap (λ m. xorSum m f) (sym e)
 
-pub check-whole : (s : List ℕ) (acc : ℕ) → acc ≡ xorSum 32 (byteCheck s) → acc ≡ check (bit s)
+check-whole : (s : List ℕ) (acc : ℕ) → acc ≡ xorSum 32 (byteCheck s) → acc ≡ check (bit s)
 unfolding check byteCheck checkTerm
 check-whole s acc e = e ∙ by-eights 32 (checkTerm s)
 
-pub check-small : (s : List ℕ) (v : ℕ) → v ≡ check (bit s) → v < 131072
-check-small s v e = rw e (check-lt (bit s) (λ k l. bit-lt s k))
+-- The sum over all 32 bytes.
+pub summed : (s : List ℕ) (acc : ℕ) {k : ℕ} → Summing (byteCheck s) 32 k acc → 32 ≤ k → (acc ≡ check (bit s)) × (acc < 131072)
+summed s acc h l =
+    let e : acc ≡ check (bit s) = check-whole s acc (sum-done h l) in
+    (e, rw e (check-lt (bit s) (λ k l. bit-lt s k)))
 
-pub ruleset checking = (taken-none, taken-once, term-is, check-whole, check-small)
+pub ruleset checking = (taken-none, taken-once, term-is)
 
 -- ---- the syndromes of the check bits
 
@@ -66,7 +70,7 @@ zeros-absorbed n w z =
     (ap (λ u. u % 2) (count-none n w z))
 
 pub absorb-tail : (v : ℕ) → Absorbing (tail v) 239 (syndromes 0 0 0)
-absorb-tail v = record { upto = omega arith; is = sym (zeros-absorbed 239 (tail v) (tail-low v)); bit = omega arith }
+absorb-tail v = record { upto = omega arith; is = sym (zeros-absorbed 239 (tail v) (tail-low v)); parity-bit = omega arith }
 
 pub tail-bit : (v k b : ℕ) → 239 ≤ k → b ≡ v / 2 ^ (255 - k) % 2 → b ≡ tail v k
 tail-bit v k b l e = e ∙ sym (tail-high v k l)
@@ -79,7 +83,7 @@ syndromes-are s v y e f = f ∙ ap (λ u. syndromesOf (tail u)) (e .0) ∙ check
 pub syndromes-none : (s : List ℕ) (v : ℕ) → (v ≡ check (bit s)) × (v < 131072) → v ≡ 0 → syndromes 0 0 0 ≡ syndromesOf (bit s)
 syndromes-none s v e z =
     syndromes-are s v (syndromes 0 0 0) e
-    (absorb-done {w = tail v} {n = 256} (record { upto = omega arith; is = sym (zeros-absorbed 256 (tail v) none); bit = omega arith }) (omega arith))
+    (absorb-done {w = tail v} {n = 256} (record { upto = omega arith; is = sym (zeros-absorbed 256 (tail v) none); parity-bit = omega arith }) (omega arith))
   where
     none : (k : ℕ) → k < 256 → tail v k ≡ 0
     none k l = ap (λ u. tail u k) z ∙ tail-zero k

@@ -48,20 +48,20 @@ check-byte-bit v j i small lj mj li =
 
 -- Of a word that was s, check bits v are added in the bytes before j; those from j on stand as they did.
 pub record Adding (s : List ℕ) (v j : ℕ) (d : List ℕ) : Type 0 where
-  pub from : 29 ≤ j
+  pub begun : 29 ≤ j
   pub upto : j ≤ 32
   pub long : length d ≡ 32
-  pub bytes : 29 < j → (i : ℕ) → getD d i 0 < 256
+  pub below-256 : 29 < j → (i : ℕ) → getD d i 0 < 256
   pub done : (k : ℕ) → k < j * 8 → bit d k ≡ bit s k ⊕ tail v k
   pub left : (i : ℕ) → j ≤ i → getD d i 0 ≡ getD s i 0
 
 pub add-none : (s : List ℕ) (v : ℕ) → length s ≡ 32 → Adding s v 29 s
 add-none s v l =
     record {
-      from = omega arith;
+      begun = omega arith;
       upto = omega arith;
       long = l;
-      bytes = λ m. absurd (omega arith);
+      below-256 = λ m. absurd (omega arith);
       done = λ k lk. sym (ap (λ u. bit s k ⊕ u) (tail-low v k (omega arith)) ∙ ⊕-zero (bit s k));
       left = λ i li. refl;
     }
@@ -78,10 +78,10 @@ module _ {s : List ℕ} {v j : ℕ} {d : List ℕ} (h : Adding s v j d) (l : j <
   unfolding value bit
   add-more x e =
       record {
-        from = omega (arith, h .from);
+        begun = omega (arith, h .begun);
         upto = omega arith;
         long = length-set d j x ∙ h .long;
-        bytes = λ m i. below i (ℕ-discrete i j);
+        below-256 = λ m i. below i (ℕ-discrete i j);
         done = λ k lk. each k lk (ℕ-discrete (k / 8) j);
         left = λ i li. let ne : i ≢ j = omega arith in getD-set-other d j i x 0 ne ∙ h .left i (omega arith);
       }
@@ -99,13 +99,13 @@ module _ {s : List ℕ} {v j : ℕ} {d : List ℕ} (h : Adding s v j d) (l : j <
           ap (λ i. bitOf 8 (getD (set d j x) i 0) (k % 8)) p ∙ ap (λ u. bitOf 8 u (k % 8)) here
           ∙ bitOf-added (getD d j 0) (v / 2 ^ (248 - 8 * j) % 256) (k % 8)
           ∙ ap₂ _⊕_ (ap (λ u. bitOf 8 u (k % 8)) (h .left j (omega arith) ∙ ap (λ i. getD s i 0) (sym p)))
-          (check-byte-bit v j (k % 8) small (h .from) l (omega arith) ∙ ap (tail v) q)
+          (check-byte-bit v j (k % 8) small (h .begun) l (omega arith) ∙ ap (tail v) q)
       each k lk (no n) = ap (λ u. bitOf 8 u (k % 8)) (getD-set-other d j (k / 8) x 0 n) ∙ h .done k (omega arith)
 
 pub add-done : {s : List ℕ} {v j : ℕ} {d : List ℕ} → Adding s v j d → 32 ≤ j → d ≡ pack 32 (added (bit s) (tail v))
 unfolding added
 add-done {s} {v} {j} {d} h l =
-    is-pack d 32 (λ k. bit s k ⊕ tail v k) (h .long) (h .bytes (omega arith))
+    is-pack d 32 (λ k. bit s k ⊕ tail v k) (h .long) (h .below-256 (omega arith))
     (λ i li. let e = h .done i (omega (arith, h .upto)) in omega (arith, e, bit-lt d i))
 
 -- With its check bits added a word is its completion.

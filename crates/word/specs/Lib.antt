@@ -1,4 +1,5 @@
 -- Laws for the code; what a reader must believe stands in crate word_spec.
+pub mod Tables
 pub mod Partial
 pub mod Checking
 pub mod Finding

@@ -40,11 +40,11 @@ partial n w = syndromes (xorSum n (λ k. w k * locator k)) (xorSum n (λ k. w k 
 pub record Absorbing (w : Word) (n : ℕ) (s : Syndromes) : Type 0 where
   pub upto : n ≤ 256
   pub is : s ≡ partial n w
-  pub bit : s .parity < 2
+  pub parity-bit : s .parity < 2
 
 pub absorb-none : (w : Word) → Absorbing w 0 (syndromes 0 0 0)
 unfolding partial xorSum count
-absorb-none w = record { upto = omega arith; is = refl; bit = omega arith }
+absorb-none w = record { upto = omega arith; is = refl; parity-bit = omega arith }
 
 pub syndromes-eq : {a b c d p q : ℕ} → a ≡ b → c ≡ d → p ≡ q → syndromes a c p ≡ syndromes b d q
 syndromes-eq e f g = rw (e, f, g)
@@ -71,7 +71,7 @@ unfolding partial
 absorb-more {w} {n} {s} b r h l small e d =
     let is : r ≡ partial (n + 1) w =
     d ∙ ap (λ t. absorbed t b n) (h .is) ∙ absorb-bit w n b small (sym e) ∙ ap (λ k. partial k w) (sym (add-one n)) in
-    record { upto = omega arith; is = is; bit = rw is (omega arith) }
+    record { upto = omega arith; is = is; parity-bit = rw is (omega arith) }
 
 pub absorb-done : {w : Word} {n : ℕ} {s : Syndromes} → Absorbing w n s → 256 ≤ n → s ≡ syndromesOf w
 unfolding partial syndromesOf S1 S3 parity

@@ -1,5 +1,4 @@
 // The 17 check bits of a word: what must be added in bits 239 to 255 to make it a code word. A sum over its bits, from a table.
-use crate::tables;
 ghost use mathlib.Core.Path.{_≡_};
 ghost use Prim.Native.Nat.{_*_, _<_};
 ghost use lib.ListN.{length};
@@ -32,22 +31,14 @@ fn check_byte(w: &[u8], table: &[u32; 256], j: usize) -> u32
     s
 }
 
-fn check_with(w: &[u8], table: &[u32; 256]) -> u32
+// The check bits of a word of 32 bytes.
+pub fn check_of(w: &[u8], table: &[u32; 256]) -> u32
     requires { ⌜ (length (now w) ≡ 32) × (now table ≡ checks) ⌝ }
-    ensures { λ r. ⌜ r ≡ check (bit (now (w .entry))) ⌝ }
+    ensures { λ r. ⌜ (r ≡ check (bit (now (w .entry)))) × (r < 131072) ⌝ }
 {
     let mut s: u32 = 0;
     for j in 0..32 {
         s = s ^ check_byte(w, table, j);
     }
     s
-}
-
-// The check bits of a word of 32 bytes.
-pub fn check_of(w: &[u8]) -> u32
-    requires { ⌜ length (now w) ≡ 32 ⌝ }
-    ensures { λ r. ⌜ (r ≡ check (bit (now (w .entry)))) × (r < 131072) ⌝ }
-{
-    let table = tables::CHECKS;
-    check_with(w, &table)
 }

@@ -6,7 +6,7 @@ ghost use lib.ListN.{length};
 ghost use Rattle.bits.specs.Bits.{bit, pack};
 ghost use Rattle.word_spec.specs.RemainderLaws.{added};
 ghost use Rattle.word_spec.specs.Completion.{completed};
-ghost use Rattle.word_spec.specs.Checks.{tail};
+ghost use Rattle.word_spec.specs.Checks.{checks, tail};
 
 // Adds 17 check bits in bits 239 to 255.
 fn add_check(w: &mut [u8], v: u32)
@@ -18,11 +18,11 @@ fn add_check(w: &mut [u8], v: u32)
     }
 }
 
-// Sets bits 239 to 255 of a word so that it is a code word.
-pub fn complete(w: &mut [u8])
-    requires { ⌜ length (now w) ≡ 32 ⌝ }
+// Sets bits 239 to 255 of a word so that it is a code word; the table is that of check bits.
+pub fn complete(w: &mut [u8], table: &[u32; 256])
+    requires { ⌜ (length (now w) ≡ 32) × (now table ≡ checks) ⌝ }
     ensures { λ _. ⌜ now (w .exit) ≡ pack 32 (completed (bit (now (w .entry)))) ⌝ }
 {
-    let v = check_of(w);
+    let v = check_of(w, table);
     add_check(w, v);
 }

@@ -4,7 +4,7 @@ mod checks;
 pub mod completion;
 mod locating;
 pub mod syndrome;
-mod tables;
+pub mod tables;
 
 use calls::Answer;
 use calls::Refusal;
@@ -15,6 +15,7 @@ ghost use lib.ListN.{length};
 ghost use Rattle.bits.specs.Bits.{bit, pack};
 ghost use Rattle.word_spec.specs.Repair.{repair, repaired, mark};
 ghost use Rattle.word_spec.specs.Locating.{confined};
+ghost use Rattle.word.specs.Tables.{Tables};
 ghost use Rattle.word.specs.Applying.{Inside};
 ghost use Rattle.word_spec.specs.Calls.{repairCall};
 ghost use Rattle.calls.specs.Calls.{after};
@@ -62,13 +63,21 @@ fn apply(w: &mut [u8], r: Repair)
     }
 }
 
-// Repairs a word of 32 bytes in place and says what it flipped; `front` says whether flips may fall in the front half.
-pub fn repair_in_place(w: &mut [u8], front: bool) -> Repair
-    requires { ⌜ length (now w) ≡ 32 ⌝ }
+// Repairs a word of 32 bytes in place and says what it flipped; `front` says whether flips may fall in the front half. The tables are those
+// of check bits, powers, exponents and cubes.
+pub fn repair_in_place(
+    w: &mut [u8],
+    front: bool,
+    columns: &[u32; 256],
+    table: &[u8; 255],
+    logs: &[u8; 256],
+    cubes: &[u8; 256],
+) -> Repair
+    requires { ⌜ (length (now w) ≡ 32) × Tables (now columns) (now table) (now logs) (now cubes) ⌝ }
     ensures { λ r. ⌜ (r ≡ repair front (bit (now (w .entry)))) × (now (w .exit) ≡ pack 32 (repaired (repair front (bit (now (w .entry)))) (bit (now (w .entry))))) ⌝ }
 {
-    let s = syndrome::syndromes_of(w);
-    let r = confine(locating::locate(s), front);
+    let s = syndrome::syndromes_of(w, columns, table, cubes);
+    let r = confine(locating::locate(s, table, logs, cubes), front);
     apply(w, r);
     r
 }
@@ -92,6 +101,10 @@ pub fn repair_word(word: &mut [u8], front: bool) -> Answer
     if word.len() != 32 {
         return Answer::Refused(Refusal::Misfit);
     }
-    let r = repair_in_place(word, front);
+    let columns = tables::checks();
+    let table = gf256::powers();
+    let logs = gf256::logs();
+    let cubes = gf256::cubes();
+    let r = repair_in_place(word, front, &columns, &table, &logs, &cubes);
     Answer::Done(mark_of(r) as u32)
 }

@@ -6,7 +6,7 @@ ghost use Prim.Native.Nat.{_<_};
 ghost use lib.ListN.{length};
 ghost use Rattle.bits.specs.Bits.{bit};
 ghost use Rattle.word_spec.specs.Syndromes.{locator, syndromesOf};
-ghost use Rattle.word_spec.specs.Checks.{tail};
+ghost use Rattle.word_spec.specs.Checks.{checks, tail};
 ghost use Rattle.gf256.specs.Tables.{powers, cubed};
 ghost use Rattle.word.specs.Partial.{absorbed};
 
@@ -52,11 +52,16 @@ fn tail_syndromes(v: u32, table: &[u8; 255], cubes: &[u8; 256]) -> Syndromes
 }
 
 // The syndromes and the parity of a word of 32 bytes: those of its check bits.
-pub fn syndromes_of(w: &[u8]) -> Syndromes
-    requires { ⌜ length (now w) ≡ 32 ⌝ }
+pub fn syndromes_of(
+    w: &[u8],
+    columns: &[u32; 256],
+    table: &[u8; 255],
+    cubes: &[u8; 256],
+) -> Syndromes
+    requires { ⌜ (length (now w) ≡ 32) × (now columns ≡ checks) × (now table ≡ powers) × (now cubes ≡ cubed) ⌝ }
     ensures { λ r. ⌜ r ≡ syndromesOf (bit (now (w .entry))) ⌝ }
 {
-    let v = check_of(w);
+    let v = check_of(w, columns);
     if v == 0 {
         return Syndromes {
             s1: 0,
@@ -64,7 +69,5 @@ pub fn syndromes_of(w: &[u8]) -> Syndromes
             parity: 0,
         };
     }
-    let table = gf256::powers();
-    let cubes = gf256::cubes();
-    tail_syndromes(v, &table, &cubes)
+    tail_syndromes(v, table, cubes)
 }

@@ -1,7 +1,16 @@
+// The table of check bits. Who works on many words names it and those of `gf256` once, and lends them.
+ghost use mathlib.Core.Path.{_≡_};
+ghost use Rattle.word_spec.specs.Checks.{checks};
+
 // The check bits of single bits: specs/Checks.antt of `word_spec`.
+pub fn checks() -> [u32; 256]
+    ensures { λ r. ⌜ r ≡ checks ⌝ }
+{
+    CHECKS
+}
 
 // Entry i belongs to bit 255 - i.
-pub const CHECKS: [u32; 256] = [
+const CHECKS: [u32; 256] = [
     1,
     2,
     4,

@@ -1,6 +1,7 @@
 pub mod CodeWord
 pub mod Repair
 pub mod Marks
+pub mod MarkLaws
 pub mod Completion
 pub mod Checks
 pub mod RemainderLaws

@@ -14,3 +14,20 @@ markMeaning (suc zero) = notLost
 markMeaning (suc (suc zero)) = notLost
 markMeaning (suc (suc (suc zero))) = lost
 markMeaning (suc (suc (suc (suc m)))) = neither
+
+-- What a mark adds to a sum of flips, and to a number of lost words: 0 or 1.
+unfoldable pub flipsIn : ℕ → ℕ
+flipsIn mark = flipsSaid (markMeaning mark)
+  where
+    flipsSaid : MarkMeaning → ℕ
+    flipsSaid notLost = mark
+    flipsSaid lost = 0
+    flipsSaid neither = 0
+
+unfoldable pub lostIn : ℕ → ℕ
+lostIn mark = lostSaid (markMeaning mark)
+  where
+    lostSaid : MarkMeaning → ℕ
+    lostSaid notLost = 0
+    lostSaid lost = 1
+    lostSaid neither = 0

@@ -2,7 +2,7 @@
 -- Assumes nothing.
 use Prim.Native.Nat.{_-_}
 use lib.ListN.{length}
-use Rattle.marks.specs.Marks.{flipsIn, lostIn}
+use Rattle.word_spec.specs.Marks.{flipsIn, lostIn}
 use Rattle.marks.specs.MarkLaws.{MarkSum, mark-summing}
 use borrow.Author.Needs.{needs}
 use Rattle.marks.proofs.add_up.Statement.{statement}

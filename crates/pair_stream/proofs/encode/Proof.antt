@@ -1,12 +1,12 @@
 -- `pair_stream::encode` meets its contract: one pair a turn.
 -- Assumes nothing.
-use mathlib.Core.Path.{refl, ap}
+use mathlib.Core.Path.{refl, ap, ap₂}
 use Prim.Native.Nat.{_+_, _-_, _*_}
 use Rattle.bits.specs.Filling.{Blocks, by-blocks, blocks-next}
 use Rattle.bits.specs.Parts.{partOf, byteOfEach}
 use Rattle.pair_spec.specs.History.{depth}
 use Rattle.pair_spec.specs.Encoding.{encoded}
-use Rattle.pair_spec.specs.Calls.{EncodeBuffers}
+use Rattle.pair_spec.specs.Calls.{EncodeBuffers, encodeBuffers}
 use Rattle.pair_spec.specs.Stream.{pairEncoder, givenAt}
 use Rattle.pair_spec.specs.StreamLaws.{Streaming, streaming, stream-more, coded-block}
 use borrow.Author.Needs.{needs}
@@ -46,4 +46,4 @@ encode-spec =
     ))  -- loop-again
     (λ c. search kit)  -- same-length
     (λ c. search kit)  -- same-length-2
-    (λ c. search kit))  -- returns
+    (λ c. ap₂ encodeBuffers (search kit) (search kit)))  -- returns

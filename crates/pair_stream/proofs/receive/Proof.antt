@@ -7,6 +7,7 @@ use Rattle.bits.specs.Parts.{partOf, byteOfEach}
 use Rattle.pair_spec.specs.History.{depth}
 use Rattle.pair_spec.specs.Receiving.{payloadOut, marks as pairMarks}
 use Rattle.pair_spec.specs.Calls.{ReceiveBuffers}
+use Rattle.pair_spec.specs.CallLaws.{receive-written}
 use Rattle.pair_spec.specs.Stream.{pairReceiver, givenAt}
 use Rattle.pair_spec.specs.StreamLaws.{Streaming, streaming, stream-more, payload-block, marks-block}
 use borrow.Author.Needs.{needs}
@@ -55,4 +56,4 @@ receive-spec =
     (λ c. search kit)  -- same-length
     (λ c. search kit)  -- same-length-2
     (λ c. search kit)  -- same-length-3
-    (λ c. (search kit, search kit, search kit)))  -- returns
+    (λ c. receive-written (search kit) (search kit) (search kit)))  -- returns

@@ -13,6 +13,10 @@ repair-word-spec =
     tie.close
     (tie.spec
     (λ c. search kit)  -- returns
+    (λ c κs. search kit)  -- checks-requires
+    (λ c κs. search kit)  -- powers-requires
+    (λ c κs. search kit)  -- logs-requires
+    (λ c κs. search kit)  -- cubes-requires
     (λ c κs. search kit)  -- repair-in-place-requires
     (λ c κs. search kit)  -- mark-of-requires
     (λ c. search kit)  -- cast-t10

@@ -26,6 +26,6 @@ receive-next-spec =
     (λ c. search needs)  -- same-length-2
     (λ c.
     let made = c .before .before .before .before .before .before .before .before .before .before .before .receive .ensures in (
-      step-history _ _ _ _ _ refl refl _ (made .2),
-      pair-taken _ _ _ _ _ refl refl _ _ _ _ _ _ _ (made .2) (made .0) (made .1) (c .before .before .compare .ensures),
+      step-history _ _ _ _ _ refl refl _ _ _ made,
+      pair-taken _ _ _ _ _ refl refl _ _ _ made _ _ _ _ (c .before .before .compare .ensures),
     )))  -- returns

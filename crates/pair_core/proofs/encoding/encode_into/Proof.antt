@@ -12,6 +12,7 @@ pub encode-into-spec : {M : Type 1} → statement M
 encode-into-spec =
     tie.close
     (tie.spec
+    (λ c κs. search kit)  -- checks-requires
     (λ c. search kit)  -- slice-aggregate-encode-words
     (λ c κs. search kit)  -- encode-words-requires
     (λ c. search kit)  -- slice-aggregate-put-coded

@@ -13,10 +13,10 @@ use Rattle.pair_core.proofs.encoding.encode_words.Tie as tie
 ruleset kit = (needs, by-blocks, back-block)
 
 abbrev Inv-loop : tie.InvT-loop
-Inv-loop history payload pair backs₀ w₀ backs w = Blocks (byteOf (backHalves (encodedWord depth history pair payload))) 16 32 w backs
+Inv-loop history payload pair table backs₀ w₀ backs w = Blocks (byteOf (backHalves (encodedWord depth history pair payload))) 16 32 w backs
 
 abbrev μ-loop : tie.MeasureT-loop
-μ-loop history payload pair backs₀ w₀ backs w = 32 - w
+μ-loop history payload pair table backs₀ w₀ backs w = 32 - w
 
 pub encode-words-spec : {M : Type 1} → statement M
 unfolding pack

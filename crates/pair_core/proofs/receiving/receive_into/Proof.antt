@@ -12,6 +12,10 @@ pub receive-into-spec : {M : Type 1} → statement M
 receive-into-spec =
     tie.close
     (tie.spec
+    (λ c κs. search kit)  -- checks-requires
+    (λ c κs. search kit)  -- powers-requires
+    (λ c κs. search kit)  -- logs-requires
+    (λ c κs. search kit)  -- cubes-requires
     (λ c. search kit)  -- slice-aggregate-receive-words
     (λ c κs. search kit)  -- receive-words-requires
     (λ c. search kit)  -- slice-aggregate-put-payload

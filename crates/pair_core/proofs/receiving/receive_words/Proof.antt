@@ -14,10 +14,10 @@ use Rattle.pair_core.proofs.receiving.receive_words.Tie as tie
 ruleset kit = (needs, by-blocks, fill, back-block)
 
 abbrev Inv-loop : tie.InvT-loop
-Inv-loop history coded pair backs₀ marks₀ w₀ backs marks w = Blocks (byteOf (backHalves (repairedWord depth history pair coded))) 16 32 w backs × Filling (λ i. mark (repairOf depth history pair coded i)) 32 w marks
+Inv-loop history coded pair columns table logs cubes backs₀ marks₀ w₀ backs marks w = Blocks (byteOf (backHalves (repairedWord depth history pair coded))) 16 32 w backs × Filling (λ i. mark (repairOf depth history pair coded i)) 32 w marks
 
 abbrev μ-loop : tie.MeasureT-loop
-μ-loop history coded pair backs₀ marks₀ w₀ backs marks w = 32 - w
+μ-loop history coded pair columns table logs cubes backs₀ marks₀ w₀ backs marks w = 32 - w
 
 pub receive-words-spec : {M : Type 1} → statement M
 unfolding pack marksOf

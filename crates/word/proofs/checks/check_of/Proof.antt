@@ -1,20 +1,32 @@
--- `word::checks::check_of` meets its contract: the array is the table of `word_spec`.
+-- `word::checks::check_of` meets its contract: the sum over the bytes passed.
 -- Assumes nothing.
-use mathlib.Core.Path.{refl}
-use Rattle.word_spec.specs.Checks.{checks}
-use Rattle.word.specs.Checking.{checking}
+use Prim.Native.Nat.{_-_}
+use native.Mathlib.Omega.{arith}
+use Rattle.bits.specs.Xor.{_⊕_}
+use Rattle.bits.specs.Folding.{Summing, summing}
+use Rattle.word.specs.Checking.{byteCheck, checking, summed}
 use borrow.Author.Needs.{needs}
 use Rattle.word.proofs.checks.check_of.Statement.{statement}
 use Rattle.word.proofs.checks.check_of.Tie as tie
 
-ruleset kit = (needs, checking)
+ruleset kit = (needs, summing, checking)
 
-check-with-requires : tie.Need-check-with-requires
-unfolding checks
-check-with-requires c κs = (c .before .before .pre, refl)
+abbrev Inv-loop : tie.InvT-loop
+Inv-loop w table s₀ j₀ s j = Summing (byteCheck w) 32 j s
 
-returns : tie.Need-returns
-returns c = search kit
+abbrev μ-loop : tie.MeasureT-loop
+μ-loop w table s₀ j₀ s j = 32 - j
 
 pub check-of-spec : {M : Type 1} → statement M
-check-of-spec = tie.close (tie.spec check-with-requires returns)
+unfolding _⊕_
+check-of-spec =
+    tie.close
+    (tie.spec
+    Inv-loop
+    μ-loop
+    (λ c. search kit)  -- loop-holds
+    (λ c κs. search kit)  -- check-byte-requires
+    (λ c. search kit)  -- add-j
+    (λ c. search kit)  -- loop-less
+    (λ c. search kit)  -- loop-again
+    (λ c. summed _ _ (c .before .loop .inv) (omega arith)))  -- returns

@@ -13,14 +13,12 @@ unfolding _⊕_
 locate-spec =
     tie.close
     (tie.spec
-    (λ c κs. search kit)  -- cube-requires
+    (λ c κs. search kit)  -- cube-in-requires
     (λ c κs. search kit)  -- place-of-requires
     (λ c. search kit)  -- returns
     (λ c. search kit)  -- returns-2
     (λ c. search kit)  -- returns-3
     (λ c. search kit)  -- returns-4
-    (λ c κs. search kit)  -- powers-requires
-    (λ c κs. search kit)  -- cubes-requires
     (λ c κs. search kit)  -- find-partners-requires
     (λ c κs. search kit)  -- locator-requires
     (λ c κs. search kit)  -- place-of-requires-2

@@ -12,6 +12,6 @@ place-of-spec =
     tie.close
     (tie.spec
     (λ c. search kit)  -- returns
-    (λ c κs. search kit)  -- log-requires
+    (λ c κs. search kit)  -- log-in-requires
     (λ c. search kit)  -- sub-result
     (λ c. search kit))  -- returns-2

@@ -13,7 +13,5 @@ syndromes-of-spec =
     (tie.spec
     (λ c κs. search kit)  -- check-of-requires
     (λ c. search kit)  -- returns
-    (λ c κs. search kit)  -- powers-requires
-    (λ c κs. search kit)  -- cubes-requires
     (λ c κs. search kit)  -- tail-syndromes-requires
     (λ c. search kit))  -- returns-2
