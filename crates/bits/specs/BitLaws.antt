@@ -96,7 +96,7 @@ pack-below n f j = tabulate-below n (byteOf f) 256 (byteOf-lt f) (omega arith) j
 pub bit-pack : (n : ℕ) (f : ℕ → ℕ) (i : ℕ) → i < n * 8 → bit (pack n f) i ≡ f i % 2
 unfolding bit byteOf pack
 bit-pack n f i h =
-    ap (λ (x : ℕ). bitOf 8 x (i % 8)) (getD-tabulate n (byteOf f) (i / 8) (omega arith))
+    ap (λ (x : ℕ). bitOf 8 x (i % 8)) (getD-tabulate n (byteOf f) (i / 8) 0 (omega arith))
     ∙ bitOf-fromBits 8 (λ k. f (i / 8 * 8 + k)) (i % 8) (omega arith)
     ∙ ap (λ (k : ℕ). f k % 2) (omega arith)
 

@@ -1,5 +1,5 @@
--- The invariants of loops that take in one value after the other: bits into a number, first bit first; sums by exclusive or; counts.
--- Of each: none / more / done.
+-- The invariants of loops that take in one value after the other: of any total; bits into a number, first bit first; sums by exclusive or;
+-- counts. Of each: none / more / done.
 -- Assumes nothing.
 use mathlib.Core.Path.{_≡_, refl, sym, ap, ap₂, _∙_}
 use Prim.Native.Nat.{ℕ, suc, _+_, _*_, _^_, _<_, _≤_}
@@ -14,20 +14,21 @@ use Rattle.bits.specs.BitLaws.{fromBits-lt, fromBits-next}
 use Rattle.bits.specs.Count.{count}
 use Rattle.bits.specs.Xor.{_⊕_, xorSum}
 
--- acc is what `total` says of the first k of n values of f.
-pub record Folding (total : ℕ → (ℕ → ℕ) → ℕ) (f : ℕ → ℕ) (n k acc : ℕ) : Type 0 where
+-- acc is the total of f over the first k of n turns.
+pub record Folding {F B : Type 0} (total : ℕ → F → B) (f : F) (n k : ℕ) (acc : B) : Type 0 where
   pub upto : k ≤ n
   pub is : acc ≡ total k f
 
-fold-none : (total : ℕ → (ℕ → ℕ) → ℕ) (f : ℕ → ℕ) (n : ℕ) → 0 ≡ total 0 f → Folding total f n 0 0
-fold-none total f n e = record { upto = omega arith; is = e }
+module _ {F B : Type 0} where
+  pub fold-none : (total : ℕ → F → B) (f : F) (n : ℕ) (acc : B) → acc ≡ total 0 f → Folding total f n 0 acc
+  fold-none total f n acc e = record { upto = omega arith; is = e }
 
-fold-more : {total : ℕ → (ℕ → ℕ) → ℕ} {f : ℕ → ℕ} {n k acc : ℕ} (next : ℕ) → Folding total f n k acc → k < n → next ≡ total (suc k) f
-    → Folding total f n (k + 1) next
-fold-more {total} {f} {n} {k} next h l e = record { upto = omega arith; is = e ∙ ap (λ i. total i f) (sym (add-one k)) }
+  pub fold-more : {total : ℕ → F → B} {f : F} {n k : ℕ} {acc : B} (next : B) → Folding total f n k acc → k < n → next ≡ total (suc k) f
+      → Folding total f n (k + 1) next
+  fold-more {total} {f} {n} {k} next h l e = record { upto = omega arith; is = e ∙ ap (λ i. total i f) (sym (add-one k)) }
 
-fold-done : {total : ℕ → (ℕ → ℕ) → ℕ} {f : ℕ → ℕ} {n k acc : ℕ} → Folding total f n k acc → n ≤ k → acc ≡ total n f
-fold-done {total} {f} {n} {k} h l = let e : k ≡ n = omega (arith, h .upto) in h .is ∙ ap (λ i. total i f) e
+  pub fold-done : {total : ℕ → F → B} {f : F} {n k : ℕ} {acc : B} → Folding total f n k acc → n ≤ k → acc ≡ total n f
+  fold-done {total} {f} {n} {k} h l = let e : k ≡ n = omega (arith, h .upto) in h .is ∙ ap (λ i. total i f) e
 
 -- ---- bits into a number
 
@@ -37,7 +38,7 @@ Gathering = Folding fromBits
 
 pub gather-none : (f : ℕ → ℕ) (w : ℕ) → Gathering f w 0 0
 unfolding fromBits
-gather-none f w = fold-none fromBits f w refl
+gather-none f w = fold-none fromBits f w 0 refl
 
 gather-room : {f : ℕ → ℕ} {w k acc : ℕ} → Gathering f w k acc → k < w → acc * 2 + 1 < 2 ^ w
 gather-room {f} {w} {k} {acc} h l = omega (arith, h .is, fromBits-lt k f, pow-suc 2 k, pow-mono {i = suc k} {j = w} l)
@@ -66,7 +67,7 @@ Summing = Folding xorSum
 
 pub sum-none : (f : ℕ → ℕ) (n : ℕ) → Summing f n 0 0
 unfolding xorSum
-sum-none f n = fold-none xorSum f n refl
+sum-none f n = fold-none xorSum f n 0 refl
 
 pub sum-more : {f : ℕ → ℕ} {n k acc : ℕ} (v : ℕ) → Summing f n k acc → k < n → v ≡ f k → Summing f n (k + 1) (acc ⊕ v)
 unfolding xorSum
@@ -83,7 +84,7 @@ Counting = Folding count
 
 pub count-start : (f : ℕ → ℕ) (n : ℕ) → Counting f n 0 0
 unfolding count
-count-start f n = fold-none count f n refl
+count-start f n = fold-none count f n 0 refl
 
 pub count-more : {f : ℕ → ℕ} {n k acc : ℕ} (v : ℕ) → Counting f n k acc → k < n → v ≡ f k → Counting f n (k + 1) (acc + v)
 unfolding count

@@ -3,7 +3,7 @@
 use mathlib.Core.List.{List, [], _∷_}
 use Prim.Native.Nat.{ℕ, zero, suc}
 
--- The n numbers f 0, f 1, .., f (n - 1).
-unfoldable pub tabulate : ℕ → (ℕ → ℕ) → List ℕ
+-- The n values f 0, f 1, .., f (n - 1).
+unfoldable pub tabulate : {A : Type 0} → ℕ → (ℕ → A) → List A
 tabulate zero f = []
 tabulate (suc n) f = let first = f zero in first ∷ tabulate n (λ k. f (suc k))

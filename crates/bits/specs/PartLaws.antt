@@ -45,7 +45,7 @@ module _ (m w : ℕ) (f : ℕ → List ℕ) where
 
   pub endToEnd-at : (y : ℕ) → y < m * w → getD (endToEnd m w f) y 0 ≡ byteOfEach w f y
   unfolding endToEnd
-  endToEnd-at y l = getD-tabulate (m * w) (byteOfEach w f) y l
+  endToEnd-at y l = getD-tabulate (m * w) (byteOfEach w f) y 0 l
 
   pub endToEnd-ext : (g : ℕ → List ℕ) → 0 < w → ((k : ℕ) → k < m → f k ≡ g k) → endToEnd m w f ≡ endToEnd m w g
   unfolding endToEnd
@@ -60,7 +60,7 @@ each-at f w k i pos l = ap₂ (λ b j. getD (f b) j 0) (group-of w pos k i l) (p
 pub each-block : (f : ℕ → List ℕ) (w k : ℕ) (ys : List ℕ) → 0 < w → length ys ≡ w → ys ≡ f k
     → ys ≡ tabulate w (λ i. byteOfEach w f (k * w + i))
 each-block f w k ys pos long e =
-    is-tabulate ys w (λ i. byteOfEach w f (k * w + i)) long (λ i l. ap (λ s. getD s i 0) e ∙ sym (each-at f w k i pos l))
+    is-tabulate 0 ys w (λ i. byteOfEach w f (k * w + i)) long (λ i l. ap (λ s. getD s i 0) e ∙ sym (each-at f w k i pos l))
 
 -- and that block is it.
 pub part-endToEnd : (m w : ℕ) (f : ℕ → List ℕ) (k : ℕ) → 0 < w → k < m → length (f k) ≡ w → partOf w (endToEnd m w f) k ≡ f k

@@ -12,7 +12,7 @@ use Rattle.bits.specs.ListLaws.{length-tabulate, getD-tabulate}
 use Rattle.bits.specs.Bits.{bitOf, bit}
 use Rattle.bits.specs.BitLaws.{bitOf-lt, bitOf-fromBits, fromBits-lt, fromBits-ext, fromBits-bitOf, bit-lt, length-pack, pack-below}
 use Rattle.bits.specs.BitLaws.{bit-pack-of, bits-equal}
-use Rattle.bits.specs.Seeking.{seek-all, none-passes}
+use Rattle.bits.specs.Seeking.{first-none, none-passes}
 use Rattle.bits.specs.DigitLaws.{digit-lt, digits, group-of, place-of, place-lt, group-lt}
 use Rattle.cells_spec.specs.Profile.{Profile, symbolOf, cellsPerBuffer}
 use Rattle.cells_spec.specs.ProfileLaws.{width-pos, buffer-whole, symbol-back, cell-back}
@@ -23,12 +23,11 @@ use Rattle.cells_spec.specs.Cells.{payloadRule, firstIllegal, Legal, sym
 module _ (rule : ℕ → ℕ → Bool) (cells : List ℕ) where
   pub all-legal : length cells ≤ firstIllegal rule cells → Legal rule cells
   unfolding firstIllegal
-  all-legal h = record { legal = none-passes rule cells h }
+  all-legal h = record { legal = none-passes 0 rule cells h }
 
   pub none-illegal : Legal rule cells → length cells ≤ firstIllegal rule cells
   unfolding firstIllegal
-  none-illegal h =
-      omega (arith, seek-all {p = rule} {s = cells} {i = length cells} (record { upto = omega arith; before = h .legal }) (omega arith))
+  none-illegal h = omega (arith, first-none 0 rule cells (h .legal))
 
 module _ (p : Profile) where
   -- ---- buffers by their places
@@ -48,7 +47,7 @@ module _ (p : Profile) where
       → getD (toCells p bits) j 0 ≡ p .cell (symbolAt p bits (j / 2)) (j % 2)
   unfolding toCells cellsAt
   toCells-at bits j l =
-      getD-tabulate (length bits * 8 / p .bits * 2) (cellsAt p bits) j (omega (arith, length-tabulate (length bits * 8 / p .bits * 2) (cellsAt p bits)))
+      getD-tabulate (length bits * 8 / p .bits * 2) (cellsAt p bits) j 0 (omega (arith, length-tabulate (length bits * 8 / p .bits * 2) (cellsAt p bits)))
 
   -- Bit n of the bits is bit n mod w of the symbol of cell n div w.
   pub toBits-bit : (cells : List ℕ) (n : ℕ) → n < length (toBits p cells) * 8

@@ -25,7 +25,7 @@ payloadRule p j v = p .illegal v
 
 -- The index of the first illegal byte; the length where there is none.
 unfoldable pub firstIllegal : (ℕ → ℕ → Bool) → List ℕ → ℕ
-firstIllegal rule cells = first rule cells
+firstIllegal rule cells = first 0 rule cells
 
 -- Every byte is legal.
 pub record Legal (rule : ℕ → ℕ → Bool) (cells : List ℕ) : Type 0 where

@@ -7,7 +7,7 @@ use native.Mathlib.Omega.{arith}
 use borrow.Author.Count.{below-none, below-more}
 use borrow.Author.Tests.{lt-leb}
 use lib.ListN.{length, getD}
-use Rattle.bits.specs.Seeking.{seek-all}
+use Rattle.bits.specs.Seeking.{first-none}
 use Rattle.cells_spec.specs.Cells.{overheadRule, firstIllegal}
 
 -- None of the first i is above top.
@@ -31,7 +31,4 @@ pub ruleset by-highest = (highest-none, highest-more, highest-done)
 -- Where that number is below 16, every byte is legal.
 pub all-low : {s : List ℕ} {top : ℕ} → Highest s (length s) top → top < 16 → length s ≡ firstIllegal overheadRule s
 unfolding firstIllegal overheadRule
-all-low {s} {top} h l =
-    seek-all {p = overheadRule} {s = s} {i = length s}
-    (record { upto = omega arith; before = λ k lk. lt-leb 16 (getD s k 0) (omega (arith, h .within k lk)) })
-    (omega arith)
+all-low {s} {top} h l = first-none 0 overheadRule s (λ k lk. lt-leb 16 (getD s k 0) (omega (arith, h .within k lk)))

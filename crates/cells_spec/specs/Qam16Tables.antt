@@ -7,7 +7,7 @@ use native.Mathlib.Omega.{arith}
 use lib.ListN.{length, getD, set}
 use Rattle.bits.specs.Lists.{tabulate}
 use Rattle.bits.specs.ListLaws.{getD-tabulate}
-use Rattle.bits.specs.Filling.{Filling, fill-none, fill-more, fill-done}
+use Rattle.bits.specs.Filling.{fill-more, Blocks, blocks-none, blocks-done}
 use Rattle.cells_spec.specs.Qam16.{cellByte}
 use Rattle.cells_spec.specs.Qam16Inverse.{byteOfCell}
 use Rattle.cells_spec.specs.Qam16Laws.{cellByte-lt}
@@ -32,7 +32,7 @@ cellBytes-made b x y ex ey = rw (ex, ey)
 
 pub cellBytes-entry : (t : List ℕ) (b : ℕ) → t ≡ symbolCells → b < 256 → getD t b 0 ≡ cellBytes b
 unfolding symbolCells
-cellBytes-entry t b e l = rw e (getD-tabulate 256 cellBytes b l)
+cellBytes-entry t b e l = rw e (getD-tabulate 256 cellBytes b 0 l)
 
 cellBytes-lt : (b : ℕ) → cellBytes b < 4096
 unfolding cellBytes
@@ -71,20 +71,12 @@ unfolding cellSymbols cellSymbol
 symbol-entry t x y e lx ly =
     let d : (x * 16 + y) / 16 ≡ x = omega arith in
     let m : (x * 16 + y) % 16 ≡ y = omega arith in
-    rw e (getD-tabulate 256 cellSymbol (x * 16 + y) (omega arith) ∙ rw (d, m))
+    rw e (getD-tabulate 256 cellSymbol (x * 16 + y) 0 (omega arith) ∙ rw (d, m))
 
--- ---- a buffer that is filled two bytes at a time: none / more / done
+-- ---- cells that are put one by one, as blocks of two bytes
 
--- The first i of m cells are f's.
-pub record CellsFilled (f : ℕ → ℕ) (m i : ℕ) (d : List ℕ) : Type 0 where
-  pub turns : i ≤ m
-  pub filled : Filling f (m * 2) (i * 2) d
-
-pub filled-none : (f : ℕ → ℕ) (m : ℕ) (d : List ℕ) → length d ≡ m * 2 → CellsFilled f m 0 d
-filled-none f m d e = record { turns = omega arith; filled = fill-none f (m * 2) d e }
-
-pub filled-more : {f : ℕ → ℕ} {m i : ℕ} {d : List ℕ} (v w : ℕ) → CellsFilled f m i d → i < m → v ≡ f (i * 2) → w ≡ f (i * 2 + 1)
-    → CellsFilled f m (i + 1) (set (set d (i * 2) v) (i * 2 + 1) w)
+pub filled-more : {f : ℕ → ℕ} {m i : ℕ} {d : List ℕ} (v w : ℕ) → Blocks f 2 m i d → i < m → v ≡ f (i * 2) → w ≡ f (i * 2 + 1)
+    → Blocks f 2 m (i + 1) (set (set d (i * 2) v) (i * 2 + 1) w)
 filled-more {f} {m} {i} {d} v w h l ev ew =
     record {
       turns = omega arith;
@@ -94,14 +86,11 @@ filled-more {f} {m} {i} {d} v w h l ev ew =
     }
 
 -- The second byte of the next cell stands in the buffer.
-pub filled-second : {f : ℕ → ℕ} {m i : ℕ} {d : List ℕ} → CellsFilled f m i d → i < m → i * 2 + 1 < length d
+pub filled-second : {f : ℕ → ℕ} {m i : ℕ} {d : List ℕ} → Blocks f 2 m i d → i < m → i * 2 + 1 < length d
 filled-second h l = omega (arith, h .filled .long)
 
-filled-done : {f : ℕ → ℕ} {m i : ℕ} {d : List ℕ} → CellsFilled f m i d → m ≤ i → d ≡ tabulate (m * 2) f
-filled-done {f} {m} {i} h l = fill-done (h .filled) (omega arith)
-
-pub filled-cells : (bits : List ℕ) {i : ℕ} {d : List ℕ} → CellsFilled (cellsByte bits) (length bits) i d → length bits ≤ i
+pub filled-cells : (bits : List ℕ) {i : ℕ} {d : List ℕ} → Blocks (cellsByte bits) 2 (length bits) i d → length bits ≤ i
     → d ≡ toCells qam16 bits
-filled-cells bits {i} {d} h l = cells-filled bits d (length bits * 2) refl (filled-done h l)
+filled-cells bits {i} {d} h l = cells-filled bits d (length bits * 2) refl (blocks-done (length bits * 2) h l refl)
 
-pub ruleset by-filled-cells = (filled-none, filled-more, filled-second, filled-cells)
+pub ruleset by-filled-cells = (blocks-none, filled-more, filled-second, filled-cells)

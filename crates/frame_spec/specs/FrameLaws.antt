@@ -41,7 +41,7 @@ pub framed-at : (s : ℕ) (payload own : List ℕ) (m h : ℕ) → m < 3712 → 
     → getD (framed s payload own) (m * 2 + h) 0 ≡ frameByte s payload own m h
 unfolding framed frameAt
 framed-at s payload own m h lm lh =
-    getD-tabulate 7424 (frameAt s payload own) (m * 2 + h) (omega arith) ∙ ap₂ (frameByte s payload own) (cell-of m h lh) (half-of m h lh)
+    getD-tabulate 7424 (frameAt s payload own) (m * 2 + h) 0 (omega arith) ∙ ap₂ (frameByte s payload own) (cell-of m h lh) (half-of m h lh)
 
 -- Payload cells hold the payload, whatever the overhead list is; overhead cells hold the overhead list.
 pub framed-payload : (s : ℕ) (payload own : List ℕ) (m h : ℕ) → m < 3712 → h < 2 → isOverhead s m ≡ false
@@ -58,7 +58,7 @@ pub unframed-byte : (s : ℕ) (frame : List ℕ) (y h : ℕ) → y < payloadCell
     → getD (unframed s frame) (y * 2 + h) 0 ≡ getD frame (payloadCell s y * 2 + h) 0
 unfolding unframed payloadAt
 unframed-byte s frame y h ly lh =
-    getD-tabulate (payloadCells s * 2) (payloadAt s frame) (y * 2 + h) (omega arith)
+    getD-tabulate (payloadCells s * 2) (payloadAt s frame) (y * 2 + h) 0 (omega arith)
     ∙ ap₂ (λ k i. getD frame (payloadCell s k * 2 + i) 0) (cell-of y h lh) (half-of y h lh)
 
 -- The payload by cells of the frame: a payload cell comes out at its index.

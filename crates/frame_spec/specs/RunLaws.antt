@@ -24,7 +24,7 @@ groupAt s payload own i k = frameAt s payload own (i * 64 + k)
 
 -- What was copied number by number is what was there.
 pub copied : (n : ℕ) (f : ℕ → ℕ) (t d : List ℕ) → d ≡ tabulate n (λ k. getD t k 0) → t ≡ tabulate n f → d ≡ tabulate n f
-copied n f t d e p = e ∙ tabulate-ext n (λ k. getD t k 0) f (λ k l. ap (λ z. getD z k 0) p ∙ getD-tabulate n f k l)
+copied n f t d e p = e ∙ tabulate-ext n (λ k. getD t k 0) f (λ k l. ap (λ z. getD z k 0) p ∙ getD-tabulate n f k 0 l)
 
 -- The payload before a group past the edge.
 pub run-from : (s i g : ℕ) → g ≡ gap s → edge s ≤ i * 32 → (g + 1) * 2 ≤ i * 62
@@ -60,7 +60,7 @@ module _ (s : ℕ) (payload own : List ℕ) (i g : ℕ) (gis : g ≡ gap s) (l :
   pub group-put : (t d : List ℕ) → t ≡ tabulate 64 (λ k. getD payload (i * 62 - (g + 1) * 2 + k) 0) → d ≡ tabulate 64 (λ k. getD t k 0)
       → set (set d 0 (getD own ((i + g) * 2) 0)) 1 (getD own ((i + g) * 2 + 1) 0) ≡ tabulate 64 (groupAt s payload own i)
   group-put t d et ed =
-      is-tabulate (set (set d 0 u) 1 v) 64 (groupAt s payload own i) (length-set (set d 0 u) 1 v ∙ length-set d 0 u ∙ long) byte
+      is-tabulate 0 (set (set d 0 u) 1 v) 64 (groupAt s payload own i) (length-set (set d 0 u) 1 v ∙ length-set d 0 u ∙ long) byte
     where
       u : ℕ
       u = getD own ((i + g) * 2) 0
@@ -79,7 +79,7 @@ module _ (s : ℕ) (payload own : List ℕ) (i g : ℕ) (gis : g ≡ gap s) (l :
       byte (suc (suc k)) lk =
           getD-set-other (set d 0 u) 1 (suc (suc k)) v 0 (omega arith) ∙ getD-set-other d 0 (suc (suc k)) u 0 (omega arith)
           ∙ ap (λ z. getD z (suc (suc k)) 0) (copied 64 (λ n. getD payload (i * 62 - (g + 1) * 2 + n) 0) t d ed et)
-          ∙ getD-tabulate 64 (λ n. getD payload (i * 62 - (g + 1) * 2 + n) 0) (suc (suc k)) lk ∙ group-run (suc (suc k)) (omega arith) lk
+          ∙ getD-tabulate 64 (λ n. getD payload (i * 62 - (g + 1) * 2 + n) 0) (suc (suc k)) 0 lk ∙ group-run (suc (suc k)) (omega arith) lk
 
 pub ruleset by-groups = (run-from, run-inside, group-put)
 

@@ -5,7 +5,6 @@ ghost use lib.ListN.{length};
 ghost use Rattle.bits.specs.Bits.{pack};
 ghost use Rattle.bits.specs.Lists.{tabulate};
 ghost use Rattle.interleaver_spec.specs.BlockBuffer.{laid, pairsWords, sentWords, wordsBlock, reorderedIn, reorderedRow, outputBit, columnByte};
-ghost use Rattle.interleaver_spec.specs.Laying.{Held};
 use crate::buffer::block_row_word;
 use crate::buffer::lay;
 use crate::rows::block_row_of;
@@ -66,7 +65,7 @@ fn reordered_row(words: &[u16; 128]) -> [u16; 128]
 // All block rows, reordered.
 pub fn reordered_rows(pairs0: &[u8], pairs1: &[u8]) -> [[u16; 128]; 84]
     requires { ⌜ (length (now pairs0) ≡ 10752) × (length (now pairs1) ≡ 10752) ⌝ }
-    ensures { λ r. ⌜ Held (reorderedRow (now (pairs0 .entry)) (now (pairs1 .entry))) 84 r ⌝ }
+    ensures { λ r. ⌜ r ≡ tabulate 84 (reorderedRow (now (pairs0 .entry)) (now (pairs1 .entry))) ⌝ }
 {
     let none = [0u16; 128];
     let mut rows = [none; 84];

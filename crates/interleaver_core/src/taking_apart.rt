@@ -5,7 +5,6 @@ ghost use lib.ListN.{length};
 ghost use Rattle.bits.specs.Bits.{pack};
 ghost use Rattle.bits.specs.Lists.{tabulate};
 ghost use Rattle.interleaver_spec.specs.BlockBuffer.{lineColumns, restoredRow, heldBit, rowByte};
-ghost use Rattle.interleaver_spec.specs.Laying.{Held};
 use crate::buffer::block_row_word;
 use crate::buffer::lay;
 use crate::rows::output_byte;
@@ -40,7 +39,7 @@ fn restored_row(bits: &[u8], k: BlockRow) -> [u16; 128]
 // All block rows, restored.
 pub fn restored_rows(bits: &[u8]) -> [[u16; 128]; 84]
     requires { ⌜ length (now bits) ≡ 21504 ⌝ }
-    ensures { λ r. ⌜ Held (restoredRow (now (bits .entry))) 84 r ⌝ }
+    ensures { λ r. ⌜ r ≡ tabulate 84 (restoredRow (now (bits .entry))) ⌝ }
 {
     let none = [0u16; 128];
     let mut rows = [none; 84];

@@ -1,7 +1,7 @@
 -- Laws of the block rows of a buffer.
 -- Assumes nothing.
 use mathlib.Core.Path.{_≡_, refl, sym, ap, ap₂, _∙_}
-use mathlib.Core.List.{List}
+use mathlib.Core.List.{List, []}
 use Prim.Native.Nat.{ℕ, _+_, _-_, _*_, _/_, _%_, _^_, _<_, _≤_}
 use native.Mathlib.Omega.{arith}
 use borrow.Author.Tests.{eq-eqb, ne-eqb}
@@ -30,7 +30,6 @@ use Rattle.interleaver_spec.specs.BlockBuffer.{laidWord, laid, blockRowW
 use Rattle.interleaver_spec.specs.BlockBuffer.{reorderedIn, sentBlock, reorderedBlock, reorderedRow, partsBit, outputBit, columnByte}
 use Rattle.interleaver_spec.specs.BlockBuffer.{linePlace, lineBlock, lineColumn, lineColumns, restoredBlock, restoredRow, rowByte}
 use Rattle.interleaver_spec.specs.BlockBuffer.{heldBit}
-use Rattle.interleaver_spec.specs.Laying.{Held}
 
 -- ---- a word of the buffer by its block row, block and number
 
@@ -41,13 +40,13 @@ word-number : (i C : ℕ) → C < 8 → (8 * i + C) / 8 ≡ i
 word-number i C l = omega arith
 
 held-is : (f : ℕ → List ℕ) (g : BlockRow → ℕ → List ℕ) → ((x : ℕ) → f x ≡ laid (g (record { 0 = x }))) → (rows : List (List ℕ))
-    → Held f 84 rows
+    → rows ≡ tabulate 84 f
     → (k : BlockRow) (C i j : ℕ) → k .0 < 84 → C < 8 → i < 16 → bitOf 16 (blockRowWord rows k (8 * i + C)) j ≡ bitAt (g k C) i j
 unfolding blockRowWord bitAt laid laidWord
 held-is f g by rows h k C i j lk lC li =
-    ap (λ r. bitOf 16 (getD r (8 * i + C) 0) j) (h .at (k .0) lk ∙ by (k .0))
+    ap (λ r. bitOf 16 (getD r (8 * i + C) 0) j) (ap (λ t. getD t (k .0) []) h ∙ getD-tabulate 84 f (k .0) [] lk ∙ by (k .0))
     ∙ ap (λ w. bitOf 16 w j)
-    (getD-tabulate 128 (laidWord (g k)) (8 * i + C) (omega arith)
+    (getD-tabulate 128 (laidWord (g k)) (8 * i + C) 0 (omega arith)
     ∙ ap₂ (λ x y. getD (g k x) y 0) (word-block i C lC) (word-number i C lC))
 
 -- ---- from pairs to bits, as code finds them
@@ -86,7 +85,7 @@ block-words pairs0 pairs1 k C lC = tabulate-ext 16 (λ r. turned (getD (pairsWor
     row : (r : ℕ) → r < 16 → turned (getD (pairsWords s k) (8 * r + C) 0) 8 ≡ rowWord (pairsPlace s k C) r
     row r lr =
         ap (λ z. turned z 8)
-        (getD-tabulate 128 (pairsWord s k) (8 * r + C) (omega arith)
+        (getD-tabulate 128 (pairsWord s k) (8 * r + C) 0 (omega arith)
         ∙ ap₂ (λ x y. fromBits 16 (λ c. pairsPlace s k x y ((c + 8) % 16))) (word-block r C lC) (word-number r C lC))
         ∙ fromBits-ext 16 (λ c. bitOf 16 (fromBits 16 (λ d. pairsPlace s k C r ((d + 8) % 16))) ((c + 8) % 16)) (pairsPlace s k C r)
         (λ c lc.
@@ -136,7 +135,7 @@ eight-byte rows column x y k w p q lw lx ly =
         )
 
 -- Of reordered block rows the output bits are the buffer's.
-module _ (pairs0 pairs1 : List ℕ) (rows : List (List ℕ)) (h : Held (reorderedRow pairs0 pairs1) 84 rows) where
+module _ (pairs0 pairs1 : List ℕ) (rows : List (List ℕ)) (h : rows ≡ tabulate 84 (reorderedRow pairs0 pairs1)) where
   reordered-place : (k : BlockRow) (C i j : ℕ) → i < 16 → j < 16
       → bitAt (reorderedBlock pairs0 pairs1 k C) j i
       ≡ bit (pairsOf pairs0 pairs1 (k .0 % 2)) (pairsBit (k .0 / 2) C (sourceRow i j) (sourceColumn i j))
@@ -158,7 +157,7 @@ module _ (pairs0 pairs1 : List ℕ) (rows : List (List ℕ)) (h : Held (reordere
       last : (x : ℕ) → x % 16 < 16
       last x = omega arith
 
-pub interleaved-rows : (pairs0 pairs1 : List ℕ) (rows : List (List ℕ)) (bits : List ℕ) → Held (reorderedRow pairs0 pairs1) 84 rows
+pub interleaved-rows : (pairs0 pairs1 : List ℕ) (rows : List (List ℕ)) (bits : List ℕ) → rows ≡ tabulate 84 (reorderedRow pairs0 pairs1)
     → bits ≡ pack 21504 (outputBit rows) → bits ≡ interleaved pairs0 pairs1
 unfolding interleaved
 interleaved-rows pairs0 pairs1 rows bits h e =
@@ -251,7 +250,7 @@ from-at : (e m : ℕ)
 unfolding outputFrom outputFor
 from-at e m = refl
 
-module _ (bits : List ℕ) (rows : List (List ℕ)) (h : Held (restoredRow bits) 84 rows) where
+module _ (bits : List ℕ) (rows : List (List ℕ)) (h : rows ≡ tabulate 84 (restoredRow bits)) where
   restored-place : (k : BlockRow) (C r c : ℕ) → r < 16 → c < 16
       → bitAt (restoredBlock bits k C) r c ≡ bit bits (outputAt k (record { 0 = targetRow r c }) (16 * C + targetColumn r c))
   unfolding restoredBlock linePlace
@@ -268,7 +267,7 @@ module _ (bits : List ℕ) (rows : List (List ℕ)) (h : Held (restoredRow bits)
       ∙ restored-place (blockRow e (m / 2048)) (m % 128 / 16) (m % 2048 / 128) (m % 16) (omega arith) (omega arith)
       ∙ ap (bit bits) (from-at e m ∙ sym (outputOf-is e m le lm))
 
-pub apart-rows : (bits : List ℕ) (rows : List (List ℕ)) (e : ℕ) (pairs : List ℕ) → e < 2 → Held (restoredRow bits) 84 rows
+pub apart-rows : (bits : List ℕ) (rows : List (List ℕ)) (e : ℕ) (pairs : List ℕ) → e < 2 → rows ≡ tabulate 84 (restoredRow bits)
     → pairs ≡ pack 10752 (heldBit rows e) → pairs ≡ apart bits e
 unfolding apart
 apart-rows bits rows e pairs le h q =

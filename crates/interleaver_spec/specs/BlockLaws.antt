@@ -27,7 +27,7 @@ bitAt-lt b i j = bitOf-lt 16 (getD b i 0) j
 
 pub bitAt-block : (f : ℕ → ℕ → ℕ) (i j : ℕ) → i < 16 → j < 16 → bitAt (block f) i j ≡ f i j % 2
 unfolding bitAt block rowWord
-bitAt-block f i j hi hj = ap (λ x. bitOf 16 x j) (getD-tabulate 16 (rowWord f) i hi) ∙ bitOf-fromBits 16 (f i) j hj
+bitAt-block f i j hi hj = ap (λ x. bitOf 16 x j) (getD-tabulate 16 (rowWord f) i 0 hi) ∙ bitOf-fromBits 16 (f i) j hj
 
 -- The same where f gives bits.
 pub bitAt-block-of : (f : ℕ → ℕ → ℕ) → ((i j : ℕ) → f i j < 2) → (i j : ℕ) → i < 16 → j < 16 → bitAt (block f) i j ≡ f i j

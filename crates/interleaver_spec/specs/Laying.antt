@@ -1,13 +1,12 @@
--- The invariants of the loops that make block rows: words of a block into a block row, block after block, block row after block row.
+-- The invariants of the loops that make block rows: words of a block into a block row, block after block.
 -- Of each: none / more / done.
 -- Assumes nothing.
 use mathlib.Core.Path.{_≡_, refl, sym, ap, _∙_}
-use mathlib.Core.List.{List, []}
+use mathlib.Core.List.{List}
 use mathlib.Core.Logic.{_≢_}
 use Prim.Native.Nat.{ℕ, _+_, _*_, _/_, _%_, _<_, _≤_}
 use native.Mathlib.Decide.{ℕ-discrete}
 use native.Mathlib.Omega.{arith}
-use borrow.Author.Count.{below-none, below-more}
 use borrow.Author.Tests.{eq-eqb, ne-eqb}
 use lib.ListN.{length, getD, set, length-set}
 use lib.Seq.{getD-set-same, getD-set-other}
@@ -48,7 +47,7 @@ laying-more {from} {C} {b} {i} {row} v h l lC e =
 
 pub laying-done : {from : List ℕ} {C : ℕ} {b : List ℕ} {i : ℕ} {row : List ℕ} → Laying from C b i row → 16 ≤ i → row ≡ laidIn from C b
 unfolding laidIn laidAt
-laying-done {from} {C} {b} {i} {row} h l = is-tabulate row 128 (laidAt from C b) (h .long) (λ x lx. here x lx (ℕ-discrete (x % 8) C))
+laying-done {from} {C} {b} {i} {row} h l = is-tabulate 0 row 128 (laidAt from C b) (h .long) (λ x lx. here x lx (ℕ-discrete (x % 8) C))
   where
     here : (x : ℕ) → x < 128 → Dec (x % 8 ≡ C) → getD row x 0 ≡ laidAt from C b x
     here x lx (yes p) = h .new x lx p (omega arith) ∙ simp (eq-eqb (x % 8) C p)
@@ -74,7 +73,7 @@ laid-more {f} {C} {from} b row h l e p =
     record {
       upto = omega arith;
       long = ap length e ∙ length-tabulate 128 (laidAt from C b);
-      at = λ x lx q. ap (λ r. getD r x 0) e ∙ getD-tabulate 128 (laidAt from C b) x lx ∙ here x lx q (ℕ-discrete (x % 8) C);
+      at = λ x lx q. ap (λ r. getD r x 0) e ∙ getD-tabulate 128 (laidAt from C b) x 0 lx ∙ here x lx q (ℕ-discrete (x % 8) C);
     }
   where
     here : (x : ℕ) → x < 128 → x % 8 < C + 1 → Dec (x % 8 ≡ C) → laidAt from C b x ≡ laidWord f x
@@ -83,33 +82,6 @@ laid-more {f} {C} {from} b row h l e p =
 
 pub laid-done : {f : ℕ → List ℕ} {C : ℕ} {row : List ℕ} → Laid f C row → 8 ≤ C → row ≡ laid f
 unfolding laid
-laid-done {f} {C} {row} h l = is-tabulate row 128 (laidWord f) (h .long) (λ x lx. h .at x lx (omega arith))
+laid-done {f} {C} {row} h l = is-tabulate 0 row 128 (laidWord f) (h .long) (λ x lx. h .at x lx (omega arith))
 
 pub ruleset laying = (laid-none, laid-more, laid-done)
-
--- ---- the block rows of a buffer
-
--- The first x of 84 block rows are f's.
-pub record Held (f : ℕ → List ℕ) (x : ℕ) (rows : List (List ℕ)) : Type 0 where
-  pub upto : x ≤ 84
-  pub long : length rows ≡ 84
-  pub at : (y : ℕ) → y < x → getD rows y [] ≡ f y
-
-pub held-none : (f : ℕ → List ℕ) (rows : List (List ℕ)) → length rows ≡ 84 → Held f 0 rows
-held-none f rows e = record { upto = omega arith; long = e; at = below-none (λ y. getD rows y [] ≡ f y) }
-
-pub held-more : {f : ℕ → List ℕ} {x : ℕ} {rows : List (List ℕ)} (b : List ℕ) → Held f x rows → x < 84 → b ≡ f x
-    → Held f (x + 1) (set rows x b)
-held-more {f} {x} {rows} b h l e =
-    record {
-      upto = omega arith;
-      long = length-set rows x b ∙ h .long;
-      at = below-more (λ y. getD (set rows x b) y [] ≡ f y) x
-          (λ y ly. let ne : y ≢ x = omega arith in getD-set-other rows x y b [] ne ∙ h .at y ly)
-          (getD-set-same rows x b [] (omega (arith, h .long)) ∙ e);
-    }
-
-pub held-done : {f : ℕ → List ℕ} {x : ℕ} {rows : List (List ℕ)} → Held f x rows → 84 ≤ x → Held f 84 rows
-held-done h l = record { upto = omega arith; long = h .long; at = λ y ly. h .at y (omega arith) }
-
-pub ruleset hold = (held-none, held-more, held-done)

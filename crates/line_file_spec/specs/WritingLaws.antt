@@ -51,7 +51,7 @@ module _ (numbers : List ℕ) (k : ℕ) (l : k < 4) where
   byte-at j h =
       let a : (4 * k + j) / 4 ≡ k = omega arith in
       let b : (4 * k + j) % 4 ≡ j = omega arith in
-      getD-tabulate 16 (λ i. numberByte (getD numbers (i / 4) 0) (i % 4)) (4 * k + j) (omega arith) ∙ rw (a, b)
+      getD-tabulate 16 (λ i. numberByte (getD numbers (i / 4) 0) (i % 4)) (4 * k + j) 0 (omega arith) ∙ rw (a, b)
 
   byte-at-first : getD (headerBytes numbers) (4 * k) 0 ≡ numberByte (getD numbers k 0) 0
   byte-at-first = ap (λ (i : ℕ). getD (headerBytes numbers) i 0) (sym (add-zero (4 * k))) ∙ byte-at 0 (omega arith)

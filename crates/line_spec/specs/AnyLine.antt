@@ -5,6 +5,8 @@ use mathlib.Core.List.{List, []}
 use Prim.Native.Nat.{ℕ, _+_, _*_, _/_, _%_, _<_}
 use native.Mathlib.Omega.{arith}
 use lib.ListN.{length, getD}
+use Rattle.bits.specs.Lists.{tabulate}
+use Rattle.bits.specs.ListLaws.{length-tabulate, getD-tabulate}
 use Rattle.bits.specs.Bits.{bit, pack}
 use Rattle.bits.specs.BitLaws.{bit-pack}
 use Rattle.pair_spec.specs.Rows.{RowBits}
@@ -14,10 +16,10 @@ use Rattle.interleaver_spec.specs.InterleavingLaws.{length-interleaved}
 use Rattle.cells_spec.specs.Profile.{Profile, cellsPerBuffer, rowsIn}
 use Rattle.cells_spec.specs.Cells.{overheadRule, payloadRule, Legal, toCells}
 use Rattle.cells_spec.specs.CellLaws.{toCells-legal, buffer-cells}
-use Rattle.line_spec.specs.Sides.{Side, side0, side1, buffers}
+use Rattle.line_spec.specs.Sides.{Side, side0, side1}
 use Rattle.line_spec.specs.Line.{lineBit}
 use Rattle.line_spec.specs.Inward.{LentIn, ReceivedLine}
-use Rattle.line_spec.specs.LineLaws.{length-buffers, getD-buffers, line-pairs}
+use Rattle.line_spec.specs.LineLaws.{line-pairs}
 use Rattle.line_spec.specs.FramedLine.{frameOf, framed-length-at, framed-legal-at, on-line}
 
 -- The 21 pairs of buffer b that hold the bits W.
@@ -70,7 +72,7 @@ module _ (p : Profile) (n : ℕ) (W : Side → RowBits) (overhead : List ℕ) (o
   any-bits b lent = (
     record {
       frames = line;
-      many = length-buffers (48 * n) (frameOf p cells overhead);
+      many = length-tabulate (48 * n) (frameOf p cells overhead);
       long = framed-length-at p cells cells-long n overhead line is;
       legal = framed-legal-at p cells cells-long n overhead line is cells-legal olong olegal;
       overhead = overhead;
@@ -85,7 +87,7 @@ module _ (p : Profile) (n : ℕ) (W : Side → RowBits) (overhead : List ℕ) (o
   )
     where
       line : List (List ℕ)
-      line = buffers (48 * n) (frameOf p cells overhead)
+      line = tabulate (48 * n) (frameOf p cells overhead)
 
       is : (f : ℕ) → f < 48 * n → getD line f [] ≡ frameOf p cells overhead f
-      is = getD-buffers (48 * n) (frameOf p cells overhead)
+      is f l = getD-tabulate (48 * n) (frameOf p cells overhead) f [] l

@@ -33,7 +33,7 @@ module _ (p : Profile) (cells : ℕ → List ℕ) where
   payload-at : (f i : ℕ) → i < payloadCells (f % 48) * 2
       → getD (framePayloadOf f) i 0 ≡ payloadByteOf (f / 48) (payloadStart (f % 48) + i / 2) (i % 2)
   unfolding framePayloadOf
-  payload-at f i l = getD-tabulate (payloadCells (f % 48) * 2) (λ i. payloadByteOf (f / 48) (payloadStart (f % 48) + i / 2) (i % 2)) i l
+  payload-at f i l = getD-tabulate (payloadCells (f % 48) * 2) (λ i. payloadByteOf (f / 48) (payloadStart (f % 48) + i / 2) (i % 2)) i 0 l
 
   pub payload-length : (f : ℕ) → length (framePayloadOf f) ≡ payloadCells (f % 48) * 2
   unfolding framePayloadOf

@@ -3,12 +3,13 @@
 use mathlib.Core.Path.{_≡_}
 use Prim.Native.Nat.{ℕ, _/_, _<_}
 use lib.ListN.{length, replicate}
+use Rattle.bits.specs.Lists.{tabulate}
 use Rattle.calls.specs.Answers.{TurnedBack}
 use Rattle.calls.specs.Sequences.{At, accepted}
 use Rattle.pair_spec.specs.Calls.{encode, Encodings, Receiving, receive, Receivings, payloads}
 use Rattle.pair_spec.specs.Promise.{wrongBits, NotLost, Lost}
 use Rattle.cells_spec.specs.Profiles.{qam16}
-use Rattle.line_spec.specs.Sides.{Side, side0, buffers}
+use Rattle.line_spec.specs.Sides.{Side, side0}
 use Rattle.line_spec.specs.Line.{lineBit}
 use Rattle.line_spec.specs.Outward.{Outward}
 use Rattle.line_spec.specs.Inward.{Inward}
@@ -20,7 +21,7 @@ pub record OneSuperFrame (o : Outward qam16) (i : Inward qam16 o) : Type 0 where
   pub one : o .superframes ≡ 1
   -- 168 pairs of each encoder, payload zero, all of them received.
   pub sent : (e : Side) → length (accepted Encodings (o .calls e)) ≡ 168
-  pub zero : (e : Side) → payloads (o .calls e) ≡ buffers 168 (λ P. replicate 444 0)
+  pub zero : (e : Side) → payloads (o .calls e) ≡ tabulate 168 (λ P. replicate 444 0)
   pub taken : (e : Side) → length (accepted Receivings (i .calls e)) ≡ 168
   -- A refused call before each accepted one and after the last.
   pub refused : TurnedBack (encode emptyEncoding .answer) × TurnedBack (receive emptyReceiving .answer)

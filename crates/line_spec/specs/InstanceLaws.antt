@@ -1,11 +1,13 @@
 -- There is such a run.
 -- Assumes nothing.
 use mathlib.Core.Path.{_≡_, refl, sym, ap, _∙_}
-use mathlib.Core.List.{List}
+use mathlib.Core.List.{List, []}
 use Prim.Native.Nat.{ℕ, _*_, _%_, _≤_}
 use native.Mathlib.Omega.{arith}
 use lib.Dec.{leb}
 use lib.ListN.{length, replicate, length-replicate, getD-replicate}
+use Rattle.bits.specs.Lists.{tabulate}
+use Rattle.bits.specs.ListLaws.{length-tabulate, getD-tabulate}
 use Rattle.calls.specs.Answers.{TurnedBack}
 use Rattle.word_spec.specs.Marks.{markMeaning}
 use Rattle.pair_spec.specs.Calls.{Encoding, encode, Encodings}
@@ -14,10 +16,9 @@ use Rattle.cells_spec.specs.Profile.{cellsPerBuffer, pairsIn, rowsIn}
 use Rattle.cells_spec.specs.Profiles.{qam16, qam16-sizes}
 use Rattle.cells_spec.specs.Cells.{overheadRule, Legal}
 use Rattle.frame_spec.specs.Frames.{payloadCells}
-use Rattle.line_spec.specs.Sides.{Side, side0, side1, buffers}
+use Rattle.line_spec.specs.Sides.{Side, side0, side1}
 use Rattle.line_spec.specs.Outward.{LentOut, Outward}
 use Rattle.line_spec.specs.Inward.{LentIn, Inward}
-use Rattle.line_spec.specs.LineLaws.{length-buffers, getD-buffers}
 use Rattle.line_spec.specs.Theorem.{demand3}
 use Rattle.line_spec.specs.CallLists.{withRefused}
 use Rattle.line_spec.specs.CallListLaws.{among-withRefused, withRefused-accepted}
@@ -78,9 +79,9 @@ given =
     record {
       superframes = 1;
       within = omega (arith, qam16-sizes .2);
-      payloads = λ e. buffers (pairsIn qam16 1) (λ P. zeros 444);
-      many = λ e. length-buffers (pairsIn qam16 1) (λ P. zeros 444);
-      long = λ e P l. ap length (getD-buffers (pairsIn qam16 1) (λ P. zeros 444) P l) ∙ zeros-long 444;
+      payloads = λ e. tabulate (pairsIn qam16 1) (λ P. zeros 444);
+      many = λ e. length-tabulate (pairsIn qam16 1) (λ P. zeros 444);
+      long = λ e P l. ap length (getD-tabulate (pairsIn qam16 1) (λ P. zeros 444) P [] l) ∙ zeros-long 444;
       coded = λ e P. zeros 512;
       coded-long = λ e P. zeros-long 512;
       overhead = zeros 12288;
@@ -123,7 +124,7 @@ one-super-frame =
       record {
         one = out .1;
         sent = λ e. o .filled e ∙ all;
-        zero = λ e. out .3 e ∙ ap (λ n. buffers n (λ P. replicate 444 0)) (qam16-sizes .2);
+        zero = λ e. out .3 e ∙ ap (λ n. tabulate n (λ P. replicate 444 0)) (qam16-sizes .2);
         taken = λ e. back .1 .all e ∙ all;
         refused = (refused, empty-receiving-refused);
         between = λ e.

@@ -86,7 +86,7 @@ module _ (p : Profile) (n : ℕ) (h : ReceivedLine p n) where
       record {
         size = cells-length b;
         bytes = λ i li.
-            getD-tabulate (cellsPerBuffer p * 2) (λ k. receivedByte p n h (b / p .bits) (b % p .bits * cellsPerBuffer p + k / 2) (k % 2)) i li
+            getD-tabulate (cellsPerBuffer p * 2) (λ k. receivedByte p n h (b / p .bits) (b % p .bits * cellsPerBuffer p + k / 2) (k % 2)) i 0 li
             ∙ received-byte (b / p .bits) (b % p .bits * cellsPerBuffer p + i / 2) (i % 2) (buffer-lt p b n lb) (cell-lt p b (i / 2) (omega arith)) (omega arith);
       }
 

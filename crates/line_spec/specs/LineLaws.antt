@@ -3,8 +3,7 @@
 -- Assumes nothing.
 use mathlib.Core.Path.{_≡_, refl, sym, ap, ap₂, _∙_}
 use mathlib.Core.List.{List, []}
-use Prim.Native.Nat.{ℕ, zero, suc, _+_, _*_, _/_, _%_, _<_}
-use native.Mathlib.Nat.{le-of-suc-le-suc}
+use Prim.Native.Nat.{ℕ, _+_, _*_, _/_, _%_, _<_}
 use native.Mathlib.Omega.{arith}
 use lib.ListN.{length, getD}
 use Rattle.bits.specs.Lists.{tabulate}
@@ -20,22 +19,9 @@ use Rattle.cells_spec.specs.Profile.{Profile, symbolOf, cellsPerBuffer, buffers
 use Rattle.cells_spec.specs.Cells.{toCells, toBits}
 use Rattle.cells_spec.specs.ProfileLaws.{width-pos, buffer-whole, cells-pos}
 use Rattle.cells_spec.specs.CellLaws.{toBits-bit, buffer-bits, buffer-back}
-use Rattle.line_spec.specs.Sides.{Side, side0, side1, encoder, buffers}
+use Rattle.line_spec.specs.Sides.{Side, side0, side1, encoder}
 use Rattle.line_spec.specs.Line.{outputPosition, payloadCellOf, lineByte, lineBit}
 use Rattle.line_spec.specs.Outward.{pairsOfBuffer}
-
--- ---- lists by place
-
-pub length-buffers : (n : ℕ) (f : ℕ → List ℕ) → length (buffers n f) ≡ n
-unfolding buffers
-length-buffers zero f = refl
-length-buffers (suc n) f = ap suc (length-buffers n (λ k. f (suc k)))
-
-pub getD-buffers : (n : ℕ) (f : ℕ → List ℕ) (i : ℕ) → i < n → getD (buffers n f) i [] ≡ f i
-unfolding buffers
-getD-buffers zero f i l = absurd (omega arith)
-getD-buffers (suc n) f zero l = refl
-getD-buffers (suc n) f (suc i) l = getD-buffers n (λ k. f (suc k)) i (le-of-suc-le-suc l)
 
 -- A bit by its byte and its place there.
 pub part-bit : (s t : List ℕ) (i j : ℕ) → getD s (i / 8) 0 ≡ getD t (j / 8) 0 → i % 8 ≡ j % 8 → bit s i ≡ bit t j
@@ -99,7 +85,7 @@ module _ (R C r c : ℕ) (lC : C < 8) (lr : r < 16) (lc : c < 16) where
   pairs-bit pairs =
       ap (bit (pairsOfBuffer pairs (R / 42))) pairsBit-buffer
       ∙ part-bit (pairsOfBuffer pairs (R / 42)) (getD pairs (R / 2) []) N M
-      (getD-tabulate 10752 (λ i. getD (getD pairs (21 * (R / 42) + i / 512) []) (i % 512) 0) (N / 8) (omega (arith, pairIndex-lt))
+      (getD-tabulate 10752 (λ i. getD (getD pairs (21 * (R / 42) + i / 512) []) (i % 512) 0) (N / 8) 0 (omega (arith, pairIndex-lt))
       ∙ ap₂ (λ P i. getD (getD pairs P []) i 0) (ap (λ p. 21 * (R / 42) + p) (pair-of-bit (R / 2 % 21) M pairIndex-lt) ∙ omega arith)
       (byte-in-pair (R / 2 % 21) M pairIndex-lt))
       (bit-in-byte (R / 2 % 21) M pairIndex-lt)
@@ -116,7 +102,7 @@ module _ (R C r c : ℕ) (lC : C < 8) (lr : r < 16) (lc : c < 16) where
   unfolding pairBit
   cut-bit s =
       part-bit (tabulate 512 (λ i. getD s (512 * (R / 2 % 21) + i) 0)) s M (4096 * (R / 2 % 21) + M)
-      (getD-tabulate 512 (λ i. getD s (512 * (R / 2 % 21) + i) 0) (M / 8) (omega (arith, pairIndex-lt))
+      (getD-tabulate 512 (λ i. getD s (512 * (R / 2 % 21) + i) 0) (M / 8) 0 (omega (arith, pairIndex-lt))
       ∙ ap (λ i. getD s i 0) (sym (eighth (R / 2 % 21) M pairIndex-lt)))
       (sym (bit-in-byte (R / 2 % 21) M pairIndex-lt))
       ∙ ap (bit s) (sym pairsBit-buffer)

@@ -17,7 +17,7 @@ use Rattle.cells_spec.specs.Cells.{overheadRule, Legal}
 use Rattle.cells_spec.specs.Calls.{bitsToCells}
 use Rattle.frame_spec.specs.Frames.{payloadCells, payloadStart}
 use Rattle.frame_spec.specs.Calls.{frameCall}
-use Rattle.line_spec.specs.Sides.{Side, side0, side1, buffers}
+use Rattle.line_spec.specs.Sides.{Side, side0, side1}
 
 -- Output buffers lent to the line calls, of any content and the stated length: bits and cells for each buffer b, a frame for each
 -- sub-frame f of the line.
@@ -74,4 +74,4 @@ module _ (p : Profile) (o : Outward p) where
 
   -- The frames of the line.
   unfoldable pub frames : List (List ℕ)
-  frames = buffers (48 * o .superframes) (λ f. framing f .written)
+  frames = tabulate (48 * o .superframes) (λ f. framing f .written)

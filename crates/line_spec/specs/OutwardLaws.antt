@@ -5,7 +5,7 @@ use mathlib.Core.List.{List, []}
 use Prim.Native.Nat.{ℕ, _+_, _*_, _/_, _%_, _<_, _≤_}
 use native.Mathlib.Omega.{arith}
 use lib.ListN.{length, getD}
-use Rattle.bits.specs.ListLaws.{length-tabulate}
+use Rattle.bits.specs.ListLaws.{length-tabulate, getD-tabulate}
 use Rattle.calls.specs.declared.Answer.the-variants.{Done}
 use Rattle.calls.specs.Answers.{refusalOf}
 use Rattle.calls.specs.Sequences.{At, accepted}
@@ -31,7 +31,7 @@ use Rattle.line_spec.specs.Line.{lineBit}
 use Rattle.line_spec.specs.Outward.{Outward, codedPairs, pairsOfBuffer, interleaving, mapping, payloadByte, framePayload, framing}
 use Rattle.line_spec.specs.Outward.{frames}
 use Rattle.line_spec.specs.Demand3.{Goes}
-use Rattle.line_spec.specs.LineLaws.{length-buffers, getD-buffers, pairs-bit, OnLine, line-pairs}
+use Rattle.line_spec.specs.LineLaws.{pairs-bit, OnLine, line-pairs}
 use Rattle.line_spec.specs.FramedLine as line
 
 -- The coded pair of an accepted call stands at its number.
@@ -110,7 +110,7 @@ module _ (p : Profile) (o : Outward p) where
       → getD (frames p o) f [] ≡ framed (f % 48) (framePayload p o f) (ownOverhead (f % 48) (o .overhead))
   unfolding frames
   frame-is f l =
-      getD-buffers (48 * o .superframes) (λ k. framing p o k .written) f l ∙ ap (λ (a : After (List ℕ)). a .written) (framing-is f)
+      getD-tabulate (48 * o .superframes) (λ k. framing p o k .written) f [] l ∙ ap (λ (a : After (List ℕ)). a .written) (framing-is f)
 
   frame-of-cells : (f : ℕ) → f < 48 * o .superframes → getD (frames p o) f [] ≡ line.frameOf p cells (o .overhead) f
   unfolding line.frameOf
@@ -141,7 +141,7 @@ module _ (p : Profile) (o : Outward p) where
 
   pub frames-many : length (frames p o) ≡ 48 * o .superframes
   unfolding frames
-  frames-many = length-buffers (48 * o .superframes) (λ f. framing p o f .written)
+  frames-many = length-tabulate (48 * o .superframes) (λ f. framing p o f .written)
 
   pub frames-long : (f : ℕ) → f < 48 * o .superframes → length (getD (frames p o) f []) ≡ 7424
   frames-long = line.framed-length-at p cells cells-long (o .superframes) (o .overhead) (frames p o) frame-of-cells

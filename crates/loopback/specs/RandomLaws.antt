@@ -85,5 +85,5 @@ drawn-legal stream n list e =
     rw e
     (record {
       legal = λ k l. let h : k < n = omega (arith, length-tabulate n (drawn stream 16)) in
-          ap (overheadRule k) (getD-tabulate n (drawn stream 16) k h) ∙ lt-leb 16 (drawn stream 16 k) (omega arith);
+          ap (overheadRule k) (getD-tabulate n (drawn stream 16) k 0 h) ∙ lt-leb 16 (drawn stream 16 k) (omega arith);
     })

@@ -84,7 +84,7 @@ module _ (r : Answer) (d payload list frame : List ℕ) (lo : length list ≡ 12
       (no-misfit _ _ _ _ lo (no-misfit _ _ _ _ lf (payload-measured 0 payload _ (payloadCells 0) refl (omega arith) _ (lp ∙ omega (arith, payload-zeroth))
       (sub-frame _ _ _ (omega arith)
       (overhead-illegal 0 list (ownOverhead 0 list) refl 0
-      (seek-hit (seek-none overheadRule (ownOverhead 0 list)) some (ap (leb 16) (own-at 0 list 0 (omega (arith, overhead-zeroth)) ∙ e))) _ 0 refl some)))))))
+      (seek-hit (seek-none 0 overheadRule (ownOverhead 0 list)) some (ap (leb 16) (own-at 0 list 0 (omega (arith, overhead-zeroth)) ∙ e))) _ 0 refl some)))))))
     where
       some : 0 < length (ownOverhead 0 list)
       some = omega (arith, own-length 0 list (omega arith) lo, overhead-zeroth)

@@ -66,7 +66,7 @@ module _ (n : ℕ) (h : List ℕ) (P : ℕ) (p : List ℕ) where
   -- and its mark to the marks.
   pub mark-is : (w : ℕ) → w < 32 → getD (marks n h P p) w 0 ≡ mark (repairOf n h P p w)
   unfolding marks
-  mark-is w l = getD-tabulate 32 (λ w. mark (repairOf n h P p w)) w l
+  mark-is w l = getD-tabulate 32 (λ w. mark (repairOf n h P p w)) w 0 l
 
   -- Words by row and bit row.
   module _ (R r : ℕ) (own-pair : R / 2 ≡ P) (lr : r < 16) where

@@ -43,7 +43,7 @@ pub last-half : (words : ℕ → Word) (w : ℕ) (s b : List ℕ) → b ≡ last
 unfolding pack byteOf lastHalf backHalf
 last-half words w s b p e =
     p ∙ tabulate-ext 16 (λ j. getD s (16 + j) 0) (byteOf (λ k. words w (128 + k)))
-    (λ j l. ap (λ t. getD t (16 + j) 0) e ∙ getD-tabulate 32 (byteOf (words w)) (16 + j) (omega arith)
+    (λ j l. ap (λ t. getD t (16 + j) 0) e ∙ getD-tabulate 32 (byteOf (words w)) (16 + j) 0 (omega arith)
     ∙ fromBits-ext 8 (λ k. words w ((16 + j) * 8 + k)) (λ k. words w (128 + (j * 8 + k))) (λ k lk. ap (λ x. words w x % 2) (omega arith)))
 
 -- and block w of all back halves.

@@ -13,7 +13,7 @@ use Rattle.bits.specs.Filling.{Filling, fill-more}
 -- A byte of a buffer is the number of its bits.
 byte-bits : (s : List ℕ) (n : ℕ) → n < length s → ((i : ℕ) → getD s i 0 < 256) → getD s n 0 ≡ byteOf (bit s) n
 unfolding pack
-byte-bits s n l b = ap (λ t. getD t n 0) (sym (pack-bit s (length s) refl b)) ∙ getD-tabulate (length s) (byteOf (bit s)) n l
+byte-bits s n l b = ap (λ t. getD t n 0) (sym (pack-bit s (length s) refl b)) ∙ getD-tabulate (length s) (byteOf (bit s)) n 0 l
 
 -- Byte j of the bits f is byte n of a buffer that has them there.
 pub byte-copied : (s : List ℕ) (f : ℕ → ℕ) (j n : ℕ) → n < length s → ((i : ℕ) → getD s i 0 < 256)

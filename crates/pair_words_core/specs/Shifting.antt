@@ -45,7 +45,7 @@ pub ruleset moving = (move-none, move-more, move-done)
 
 -- A buffer that is filled with another's numbers is the other.
 pub copy-done : {s : List ℕ} {i : ℕ} {d : List ℕ} → Filling (λ k. getD s k 0) (length s) i d → length s ≤ i → d ≡ s
-copy-done {s} h l = fill-done h l ∙ sym (is-tabulate s (length s) (λ k. getD s k 0) refl (λ k _. refl))
+copy-done {s} h l = fill-done h l ∙ sym (is-tabulate 0 s (length s) (λ k. getD s k 0) refl (λ k _. refl))
 
 -- With the newest pair behind what was moved down, the history is shifted.
 pub shift-is : (h d q r : List ℕ) → 512 ≤ length h → length d ≡ length h → take (length h - 512) d ≡ drop 512 h → r ≡ q

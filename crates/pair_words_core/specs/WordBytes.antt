@@ -8,11 +8,10 @@ use native.Mathlib.Omega.{arith}
 use native.Mathlib.Decide.{decLt}
 use borrow.Author.Tests.{lt-ltb, le-ltb}
 use lib.Dec.{ltb}
-use lib.ListN.{length, getD, replicate}
+use lib.ListN.{length, getD, replicate, getD-replicate}
 use Rattle.bits.specs.Bits.{bit, bitOf, byteOf, fromBits}
 use Rattle.bits.specs.BitLaws.{fromBits-ext}
-use Rattle.bits.specs.Filling.{Filling}
-use Rattle.bits.specs.Tests.{agree}
+use Rattle.bits.specs.Filling.{Filling, fill-ext}
 use Rattle.bits.specs.Xor.{_⊕_}
 use Rattle.word_spec.specs.Completion.{firstBits}
 use Rattle.pair_spec.specs.History.{depth}
@@ -43,27 +42,16 @@ pub front-stored : (h : List ℕ) (P w b : ℕ) (d : List ℕ) → w < 32 → 10
     → Filling (byteOf (frontHeld depth h P w)) 32 16 d
 unfolding frontStored
 front-stored h P w b d lw m f l =
-    record {
-      upto = omega arith;
-      long = f .long;
-      done = λ j lj. f .done j (omega arith)
-          ∙ byteOf-ext (frontStored h w) (frontHeld depth h P w) j (λ k lk. front-held h P w (j * 8 + k) _ _ lw (omega arith) m refl refl);
-    }
-
-zeros : List ℕ
-zeros = replicate 32 0
-
-zero-bytes : (j : ℕ) → j < 32 → getD zeros j 0 ≡ 0
-unfolding zeros
-zero-bytes = agree 32 (λ j. getD zeros j 0) (λ j. 0) tt
+    fill-ext 16 f (omega arith)
+    (λ j lj. byteOf-ext (frontStored h w) (frontHeld depth h P w) j (λ k lk. front-held h P w (j * 8 + k) _ _ lw (omega arith) m refl refl))
 
 pub front-zeros : (h : List ℕ) (P w : ℕ) → w < 32 → P < 10 → Filling (byteOf (frontHeld depth h P w)) 32 16 (replicate 32 0)
-unfolding byteOf fromBits zeros
+unfolding byteOf fromBits
 front-zeros h P w lw m =
     record {
       upto = omega arith;
       long = refl;
-      done = λ j lj. zero-bytes j (omega arith)
+      done = λ z j lj. getD-replicate 32 j 0 z (omega arith)
           ∙ fromBits-ext 8 (λ k. 0) (λ k. frontHeld depth h P w (j * 8 + k)) (λ k lk. ap (λ u. u % 2) (front-none depth h P w (j * 8 + k) lw (omega arith) m));
     }
 
@@ -72,12 +60,8 @@ front-zeros h P w lw m =
 module _ (h p : List ℕ) (P w : ℕ) (size : length h ≡ 512 * depth) (lw : w < 32) where
   pub held-start : (d : List ℕ) → Filling (byteOf (frontHeld depth h P w)) 32 16 d → Filling (byteOf (heldWord depth h P p w)) 32 16 d
   held-start d f =
-      record {
-        upto = f .upto;
-        long = f .long;
-        done = λ j l. f .done j l
-            ∙ byteOf-ext (frontHeld depth h P w) (heldWord depth h P p w) j (λ k lk. held-front depth h p P w size lw deep (j * 8 + k) _ (omega arith) refl);
-      }
+      fill-ext 16 f (omega arith)
+      (λ j l. byteOf-ext (frontHeld depth h P w) (heldWord depth h P p w) j (λ k lk. held-front depth h p P w size lw deep (j * 8 + k) _ (omega arith) refl))
 
   pub held-byte : (j x : ℕ) → 16 ≤ j → j < 32 → x ≡ byteOf (λ i. bit p (codedSource i)) (w * 16 + j - 16)
       → x ≡ byteOf (heldWord depth h P p w) j
@@ -122,12 +106,8 @@ module _ (h y : List ℕ) (P w : ℕ) (lw : w < 32) where
   pub open-start : (d : List ℕ) → Filling (byteOf (frontHeld depth h P w)) 32 16 d
       → Filling (byteOf (firstBits (openWord depth h P y w))) 32 16 d
   open-start d f =
-      record {
-        upto = f .upto;
-        long = f .long;
-        done = λ j l. f .done j l
-            ∙ byteOf-ext (frontHeld depth h P w) (firstBits (openWord depth h P y w)) j (λ k lk. open-front-bit depth h y P w lw (j * 8 + k) _ (omega arith) refl);
-      }
+      fill-ext 16 f (omega arith)
+      (λ j l. byteOf-ext (frontHeld depth h P w) (firstBits (openWord depth h P y w)) j (λ k lk. open-front-bit depth h y P w lw (j * 8 + k) _ (omega arith) refl))
 
   own-is : (k : ℕ) → 128 ≤ k → k < 256 → ownBit y w k ≡ firstBits (openWord depth h P y w) k
   own-is k l m = go (decLt k 224) (decLt k 239)

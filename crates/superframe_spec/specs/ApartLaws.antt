@@ -108,7 +108,7 @@ taken-part : (line : List ℕ) (s : ℕ) → s < 48
     → unframed s (partOf 7424 line s) ≡ tabulate (payloadCells s * 2) (λ k. takenByte line ((payloadStart s * 2 + k) / 2) ((payloadStart s * 2 + k) % 2))
 unfolding takenByte
 taken-part line s ls =
-    is-tabulate (unframed s (partOf 7424 line s)) (payloadCells s * 2) (λ k. takenByte line ((payloadStart s * 2 + k) / 2) ((payloadStart s * 2 + k) % 2))
+    is-tabulate 0 (unframed s (partOf 7424 line s)) (payloadCells s * 2) (λ k. takenByte line ((payloadStart s * 2 + k) / 2) ((payloadStart s * 2 + k) % 2))
     (unframed-length s (partOf 7424 line s)) at
   where
     at : (k : ℕ) → k < payloadCells s * 2
@@ -195,7 +195,7 @@ module _ (p : Profile) (line : List ℕ) (ll : length line ≡ 356352) (hl : Leg
       rw e
       (record {
         legal = λ k lk. let l : k < 344064 = omega (arith, length-tabulate 344064 (λ j. takenByte line (j / 2) (j % 2))) in
-            ap (p .illegal) (getD-tabulate 344064 (λ j. takenByte line (j / 2) (j % 2)) k l) ∙ taken-byte-legal (k / 2) (k % 2) (omega arith) (omega arith);
+            ap (p .illegal) (getD-tabulate 344064 (λ j. takenByte line (j / 2) (j % 2)) k 0 l) ∙ taken-byte-legal (k / 2) (k % 2) (omega arith) (omega arith);
       })
 
 -- ---- the pairs of a buffer

@@ -112,7 +112,7 @@ module _ (p : Profile) (n : ℕ) (h : ReceivedLine p n) where
         → partOf (cellsPerBuffer p * 2) (takenCells (receivedLine q)) b ≡ inward.receivedCells p n h (buffersIn p q + b)
     unfolding inward.receivedCells takenCells
     cells-are b lb =
-        is-tabulate (partOf w2 cells b) w2 (λ i. receivedByte p n h ((buffersIn p q + b) / p .bits) ((buffersIn p q + b) % p .bits * cellsPerBuffer p + i / 2) (i % 2))
+        is-tabulate 0 (partOf w2 cells b) w2 (λ i. receivedByte p n h ((buffersIn p q + b) / p .bits) ((buffersIn p q + b) % p .bits * cellsPerBuffer p + i / 2) (i % 2))
         (partOf-length w2 (p .bits) b lb cells cells-whole) at
       where
         w2 : ℕ
@@ -131,7 +131,7 @@ module _ (p : Profile) (n : ℕ) (h : ReceivedLine p n) where
             let k : ((b * cellsPerBuffer p + i / 2) * 2 + i % 2) % 2 ≡ i % 2 = omega arith in
             partOf-at w2 (p .bits) b lb cells cells-whole i li
             ∙ ap (λ y. getD cells y 0) j
-            ∙ getD-tabulate 344064 (λ y. takenByte (receivedLine q) (y / 2) (y % 2)) ((b * cellsPerBuffer p + i / 2) * 2 + i % 2) (omega arith)
+            ∙ getD-tabulate 344064 (λ y. takenByte (receivedLine q) (y / 2) (y % 2)) ((b * cellsPerBuffer p + i / 2) * 2 + i % 2) 0 (omega arith)
             ∙ ap₂ (takenByte (receivedLine q)) x k
             ∙ byte-is (b * cellsPerBuffer p + i / 2) (i % 2) l
             ∙ ap₂ (λ r t. receivedByte p n h r (t * cellsPerBuffer p + i / 2) (i % 2)) (sym (buffer-of b lb)) (sym (buffer-in b lb))
@@ -151,7 +151,7 @@ module _ (p : Profile) (n : ℕ) (h : ReceivedLine p n) where
     unfolding takenPairs receivedPairs endToEnd receivedPair buffersIn
     pairs-are e =
         sym
-        (is-tabulate (endToEnd (pairsPerSuperframe p) 512 (λ k. receivedPair p n h e (pairsPerSuperframe p * q + k))) (p .bits * 10752) _
+        (is-tabulate 0 (endToEnd (pairsPerSuperframe p) 512 (λ k. receivedPair p n h e (pairsPerSuperframe p * q + k))) (p .bits * 10752) _
         (endToEnd-length (pairsPerSuperframe p) 512 (λ k. receivedPair p n h e (pairsPerSuperframe p * q + k)) ∙ omega arith) at)
       where
         at : (y : ℕ) → y < p .bits * 10752
@@ -164,7 +164,7 @@ module _ (p : Profile) (n : ℕ) (h : ReceivedLine p n) where
             let which : (pairsPerSuperframe p * q + y / 512) / 21 ≡ buffersIn p q + y / 10752 = omega arith in
             let place : 512 * ((pairsPerSuperframe p * q + y / 512) % 21) + y % 512 ≡ y % 10752 = omega arith in
             endToEnd-at (pairsPerSuperframe p) 512 (λ k. receivedPair p n h e (pairsPerSuperframe p * q + k)) y ok
-            ∙ getD-tabulate 512 (λ i. getD (pairsBack p n h e ((pairsPerSuperframe p * q + y / 512) / 21)) (512 * ((pairsPerSuperframe p * q + y / 512) % 21) + i) 0) (y % 512) (omega arith)
+            ∙ getD-tabulate 512 (λ i. getD (pairsBack p n h e ((pairsPerSuperframe p * q + y / 512) / 21)) (512 * ((pairsPerSuperframe p * q + y / 512) % 21) + i) 0) (y % 512) 0 (omega arith)
             ∙ ap₂ (λ c i. getD (pairsBack p n h e c) i 0) which place
             ∙ ap (λ s. getD s (y % 10752) 0) (sym (buffer-is e b lb))
 

@@ -47,7 +47,7 @@ module _ (p : Profile) (o : Outward p) (q : ℕ) where
       → partOf 10752 (codedPairsIn p o q e) b ≡ pairsOfBuffer (codedPairs (o .calls e)) (buffersIn p q + b)
   unfolding codedPairsIn pairsOfBuffer buffersIn
   buffer-pairs e b l =
-      is-tabulate (partOf 10752 (codedPairsIn p o q e) b) 10752 (λ i. getD (getD coded (21 * (buffersIn p q + b) + i / 512) []) (i % 512) 0)
+      is-tabulate 0 _ 10752 (λ i. getD (getD coded (21 * (buffersIn p q + b) + i / 512) []) (i % 512) 0)
       (partOf-length 10752 (p .bits) b l (codedPairsIn p o q e) whole)
       (λ i li. partOf-at 10752 (p .bits) b l (codedPairsIn p o q e) whole i li
       ∙ endToEnd-at (pairsPerSuperframe p) 512 (λ P. getD coded (pairsPerSuperframe p * q + P) []) (b * 10752 + i) (omega arith)
@@ -101,7 +101,7 @@ module _ (p : Profile) (o : Outward p) (q : ℕ) where
   unfolding framePayload payload cells
   payload-is s f l eq es =
       rw (es, eq)
-      (is-tabulate (part (payloadStart s * 2) (payloadCells s * 2) cells) (payloadCells s * 2) (λ i. payloadByte p o q (payloadStart s + i / 2) (i % 2))
+      (is-tabulate 0 (part (payloadStart s * 2) (payloadCells s * 2) cells) (payloadCells s * 2) (λ i. payloadByte p o q (payloadStart s + i / 2) (i % 2))
       (part-length (payloadStart s * 2) (payloadCells s * 2) cells within)
       (λ i li. let split : payloadStart s * 2 + i ≡ (payloadStart s + i / 2) * 2 + i % 2 = omega arith in
       part-at (payloadStart s * 2) (payloadCells s * 2) cells within i li

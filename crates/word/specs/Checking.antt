@@ -70,7 +70,7 @@ zeros-absorbed n w z =
     (ap (λ u. u % 2) (count-none n w z))
 
 pub absorb-tail : (v : ℕ) → Absorbing (tail v) 239 (syndromes 0 0 0)
-absorb-tail v = record { upto = omega arith; is = sym (zeros-absorbed 239 (tail v) (tail-low v)); parity-bit = omega arith }
+absorb-tail v = record { upto = omega arith; is = sym (zeros-absorbed 239 (tail v) (tail-low v)) }
 
 pub tail-bit : (v k b : ℕ) → 239 ≤ k → b ≡ v / 2 ^ (255 - k) % 2 → b ≡ tail v k
 tail-bit v k b l e = e ∙ sym (tail-high v k l)
@@ -83,7 +83,7 @@ syndromes-are s v y e f = f ∙ ap (λ u. syndromesOf (tail u)) (e .0) ∙ check
 pub syndromes-none : (s : List ℕ) (v : ℕ) → (v ≡ check (bit s)) × (v < 131072) → v ≡ 0 → syndromes 0 0 0 ≡ syndromesOf (bit s)
 syndromes-none s v e z =
     syndromes-are s v (syndromes 0 0 0) e
-    (absorb-done {w = tail v} {n = 256} (record { upto = omega arith; is = sym (zeros-absorbed 256 (tail v) none); parity-bit = omega arith }) (omega arith))
+    (absorb-done {w = tail v} {n = 256} (record { upto = omega arith; is = sym (zeros-absorbed 256 (tail v) none) }) (omega arith))
   where
     none : (k : ℕ) → k < 256 → tail v k ≡ 0
     none k l = ap (λ u. tail u k) z ∙ tail-zero k

@@ -5,11 +5,11 @@ use mathlib.Core.Bool.{cond}
 use Prim.Native.Nat.{ℕ, zero, suc, _+_, _-_, _*_, _%_, _<_, _≤_}
 use native.Mathlib.Nat.{zero-mul, one-mul}
 use native.Mathlib.Omega.{arith}
-use native.Mathlib.Numerals.{add-one}
 use borrow.Author.Tests.{eq-eqb, ne-eqb}
 use lib.Dec.{eqb}
 use Rattle.bits.specs.Count.{count}
 use Rattle.bits.specs.CountLaws.{count-suc}
+use Rattle.bits.specs.Folding.{Folding, fold-none, fold-more, fold-done}
 use Rattle.bits.specs.Xor.{_⊕_, xorSum}
 use Rattle.bits.specs.XorLaws.{⊕-zero}
 use Rattle.gf256.specs.Field.{cube}
@@ -37,14 +37,17 @@ absorb-one s b k x y n e f = rw (f, e) (simp (ne-eqb b 0 n))
 unfoldable pub partial : ℕ → Word → Syndromes
 partial n w = syndromes (xorSum n (λ k. w k * locator k)) (xorSum n (λ k. w k * cube (locator k))) (count n w % 2)
 
-pub record Absorbing (w : Word) (n : ℕ) (s : Syndromes) : Type 0 where
-  pub upto : n ≤ 256
-  pub is : s ≡ partial n w
-  pub parity-bit : s .parity < 2
+-- Of the 256 bits of w, n are taken in.
+abbrev pub Absorbing : Word → ℕ → Syndromes → Type 0
+Absorbing w = Folding partial w 256
 
 pub absorb-none : (w : Word) → Absorbing w 0 (syndromes 0 0 0)
 unfolding partial xorSum count
-absorb-none w = record { upto = omega arith; is = refl; parity-bit = omega arith }
+absorb-none w = fold-none partial w 256 (syndromes 0 0 0) refl
+
+pub absorb-parity : {w : Word} {n : ℕ} {s : Syndromes} → Absorbing w n s → s .parity < 2
+unfolding partial
+absorb-parity h = rw (h .is) (omega arith)
 
 pub syndromes-eq : {a b c d p q : ℕ} → a ≡ b → c ≡ d → p ≡ q → syndromes a c p ≡ syndromes b d q
 syndromes-eq e f g = rw (e, f, g)
@@ -67,14 +70,10 @@ absorb-bit w n (suc (suc b)) h e = absurd (omega arith)
 
 pub absorb-more : {w : Word} {n : ℕ} {s : Syndromes} (b : ℕ) (r : Syndromes) → Absorbing w n s → n < 256 → b < 2 → b ≡ w n
     → r ≡ absorbed s b n → Absorbing w (n + 1) r
-unfolding partial
-absorb-more {w} {n} {s} b r h l small e d =
-    let is : r ≡ partial (n + 1) w =
-    d ∙ ap (λ t. absorbed t b n) (h .is) ∙ absorb-bit w n b small (sym e) ∙ ap (λ k. partial k w) (sym (add-one n)) in
-    record { upto = omega arith; is = is; parity-bit = rw is (omega arith) }
+absorb-more {w} {n} {s} b r h l small e d = fold-more r h l (d ∙ ap (λ t. absorbed t b n) (h .is) ∙ absorb-bit w n b small (sym e))
 
 pub absorb-done : {w : Word} {n : ℕ} {s : Syndromes} → Absorbing w n s → 256 ≤ n → s ≡ syndromesOf w
 unfolding partial syndromesOf S1 S3 parity
-absorb-done {w} {n} {s} h l = let e : n ≡ 256 = omega (arith, h .upto) in h .is ∙ ap (λ k. partial k w) e
+absorb-done h l = fold-done h l
 
-pub ruleset absorbing = (absorb-zero, absorb-one, absorb-none, absorb-more, absorb-done)
+pub ruleset absorbing = (absorb-zero, absorb-one, absorb-none, absorb-parity, absorb-more, absorb-done)

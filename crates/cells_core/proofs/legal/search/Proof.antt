@@ -12,7 +12,7 @@ use Rattle.cells_core.proofs.legal.search.Tie as tie
 ruleset kit = (needs, seek, le-leb, lt-leb)
 
 abbrev Inv-loop : tie.InvT-loop
-Inv-loop cells i₀ i-end i = Seeking overheadRule cells i
+Inv-loop cells i₀ i-end i = Seeking 0 overheadRule cells i
 
 abbrev μ-loop : tie.MeasureT-loop
 μ-loop cells i₀ i-end i = length cells - i

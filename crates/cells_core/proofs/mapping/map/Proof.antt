@@ -2,7 +2,8 @@
 -- Assumes nothing.
 use Prim.Native.Nat.{_-_}
 use lib.ListN.{length}
-use Rattle.cells_spec.specs.Qam16Tables.{CellsFilled, by-filled-cells, cell-x, cell-y}
+use Rattle.bits.specs.Filling.{Blocks}
+use Rattle.cells_spec.specs.Qam16Tables.{by-filled-cells, cell-x, cell-y}
 use Rattle.cells_spec.specs.Qam16Bytes.{cellsByte}
 use borrow.Author.Needs.{needs}
 use Rattle.cells_core.proofs.mapping.map.Statement.{statement}
@@ -11,7 +12,7 @@ use Rattle.cells_core.proofs.mapping.map.Tie as tie
 ruleset kit = (needs, by-filled-cells, cell-x, cell-y)
 
 abbrev Inv-loop : tie.InvT-loop
-Inv-loop bits cells₀ table i₀ i-end cells i = CellsFilled (cellsByte bits) (length bits) i cells
+Inv-loop bits cells₀ table i₀ i-end cells i = Blocks (cellsByte bits) 2 (length bits) i cells
 
 abbrev μ-loop : tie.MeasureT-loop
 μ-loop bits cells₀ table i₀ i-end cells i = length bits - i

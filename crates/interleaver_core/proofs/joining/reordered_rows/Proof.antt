@@ -1,17 +1,17 @@
 -- `interleaver_core::joining::reordered_rows` meets its contract: the block rows are made one by one.
 -- Assumes nothing.
 use Prim.Native.Nat.{_-_}
+use Rattle.bits.specs.Filling.{Filling, fill}
 use Rattle.interleaver_spec.specs.BlockBuffer.{reorderedRow}
 use Rattle.interleaver_spec.specs.BlockBufferLaws.{reordered-words}
-use Rattle.interleaver_spec.specs.Laying.{Held, hold}
 use borrow.Author.Needs.{needs}
 use Rattle.interleaver_core.proofs.joining.reordered_rows.Statement.{statement}
 use Rattle.interleaver_core.proofs.joining.reordered_rows.Tie as tie
 
-ruleset kit = (needs, hold, reordered-words)
+ruleset kit = (needs, fill, reordered-words)
 
 abbrev Inv-loop : tie.InvT-loop
-Inv-loop pairs0 pairs1 rows₀ k₀ rows k = Held (reorderedRow pairs0 pairs1) k rows
+Inv-loop pairs0 pairs1 rows₀ k₀ rows k = Filling (reorderedRow pairs0 pairs1) 84 k rows
 
 abbrev μ-loop : tie.MeasureT-loop
 μ-loop pairs0 pairs1 rows₀ k₀ rows k = 84 - k

@@ -1,16 +1,16 @@
 -- `interleaver_core::taking_apart::restored_rows` meets its contract: the block rows are made one by one.
 -- Assumes nothing.
 use Prim.Native.Nat.{_-_}
+use Rattle.bits.specs.Filling.{Filling, fill}
 use Rattle.interleaver_spec.specs.BlockBuffer.{restoredRow}
-use Rattle.interleaver_spec.specs.Laying.{Held, hold}
 use borrow.Author.Needs.{needs}
 use Rattle.interleaver_core.proofs.taking_apart.restored_rows.Statement.{statement}
 use Rattle.interleaver_core.proofs.taking_apart.restored_rows.Tie as tie
 
-ruleset kit = (needs, hold)
+ruleset kit = (needs, fill)
 
 abbrev Inv-loop : tie.InvT-loop
-Inv-loop bits rows₀ k₀ rows k = Held (restoredRow bits) k rows
+Inv-loop bits rows₀ k₀ rows k = Filling (restoredRow bits) 84 k rows
 
 abbrev μ-loop : tie.MeasureT-loop
 μ-loop bits rows₀ k₀ rows k = 84 - k
