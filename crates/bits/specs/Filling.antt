@@ -69,6 +69,13 @@ module _ {A : Type 0} where
           ∙ getD-tabulate m (λ x. f (i + x)) (k - i) z (omega arith)
           ∙ ap f (omega arith)
 
+  -- Two values a turn.
+  pub fill-two : {f : ℕ → A} {n : ℕ} {d : List A} (i : ℕ) (u v : A) → Filling f n (2 * i) d → 2 * i + 1 < n → u ≡ f (2 * i) → v ≡ f (2 * i + 1)
+      → Filling f n (2 * (i + 1)) (set (set d (2 * i) u) (2 * i + 1) v)
+  fill-two i u v h l p q =
+      let e : 2 * i + 1 + 1 ≡ 2 * (i + 1) = omega arith in
+      rw e at (fill-more v (fill-more u h (omega arith) p) l q)
+
 pub ruleset fill = (fill-none, fill-more, fill-done)
 
 -- A buffer of m blocks of w values each, of which the first k are filled.

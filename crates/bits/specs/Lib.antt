@@ -4,6 +4,8 @@ pub mod ListLaws
 pub mod Bits
 pub mod BitLaws
 pub mod DigitLaws
+pub mod NumberLaws
+pub mod BufferLaws
 pub mod Count
 pub mod CountLaws
 pub mod Xor

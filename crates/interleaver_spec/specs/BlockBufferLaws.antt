@@ -13,7 +13,7 @@ use Rattle.bits.specs.Filling.{Filling, fill-none, fill-more, fill-done, Blocks
 use Rattle.bits.specs.ListLaws.{getD-tabulate, tabulate-ext}
 use Rattle.bits.specs.Lists.{tabulate}
 use Rattle.interleaver_spec.specs.declared.BlockRow.{BlockRow}
-use Rattle.interleaver_spec.specs.NumberLaws.{two-bytes, half-is}
+use Rattle.bits.specs.NumberLaws.{two-bytes, half-is}
 use Rattle.interleaver_spec.specs.Rows.{blockRow, encoderIn, rowIn, blockRowOf}
 use Rattle.interleaver_spec.specs.Block.{bitAt, rowWord, block, sourceRow, sourceColumn, reordered, restored}
 use Rattle.interleaver_spec.specs.BlockLaws.{bitAt-block-of, block-ext, bitAt-reordered, bitAt-restored, targetRow, targetColumn}

@@ -1,5 +1,4 @@
 -- Definitions first; the laws about each stand in the file below it.
-pub mod NumberLaws
 pub mod Rows
 pub mod SubsetLaws
 pub mod Block

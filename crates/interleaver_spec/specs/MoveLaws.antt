@@ -14,7 +14,7 @@ use mir.Val.{Fits, bits}
 use Rattle.bits.specs.Bits.{bitOf, fromBits}
 use Rattle.bits.specs.BitLaws.{bitOf-lt, fromBits-lt, fromBits-ext, fromBits-bitOf}
 use Rattle.bits.specs.Tests.{every, grid}
-use Rattle.interleaver_spec.specs.NumberLaws.{fromBits-split}
+use Rattle.bits.specs.NumberLaws.{fromBits-split}
 use Rattle.interleaver_spec.specs.Block.{bitAt, rowWord, block, rowShift, sourceRow, sourceColumn, reordered, restoredBit, restored}
 use Rattle.interleaver_spec.specs.BlockLaws.{bitAt-lt, bitAt-block-of, block-ext, targetRow, targetColumn, targetRow-lt}
 use Rattle.interleaver_spec.specs.BlockLaws.{targetColumn-lt, placeFrom-row, placeFrom-column, bitAt-reordered}

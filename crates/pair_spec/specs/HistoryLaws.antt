@@ -12,7 +12,7 @@ use Rattle.pair_spec.specs.RowLaws.{reach, Place, zeros, before, own, pl
 use Rattle.pair_spec.specs.Pairs.{pairIndex, pairBit}
 use Rattle.pair_spec.specs.History.{depth, fresh, heldBits, shift}
 use Rattle.pair_spec.specs.Promise.{Holds}
-use Rattle.pair_spec.specs.BufferLaws.{bit-left, bit-right, bit-drop}
+use Rattle.bits.specs.BufferLaws.{bit-left, bit-right, bit-drop}
 
 -- The depth of the calls' history reaches as far back as a front half.
 pub deep : reach ≤ depth

@@ -4,7 +4,6 @@ pub mod RowLaws
 pub mod Bench
 pub mod Pairs
 pub mod PairLaws
-pub mod BufferLaws
 pub mod History
 pub mod HistoryLaws
 pub mod WordLaws

@@ -25,7 +25,7 @@ use Rattle.pair_spec.specs.Encoding.{encodedWord, encoded}
 use Rattle.pair_spec.specs.EncodingLaws.{encoded-code}
 use Rattle.pair_spec.specs.Receiving.{repairedWord, newestPair, payloadOut}
 use Rattle.pair_spec.specs.ReceivingLaws.{repairedWord-bits}
-use Rattle.pair_words_core.specs.ByteLaws.{byte-copied}
+use Rattle.bits.specs.NumberLaws.{byte-copied}
 
 -- The back half of word w, and of all of them: bit m is bit 128 + m mod 128 of word m div 128.
 unfoldable pub backHalf : (ℕ → Word) → ℕ → List ℕ
@@ -135,7 +135,7 @@ payload-high s i b l p = let t : ltb i 3072 ≡ false = le-ltb i 3072 l in p ∙
 pub payload-copied : (s : List ℕ) (j : ℕ) → length s ≡ 512 → ((i : ℕ) → getD s i 0 < 256) → j < 384
     → getD s (j % 64 / 2 * 16 + j / 64 * 2 + j % 2) 0 ≡ byteOf (λ i. bit s (payloadSource i)) j
 payload-copied s j e b l =
-    byte-copied s (λ i. bit s (payloadSource i)) j (j % 64 / 2 * 16 + j / 64 * 2 + j % 2) (omega arith) b
+    byte-copied s (λ i. bit s (payloadSource i)) j (j % 64 / 2 * 16 + j / 64 * 2 + j % 2) b
     (λ k lk. ap (bit s) (sym (payload-low (j * 8 + k) (omega arith) ∙ place k lk)))
   where
     halves : (n k : ℕ) → k < 8 → (n * 8 + k) / 16 ≡ n / 2

@@ -18,7 +18,7 @@ use Rattle.pair_spec.specs.History.{depth}
 use Rattle.pair_spec.specs.HistoryLaws.{deep}
 use Rattle.pair_spec.specs.Encoding.{openWord}
 use Rattle.pair_spec.specs.Receiving.{heldWord}
-use Rattle.pair_words_core.specs.ByteLaws.{byteOf-ext, byte-copied}
+use Rattle.bits.specs.NumberLaws.{byteOf-ext, byte-copied}
 use Rattle.pair_words_core.specs.WordBits.{frontHeld, front-none, front-held, held-front, held-back, open-front-bit, open-low}
 use Rattle.pair_words_core.specs.WordBits.{open-high, open-none}
 use Rattle.pair_words_core.specs.BackHalves.{codedSource}
@@ -99,7 +99,7 @@ own-none y w k l = let m : ltb k 224 ≡ false = le-ltb k 224 (omega arith) in s
 pub own-copied : (y : List ℕ) (w j : ℕ) → length y ≡ 444 → ((i : ℕ) → getD y i 0 < 256) → w < 32 → 16 ≤ j → j < 28
     → getD y (w * 2 + (j - 16) / 2 * 64 + j % 2) 0 ≡ byteOf (ownBit y w) j
 own-copied y w j e b lw l m =
-    byte-copied y (ownBit y w) j (w * 2 + (j - 16) / 2 * 64 + j % 2) (omega arith) b
+    byte-copied y (ownBit y w) j (w * 2 + (j - 16) / 2 * 64 + j % 2) b
     (λ k lk. ap (bit y) (omega arith) ∙ sym (own-low y w (j * 8 + k) (omega arith)))
 
 module _ (h y : List ℕ) (P w : ℕ) (lw : w < 32) where

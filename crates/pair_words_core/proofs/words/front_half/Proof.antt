@@ -3,8 +3,7 @@
 use Prim.Native.Nat.{_-_, _*_}
 use native.Mathlib.Omega.{arith}
 use Rattle.bits.specs.Bits.{byteOf}
-use Rattle.bits.specs.Filling.{Filling, fill}
-use Rattle.pair_words_core.specs.ByteLaws.{fill-two}
+use Rattle.bits.specs.Filling.{Filling, fill, fill-two}
 use Rattle.pair_words_core.specs.WordBytes.{frontStored, front-zeros, front-stored}
 use borrow.Author.Needs.{needs}
 use Rattle.pair_words_core.proofs.words.front_half.Statement.{statement}

@@ -1,13 +1,13 @@
--- A number as its upper and its lower bits, and a byte of a buffer as its bits.
+-- A number as its upper and its lower bits, and a byte as its bits.
 -- Assumes nothing.
-use mathlib.Core.Path.{_≡_, sym, ap, ap₂, _∙_}
+use mathlib.Core.Path.{_≡_, refl, sym, ap, ap₂, _∙_}
 use mathlib.Core.List.{List}
 use Prim.Native.Nat.{ℕ, zero, suc, _+_, _-_, _*_, _/_, _%_, _^_, _<_}
 use native.Mathlib.Nat.{pow-suc}
 use native.Mathlib.Omega.{arith}
 use lib.ListN.{getD}
 use Rattle.bits.specs.Bits.{bitOf, bit, fromBits, byteOf}
 use Rattle.bits.specs.BitLaws.{fromBits-lt, fromBits-ext, fromBits-bitOf}
 
 -- m + n bits are m bits and then n.
 pub fromBits-split : (m n : ℕ) (f : ℕ → ℕ) → fromBits (m + n) f ≡ fromBits m f * 2 ^ n + fromBits n (λ k. f (m + k))
@@ -33,6 +33,17 @@ byteOf-bit s j x e l =
     let m : (j * 8 + k) % 8 ≡ k = omega arith in
     rw (h, m, e))
     ∙ fromBits-bitOf 8 x l
+
+-- Byte j of the bits f is byte n of a buffer that has them there.
+pub byte-copied : (s : List ℕ) (f : ℕ → ℕ) (j n : ℕ) → ((i : ℕ) → getD s i 0 < 256) → ((k : ℕ) → k < 8 → bit s (n * 8 + k) ≡ f (j * 8 + k))
+    → getD s n 0 ≡ byteOf f j
+unfolding byteOf
+byte-copied s f j n b same = sym (byteOf-bit s n (getD s n 0) refl (b n)) ∙ fromBits-ext 8 (λ k. bit s (n * 8 + k)) (λ k. f (j * 8 + k)) (λ k lk. ap (λ u. u % 2) (same k lk))
+
+-- Bits that agree on a byte.
+pub byteOf-ext : (f g : ℕ → ℕ) (j : ℕ) → ((k : ℕ) → k < 8 → f (j * 8 + k) ≡ g (j * 8 + k)) → byteOf f j ≡ byteOf g j
+unfolding byteOf
+byteOf-ext f g j same = fromBits-ext 8 (λ k. f (j * 8 + k)) (λ k. g (j * 8 + k)) (λ k l. ap (λ u. u % 2) (same k l))
 
 -- Sixteen bits that are those of two bytes of a buffer, the upper and the lower.
 pub two-bytes : (s : List ℕ) (u v x y : ℕ) (f : ℕ → ℕ) → x ≡ getD s u 0 → y ≡ getD s v 0 → x < 256 → y < 256
