@@ -1,9 +1,22 @@
--- What is read of a line file.
+-- The line file of one super-frame, and what is read of it.
 -- Assumes nothing.
+use mathlib.Core.Path.{_≡_}
 use mathlib.Core.Bool.{cond}
 use mathlib.Core.List.{List}
 use Prim.Native.Nat.{ℕ}
 use lib.Dec.{eqb}
+use lib.ListN.{length, take}
+use Rattle.bits.specs.Parts.{part}
+use Rattle.line_file_spec.specs.Writing.{numbersFor, headerBytes}
+
+-- A file that starts with the header of one super-frame, and is as long as it says.
+pub record OneSuperframe (file : List ℕ) : Type 0 where
+  pub starts : take 16 file ≡ headerBytes (numbersFor 1)
+  pub long : length file ≡ 368656
+
+-- Its frames.
+unfoldable pub framesIn : List ℕ → List ℕ
+framesIn file = part 12304 356352 file
 
 -- A buffer after a reading: the stretch where the companion gave no refusal, and as it was where it gave one.
 unfoldable pub takenWhen : ℕ → List ℕ → List ℕ → List ℕ

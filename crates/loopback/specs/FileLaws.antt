@@ -19,7 +19,7 @@ use Rattle.line_file_spec.specs.Reading.{readRefusalIn, readPartIn}
 use Rattle.line_file_spec.specs.ReadingLaws.{stretch-length}
 use Rattle.line_file_spec.specs.Writing.{numbersFor, headerBytes, writeCall}
 use Rattle.line_file_spec.specs.WritingLaws.{headerBytes-length, write-done, written-reads, written-whole}
-use Rattle.loopback.specs.File.{takenWhen}
+use Rattle.loopback.specs.File.{OneSuperframe, framesIn, takenWhen}
 use Rattle.loopback.specs.Line.{lineFile}
 
 -- ---- the file
@@ -46,23 +46,28 @@ file-sent d d′ xs list line l ex e =
     none = drop-drop 356352 12304 d ∙ ap (λ n. drop n d) (sym l) ∙ drop-length d
 
 -- What a reader finds in it.
-module _ (d list line : List ℕ) (is : d ≡ lineFile list line) (ll : length list ≡ 12288) where
-  pub file-starts : take 16 d ≡ headerBytes (numbersFor 1)
+module _ (d list line : List ℕ) (is : d ≡ lineFile list line) (ll : length list ≡ 12288) (long : length d ≡ 368656) where
+  pub file-whole : OneSuperframe d
   unfolding lineFile
-  file-starts = ap (take 16) is ∙ take-at (headerBytes (numbersFor 1)) (list ++ line) 16 (headerBytes-length (numbersFor 1))
+  file-whole =
+      record {
+        starts = ap (take 16) is ∙ take-at (headerBytes (numbersFor 1)) (list ++ line) 16 (headerBytes-length (numbersFor 1));
+        long = long;
+      }
 
   file-rest : drop 16 d ≡ list ++ line
   unfolding lineFile
   file-rest = ap (drop 16) is ∙ drop-at (headerBytes (numbersFor 1)) (list ++ line) 16 (headerBytes-length (numbersFor 1))
 
-  file-line : length d ≡ 368656 → part 12304 356352 d ≡ line
-  file-line l =
+  file-line : framesIn d ≡ line
+  unfolding framesIn
+  file-line =
       ap (take 356352) (sym (drop-drop 12288 16 d) ∙ ap (drop 12288) file-rest ∙ drop-at list line 12288 ll)
       ∙ take-all 356352 line (omega (arith, length-drop 16 d, ap length file-rest ∙ length-append list line))
 
   -- Frames that are read from it are what was written.
-  pub frames-kept : length d ≡ 368656 → (after : List ℕ) → after ≡ part 12304 356352 d → after ≡ line
-  frames-kept l after e = e ∙ file-line l
+  pub frames-kept : (after : List ℕ) → after ≡ framesIn d → after ≡ line
+  frames-kept after e = e ∙ file-line
 
 -- ---- a sub-frame: m is the number that the companion gave, and got the part that was handed back
 
@@ -84,16 +89,16 @@ pub ruleset frame-read = (frame-fits, frame-taken, frame-left)
 
 -- ---- all of them, of a file that starts with the header
 
-module _ (file : List ℕ) (starts : take 16 file ≡ headerBytes (numbersFor 1)) (long : length file ≡ 368656) where
+module _ (file : List ℕ) (one : OneSuperframe file) where
   pub file-frame-block : (s : ℕ) (ys lent : List ℕ) → s < 48
       → ys ≡ takenWhen (readRefusalIn (openCall file) 0 s) (readPartIn (openCall file) 0 s) lent
       → ys ≡ tabulate 7424 (λ i. byteOfEach 7424 (readPartIn (openCall file) 0) (s * 7424 + i))
   unfolding takenWhen
   file-frame-block s ys lent l e =
-      let accepted : readRefusalIn (openCall file) 0 s ≡ 0 = written-reads 1 file (omega arith) (omega arith) starts long 0 s (omega arith) (omega arith) in
+      let accepted : readRefusalIn (openCall file) 0 s ≡ 0 = written-reads 1 file (omega arith) (omega arith) (one .starts) (one .long) 0 s (omega arith) (omega arith) in
       let is : ys ≡ readPartIn (openCall file) 0 s = e ∙ simp (eq-eqb _ 0 accepted) in
       each-block (readPartIn (openCall file) 0) 7424 s ys (lit< tt) (ap length is ∙ stretch-length _ _ _ _ 0 s accepted) is
 
-  pub frames-whole : (d : List ℕ) → d ≡ tabulate 356352 (byteOfEach 7424 (readPartIn (openCall file) 0)) → d ≡ part 12304 356352 file
-  unfolding endToEnd
-  frames-whole d e = e ∙ written-whole 1 file (omega arith) (omega arith) starts long 0 (omega arith)
+  pub frames-whole : (d : List ℕ) → d ≡ tabulate 356352 (byteOfEach 7424 (readPartIn (openCall file) 0)) → d ≡ framesIn file
+  unfolding endToEnd framesIn
+  frames-whole d e = e ∙ written-whole 1 file (omega arith) (omega arith) (one .starts) (one .long) 0 (omega arith)

@@ -63,8 +63,8 @@ module _ (e q : ℕ) (h s ys : List ℕ) (es : s ≡ payloadIn e q) where
 
 -- A super-frame sent, after refused calls that leave the history.
 module _ (e q : ℕ) (h h₁ ys : List ℕ) (is : h ≡ historyBefore pairEncoder 168 (payloadIn e) q) (left : h₁ ≡ h) where
-  pub frame-block : ys ≡ codedOf 168 h₁ (168 * q) (payloadIn e q) → ys ≡ tabulate 86016 (λ i. byteOfEach 86016 (sentIn e) (q * 86016 + i))
-  frame-block es = sent-block e q h₁ ys (left ∙ is) es
+  pub stream-frame-block : ys ≡ codedOf 168 h₁ (168 * q) (payloadIn e q) → ys ≡ tabulate 86016 (λ i. byteOfEach 86016 (sentIn e) (q * 86016 + i))
+  stream-frame-block es = sent-block e q h₁ ys (left ∙ is) es
 
 -- ---- the words of a pair
 

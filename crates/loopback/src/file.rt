@@ -2,12 +2,10 @@
 // read from it.
 use pair_words_core::history::copy;
 ghost use mathlib.Core.Path.{_≡_};
-ghost use lib.ListN.{length, take, drop, replicate};
-ghost use Rattle.bits.specs.Parts.{part};
+ghost use lib.ListN.{length, drop, replicate};
 ghost use Rattle.line_file_spec.specs.Opening.{openCall};
 ghost use Rattle.line_file_spec.specs.Reading.{readRefusalIn, readPartIn};
-ghost use Rattle.line_file_spec.specs.Writing.{numbersFor, headerBytes};
-ghost use Rattle.loopback.specs.File.{takenWhen};
+ghost use Rattle.loopback.specs.File.{OneSuperframe, framesIn, takenWhen};
 ghost use Rattle.loopback.specs.Line.{lineFile};
 
 // The whole file.
@@ -58,8 +56,8 @@ fn read_frame(file: &[u8], s: u32, frame: &mut [u8])
 
 // Reads the frames, sub-frame by sub-frame.
 fn read_frames(file: &[u8], frames: &mut [u8])
-    requires { ⌜ (take 16 (now file) ≡ headerBytes (numbersFor 1)) × (length (now file) ≡ 368656) × (length (now frames) ≡ 356352) ⌝ }
-    ensures { λ _. ⌜ now (frames .exit) ≡ part 12304 356352 (now (file .entry)) ⌝ }
+    requires { ⌜ OneSuperframe (now file) × (length (now frames) ≡ 356352) ⌝ }
+    ensures { λ _. ⌜ now (frames .exit) ≡ framesIn (now (file .entry)) ⌝ }
 {
     for s in 0..48 {
         let a = s * 7424;

@@ -1,6 +1,6 @@
 -- `loopback::file::pass` meets its contract.
 -- Assumes nothing.
-use Rattle.loopback.specs.FileLaws.{file-starts, frames-kept}
+use Rattle.loopback.specs.FileLaws.{file-whole, frames-kept}
 use borrow.Author.Needs.{needs}
 use Rattle.loopback.proofs.file.pass.Statement.{statement}
 use Rattle.loopback.proofs.file.pass.Tie as tie
@@ -13,6 +13,6 @@ pass-spec =
     (λ c. search needs)  -- slice-aggregate-write
     (λ c κs. search needs)  -- write-requires
     (λ c. search needs)  -- slice-aggregate-read-frames
-    (λ c κs. (search (needs, file-starts), search needs, search needs))  -- read-frames-requires
+    (λ c κs. (file-whole _ _ _ (c .before .before .before .write .ensures) (search needs) (search needs), search needs))  -- read-frames-requires
     (λ c. search needs)  -- same-length
     (λ c. frames-kept _ _ _ (c .before .before .before .before .before .before .write .ensures) (search needs) (search needs) _ (c .before .before .read-frames .ensures)))  -- returns

@@ -39,6 +39,6 @@ read-frames-spec =
     (λ c.
     let l = c .before .before .before .before .before .loop in
     blocks-next {d = l .frames} (l .s * 7424) (l .s * 7424 + 7424) _ (l .inv) (search needs) refl refl
-    (file-frame-block _ (search needs) (search needs) (l .s) _ _ (search needs) (c .before .before .read-frame .ensures)))  -- loop-again
+    (file-frame-block _ (search needs) (l .s) _ _ (search needs) (c .before .before .read-frame .ensures)))  -- loop-again
     (λ c. search kit)  -- same-length
     (λ c. search kit))  -- returns
