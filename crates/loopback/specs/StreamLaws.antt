@@ -16,10 +16,10 @@ use Rattle.pair_spec.specs.History.{depth, fresh}
 use Rattle.pair_spec.specs.Encoding.{openWord}
 use Rattle.pair_spec.specs.Receiving.{heldWord}
 use Rattle.pair_spec.specs.Stream.{Coder, pairEncoder, pairReceiver, givenOver, codedOf, payloadsOf, marksOf, historyOver, historyBefore}
-use Rattle.loopback.specs.Random.{pairPayload, payloadIn}
+use Rattle.loopback_core.specs.Random.{pairPayload, payloadIn}
+use Rattle.loopback_core.specs.StepLaws.{Stepping, step-more, step-done}
+use Rattle.loopback_core.specs.Tally.{tallySum, tallied, refusedTwo, lost, wordKind, bitKind}
 use Rattle.loopback.specs.Sent.{sentIn}
-use Rattle.loopback.specs.StepLaws.{Stepping, step-more, step-done}
-use Rattle.loopback.specs.Tally.{tallySum, tallied, refusedTwo, lost, wordKind, bitKind}
 use Rattle.loopback.specs.Received.{wordIn, keptWord, payloadWord, codedCounted, payloadCounted, wordCompared, pairCompared}
 use Rattle.loopback.specs.Received.{pairTaken, nextReceived}
 

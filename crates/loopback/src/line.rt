@@ -1,10 +1,10 @@
 // The line: coded pairs to the frames of a line file, which are damaged, and back.
-use crate::counts::add;
-use crate::file;
-use crate::noise::damage;
-use crate::random;
-use crate::refusing::refuse_framing;
 use crate::sending::encode_one;
+use loopback_core::counts::add;
+use loopback_core::file;
+use loopback_core::noise::damage;
+use loopback_core::random;
+use refusing_core::refuse_framing;
 ghost use mathlib.Core.Path.{_≡_};
 ghost use Prim.Native.Nat.{_-_, _<_};
 ghost use lib.ListN.{length, replicate};
@@ -12,11 +12,11 @@ ghost use Rattle.calls.specs.declared.Answer.the-variants.{Refused};
 ghost use Rattle.calls.specs.declared.Refusal.the-variants.{NoSuchFrame, OffGrid};
 ghost use Rattle.cells_spec.specs.Cells.{overheadRule, Legal};
 ghost use Rattle.superframe_spec.specs.Apart.{differingAll};
+ghost use Rattle.loopback_core.specs.Random.{drawnList};
+ghost use Rattle.loopback_core.specs.Steps.{eachStep};
+ghost use Rattle.loopback_core.specs.Tally.{answered};
 ghost use Rattle.loopback.specs.Line.{damagedLine, pairsOff, lineIn, allOff, lineCounted};
-ghost use Rattle.loopback.specs.Random.{drawnList};
 ghost use Rattle.loopback.specs.Sent.{sentIn};
-ghost use Rattle.loopback.specs.Steps.{eachStep};
-ghost use Rattle.loopback.specs.Tally.{answered};
 
 // An overhead list that is drawn.
 fn overhead() -> [u8; 12288]

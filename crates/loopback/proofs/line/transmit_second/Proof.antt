@@ -15,7 +15,7 @@ transmit-second-spec =
     (λ c. search needs)  -- slice-aggregate-pass
     (λ c κs. search needs)  -- pass-requires
     (λ c. search needs)  -- slice-aggregate-take-apart
-    (λ c κs. (search needs, search needs, search needs, search needs))  -- take-apart-requires
+    (λ c κs. search needs)  -- take-apart-requires
     (λ c κs. search needs)  -- value-or-requires
     (λ c. search needs)  -- same-length
     (λ c. search needs)  -- same-length-2

@@ -7,9 +7,9 @@ use Rattle.bits.specs.Filling.{Blocks, by-blocks, blocks-next}
 use Rattle.bits.specs.Parts.{byteOfEach}
 use Rattle.bits.specs.PartLaws.{part-long}
 use Rattle.pair_spec.specs.Stream.{pairEncoder as encoderOf, historyBefore}
-use Rattle.loopback.specs.Random.{payloadIn}
+use Rattle.loopback_core.specs.Random.{payloadIn}
 use Rattle.loopback.specs.Sent.{sentIn, frameSent}
-use Rattle.loopback.specs.StepLaws.{Stepping, step-none, step-more, step-done}
+use Rattle.loopback_core.specs.StepLaws.{Stepping, step-none, step-more, step-done}
 use Rattle.loopback.specs.LineLaws.{whole}
 use Rattle.loopback.specs.StreamLaws.{before-none, before-more, stream-frame-block}
 use borrow.Author.Needs.{needs}
