@@ -45,38 +45,27 @@ fn send(q: usize, list: &[u8], coded0: &[u8], coded1: &[u8], frames: &mut [u8])
     damage(q, frames);
 }
 
-// Sends the pairs of super-frame q over the line and puts in their place what is taken off it: the number of overhead cells that differ.
-// Here `own` are the pairs of encoder 0,
-fn transmit_first(q: usize, list: &[u8], own: &mut [u8], other: &mut [u8]) -> u32
-    requires { ⌜ (q < 2) × (length (now list) ≡ 12288) × Legal overheadRule (now list) × (length (now own) ≡ 86016) × (length (now other) ≡ 86016) ⌝ }
-    ensures { λ r. ⌜ (r ≡ differingAll (damagedLine (now (list .entry)) q (now (own .entry)) (now (other .entry))) (now (list .entry))) × (now (own .exit) ≡ pairsOff (damagedLine (now (list .entry)) q (now (own .entry)) (now (other .entry))) 0) ⌝ }
+// Sends the pairs of both encoders in super-frame q over the line and puts in their place what is taken off it: the number of overhead
+// cells that differ.
+fn transmit_both(q: usize, list: &[u8], pairs0: &mut [u8], pairs1: &mut [u8]) -> u32
+    requires { ⌜ (q < 2) × (length (now list) ≡ 12288) × Legal overheadRule (now list) × (length (now pairs0) ≡ 86016) × (length (now pairs1) ≡ 86016) ⌝ }
+    ensures { λ r. ⌜ (r ≡ differingAll (damagedLine (now (list .entry)) q (now (pairs0 .entry)) (now (pairs1 .entry))) (now (list .entry))) × (now (pairs0 .exit) ≡ pairsOff (damagedLine (now (list .entry)) q (now (pairs0 .entry)) (now (pairs1 .entry))) 0) × (now (pairs1 .exit) ≡ pairsOff (damagedLine (now (list .entry)) q (now (pairs0 .entry)) (now (pairs1 .entry))) 1) ⌝ }
 {
     let mut frames = file::blank_frames();
-    send(q, list, own, other, &mut frames);
+    send(q, list, pairs0, pairs1, &mut frames);
     file::pass(list, &mut frames);
-    calls::value_or(superframe::take_apart(&frames, list, own, other), 0)
+    calls::value_or(superframe::take_apart(&frames, list, pairs0, pairs1), 0)
 }
 
-// here they are those of encoder 1,
-fn transmit_second(q: usize, list: &[u8], own: &mut [u8], other: &mut [u8]) -> u32
-    requires { ⌜ (q < 2) × (length (now list) ≡ 12288) × Legal overheadRule (now list) × (length (now own) ≡ 86016) × (length (now other) ≡ 86016) ⌝ }
-    ensures { λ r. ⌜ (r ≡ differingAll (damagedLine (now (list .entry)) q (now (other .entry)) (now (own .entry))) (now (list .entry))) × (now (own .exit) ≡ pairsOff (damagedLine (now (list .entry)) q (now (other .entry)) (now (own .entry))) 1) ⌝ }
-{
-    let mut frames = file::blank_frames();
-    send(q, list, other, own, &mut frames);
-    file::pass(list, &mut frames);
-    calls::value_or(superframe::take_apart(&frames, list, other, own), 0)
-}
-
-// and here those of either.
+// The same of an encoder's own pairs and the other's.
 fn transmit(encoder: u32, q: usize, list: &[u8], own: &mut [u8], other: &mut [u8]) -> u32
     requires { ⌜ (encoder < 2) × (q < 2) × (length (now list) ≡ 12288) × Legal overheadRule (now list) × (length (now own) ≡ 86016) × (length (now other) ≡ 86016) × (now own ≡ sentIn encoder q) × (now other ≡ sentIn (1 - encoder) q) ⌝ }
     ensures { λ r. ⌜ (r ≡ differingAll (lineIn (now (list .entry)) q) (now (list .entry))) × (now (own .exit) ≡ pairsOff (lineIn (now (list .entry)) q) encoder) ⌝ }
 {
     if encoder == 0 {
-        return transmit_first(q, list, own, other);
+        return transmit_both(q, list, own, other);
     }
-    transmit_second(q, list, own, other)
+    transmit_both(q, list, other, own)
 }
 
 // The pairs of an encoder that come off the line in super-frame q, and the number of overhead cells that differ.
