@@ -1,8 +1,8 @@
-// The calls `bits_to_cells` and `cells_to_bits`: 01, "Cells". Over `cells_core`, by the definitions of `cells_spec`.
+// The calls `bits_to_cells` and `cells_to_bits`: 01, "Cells". Over `mapping_core` and `cells_core`, by the definitions of
+// `cells_spec`.
 use calls::Answer;
 use calls::Refusal;
 use cells_core::legal::first_illegal;
-use cells_core::mapping;
 ghost use mathlib.Core.Path.{_≡_};
 ghost use Rattle.calls.specs.Calls.{after};
 ghost use Rattle.cells_spec.specs.Calls.{bitsToCells, cellsToBits};
@@ -24,7 +24,7 @@ pub fn bits_to_cells(bits: &[u8], cells: &mut [u8]) -> Answer
     if cells.len() != CELLS {
         return Answer::Refused(Refusal::Misfit);
     }
-    mapping::map(bits, cells);
+    mapping_core::map(bits, cells);
     Answer::Done(0)
 }
 
@@ -42,6 +42,6 @@ pub fn cells_to_bits(cells: &[u8], bits: &mut [u8]) -> Answer
     if at < cells.len() {
         return Answer::Refused(Refusal::OffGrid(at));
     }
-    mapping::demap(cells, bits);
+    mapping_core::demap(cells, bits);
     Answer::Done(0)
 }

@@ -1,4 +1,2 @@
-// Workers: bytes of bits to cells and back, for any number of symbols. Over `cells_spec`; the calls are in `cells`.
+// Workers: legal cells. Over `cells_spec`; the calls are in `cells`, and `mapping_core` has bits to cells and back.
 pub mod legal;
-mod levels;
-pub mod mapping;

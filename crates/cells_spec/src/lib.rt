@@ -1,1 +1,2 @@
-// Profiles, levels and cells, definitions and laws: 01, "Cells". The workers are in `cells_core`, the calls in `cells`.
+// Profiles, levels and cells, definitions and laws: 01, "Cells". The workers are in `levels_core`, `mapping_core` and
+// `cells_core`, the calls in `cells`.

@@ -1,5 +1,5 @@
-// The calls on a line file: opening it, reading its sub-frames, writing a header (01, "Line file"). Over `line_file_core`, by the
-// definitions of `line_file_spec`.
+// The calls on a line file: opening it, reading its sub-frames, writing a header (01, "Line file"). Over `opening_core` and
+// `line_file_core`, by the definitions of `line_file_spec`.
 mod line_file;
 mod writing;
 
@@ -9,10 +9,10 @@ pub use line_file::open;
 pub use line_file::read;
 pub use line_file::read_refusal;
 pub use line_file::refusal_of_frame;
-pub use line_file_core::opening::open_header;
-pub use line_file_core::opening::open_part;
-pub use line_file_core::opening::open_refusal;
 pub use line_file_core::reading::read_at;
 pub use line_file_core::reading::read_refusal_at;
 pub use line_file_core::reading::start;
+pub use opening_core::open_header;
+pub use opening_core::open_part;
+pub use opening_core::open_refusal;
 pub use writing::write_header;

@@ -1,9 +1,9 @@
 // An open line file as one thing: the lent file with its header numbers. Each function takes it apart, or puts it together,
 // and leaves the work to one with plain parameters.
-use line_file_core::opening::open_header;
-use line_file_core::opening::open_part;
 use line_file_core::reading::read_at;
 use line_file_core::reading::read_refusal_at;
+use opening_core::open_header;
+use opening_core::open_part;
 ghost use mathlib.Core.Path.{_≡_};
 ghost use Rattle.line_file_spec.specs.Opening.{openFile, openCall};
 ghost use Rattle.line_file_spec.specs.Reading.{readRefusalIn, readPartIn};

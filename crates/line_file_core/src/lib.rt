@@ -1,4 +1,3 @@
-// A line file given as a slice and numbers, the workers: opening it, and reading a sub-frame in place. Over `header_core`, by the definitions of
+// Workers: a sub-frame of a line file, given as a slice and numbers, read in place. Over `opening_core`, by the definitions of
 // `line_file_spec`; the calls are in `line_file`.
-pub mod opening;
 pub mod reading;

@@ -1,7 +1,7 @@
 // Reading a sub-frame of a file whose header numbers are given.
-use crate::opening::open_header;
 use calls::Answer;
 use calls::Refusal;
+use opening_core::open_header;
 ghost use mathlib.Core.Path.{_≡_};
 ghost use Prim.Native.Nat.{_+_, _≤_};
 ghost use lib.ListN.{length, take, drop};

@@ -1,17 +1,5 @@
-pub mod Steps
-pub mod StepLaws
-pub mod Random
-pub mod RandomLaws
-pub mod Tally
-pub mod TallyLaws
-pub mod RefusedLaws
-pub mod Noise
-pub mod NoiseLaws
-pub mod PlaceLaws
 pub mod Sent
 pub mod Line
-pub mod File
-pub mod FileLaws
 pub mod LineLaws
 pub mod Received
 pub mod StreamLaws

@@ -1,19 +1,14 @@
 -- The line: the coded pairs of both encoders made into frames, damaged, and taken apart.
 -- Assumes nothing.
-use mathlib.Core.List.{List, _++_}
+use mathlib.Core.List.{List}
 use Prim.Native.Nat.{ℕ}
 use Rattle.bits.specs.Parts.{endToEnd}
 use Rattle.cells_spec.specs.Profiles.{qam16}
-use Rattle.line_file_spec.specs.Writing.{numbersFor, headerBytes}
 use Rattle.superframe_spec.specs.Superframe.{superframe}
 use Rattle.superframe_spec.specs.Apart.{takenCells, takenPairs, differingAll}
-use Rattle.loopback.specs.Noise.{damaged}
+use Rattle.loopback_core.specs.Noise.{damaged}
+use Rattle.loopback_core.specs.Tally.{tallySum}
 use Rattle.loopback.specs.Sent.{sentIn}
-use Rattle.loopback.specs.Tally.{tallySum}
-
--- The line file of one super-frame: header, overhead list, frames.
-unfoldable pub lineFile : List ℕ → List ℕ → List ℕ
-lineFile list line = headerBytes (numbersFor 1) ++ (list ++ line)
 
 -- The damaged frames of super-frame q, and the pairs of encoder e that come off the line.
 unfoldable pub damagedLine : List ℕ → ℕ → List ℕ → List ℕ → List ℕ

@@ -24,11 +24,11 @@ use Rattle.superframe_spec.specs.Superframe.{payload, subFrame, framesEndToEnd,
 use Rattle.superframe_spec.specs.SuperframeLaws.{part-legal, payload-legal, payload-within}
 use Rattle.superframe_spec.specs.Apart.{takenPairs, differingAll, lineRule, takenApart, takeApart}
 use Rattle.superframe_spec.specs.ApartLaws.{apart-done}
-use Rattle.loopback.specs.Noise.{damaged}
-use Rattle.loopback.specs.NoiseLaws.{damaged-legal}
+use Rattle.loopback_core.specs.Noise.{damaged}
+use Rattle.loopback_core.specs.NoiseLaws.{damaged-legal}
+use Rattle.loopback_core.specs.Steps.{eachStep}
+use Rattle.loopback_core.specs.Tally.{tallySum}
 use Rattle.loopback.specs.Sent.{sentIn}
-use Rattle.loopback.specs.Steps.{eachStep}
-use Rattle.loopback.specs.Tally.{tallySum}
 use Rattle.loopback.specs.Line.{damagedLine, pairsOff, lineIn, allOff, lineCounted}
 
 -- ---- legal

@@ -10,9 +10,9 @@ use Rattle.pair_spec.specs.History.{depth, fresh}
 use Rattle.pair_spec.specs.Encoding.{openWord}
 use Rattle.pair_spec.specs.Receiving.{heldWord}
 use Rattle.pair_spec.specs.Stream.{pairReceiver, payloadsOf, marksOf, historyOver, historyBefore}
-use Rattle.loopback.specs.Random.{pairPayload}
-use Rattle.loopback.specs.Steps.{eachStep}
-use Rattle.loopback.specs.Tally.{tallySum, tallied, refusedTwo, lost, wordKind, bitKind}
+use Rattle.loopback_core.specs.Random.{pairPayload}
+use Rattle.loopback_core.specs.Steps.{eachStep}
+use Rattle.loopback_core.specs.Tally.{tallySum, tallied, refusedTwo, lost, wordKind, bitKind}
 
 -- Word w of pair k, with the ten pairs before it; a word of the first ten pairs has zeros in front, whatever stands there.
 unfoldable pub wordIn : List ℕ → ℕ → ℕ → List ℕ

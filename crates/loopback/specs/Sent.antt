@@ -3,9 +3,9 @@
 use mathlib.Core.List.{List}
 use Prim.Native.Nat.{ℕ, _*_}
 use Rattle.pair_spec.specs.Stream.{pairEncoder, codedOf, historyBefore}
-use Rattle.loopback.specs.Random.{payloadIn}
-use Rattle.loopback.specs.Steps.{eachStep}
-use Rattle.loopback.specs.Tally.{refusedTwo}
+use Rattle.loopback_core.specs.Random.{payloadIn}
+use Rattle.loopback_core.specs.Steps.{eachStep}
+use Rattle.loopback_core.specs.Tally.{refusedTwo}
 
 -- The coded pairs of super-frame q of encoder e, from fresh on super-frame by super-frame.
 unfoldable pub sentIn : ℕ → ℕ → List ℕ

@@ -17,10 +17,10 @@ use Rattle.pair_spec.specs.Encoding.{openWord}
 use Rattle.pair_spec.specs.Receiving.{heldWord}
 use Rattle.pair_spec.specs.Calls.{EncodeBuffers, encodeBuffers, ReceiveBuffers, receiveBuffers}
 use Rattle.pair_spec.specs.Stream.{Coder, pairEncoder, pairReceiver, givenOver, codedOf, payloadsOf, marksOf, historyOver, encodeStream, receiveStream, historyBefore}
-use Rattle.loopback.specs.Random.{pairPayload, payloadIn}
+use Rattle.loopback_core.specs.Random.{pairPayload, payloadIn}
+use Rattle.loopback_core.specs.StepLaws.{Stepping, step-more, step-done}
+use Rattle.loopback_core.specs.Tally.{tallySum, tallied, refusedTwo, lost, wordKind, bitKind}
 use Rattle.loopback.specs.Sent.{sentIn}
-use Rattle.loopback.specs.StepLaws.{Stepping, step-more, step-done}
-use Rattle.loopback.specs.Tally.{tallySum, tallied, refusedTwo, lost, wordKind, bitKind}
 use Rattle.loopback.specs.Received.{wordIn, keptWord, payloadWord, codedCounted, payloadCounted, wordCompared, pairCompared}
 use Rattle.loopback.specs.Received.{pairTaken, nextReceived}
 
@@ -64,8 +64,8 @@ module _ (e q : ℕ) (h s ys : List ℕ) (es : s ≡ payloadIn e q) where
 
 -- A super-frame sent, after refused calls that leave the history.
 module _ (e q : ℕ) (h h₁ ys : List ℕ) (is : h ≡ historyBefore pairEncoder 168 (payloadIn e) q) (left : h₁ ≡ h) where
-  pub frame-block : ys ≡ codedOf 168 h₁ (168 * q) (payloadIn e q) → ys ≡ tabulate 86016 (λ i. byteOfEach 86016 (sentIn e) (q * 86016 + i))
-  frame-block es = sent-block e q h₁ ys (left ∙ is) es
+  pub stream-frame-block : ys ≡ codedOf 168 h₁ (168 * q) (payloadIn e q) → ys ≡ tabulate 86016 (λ i. byteOfEach 86016 (sentIn e) (q * 86016 + i))
+  stream-frame-block es = sent-block e q h₁ ys (left ∙ is) es
 
 -- ---- the words of a pair
 

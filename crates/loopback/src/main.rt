@@ -1,17 +1,12 @@
 // Two payload streams from a fixed seed, through the whole chain and back over two super-frames of a damaged line, with refused
 // calls in between; what came of it, in counts.
-// Over `pair_words_core`, `pair`, `pair_stream`, `superframe`, `frame` and `line_file`.
+// Over `pair_words_core`, `pair_stream`, `superframe`, `loopback_core` and `refusing_core`.
 //
 // Each function that has a large array returns before the next such array is needed, so that the program stays within a megabyte of
 // stack: one receiver after the other, each with a run of the line of its own, and what was sent is encoded again where it is needed.
-mod comparing;
-mod counts;
-mod file;
 mod line;
-mod noise;
-mod random;
+mod printing;
 mod receiving;
-mod refusing;
 mod sending;
 
 ghost use mathlib.Core.Path.{_≡_};
@@ -43,7 +38,7 @@ fn run_receiver(encoder: u32)
     let mut counts = [0u32; 41];
     line::carry(encoder, &mut got, &mut counts);
     if encoder == 0 {
-        counts::print_line(&counts);
+        printing::print_line(&counts);
     }
     compare_with_sent(encoder, &got);
 }

@@ -1,22 +1,22 @@
 // Receiving: the pairs of an encoder in order, each after refused calls, and what came of them. `sent` and `got` are the coded pairs as
 // sent and as received.
-use crate::comparing::count_bits;
-use crate::comparing::lost;
-use crate::comparing::word_kind;
-use crate::counts::add;
-use crate::counts::print_receiver;
-use crate::random;
-use crate::refusing::refuse_receiving;
+use crate::printing::print_receiver;
+use loopback_core::comparing::count_bits;
+use loopback_core::comparing::lost;
+use loopback_core::comparing::word_kind;
+use loopback_core::counts::add;
+use loopback_core::random;
 use pair_words_core::words::held_word;
 use pair_words_core::words::open_word;
+use refusing_core::refuse_receiving;
 ghost use mathlib.Core.Path.{_≡_};
 ghost use Prim.Native.Nat.{_-_, _<_};
 ghost use lib.ListN.{length};
 ghost use Rattle.bits.specs.Parts.{partOf};
 ghost use Rattle.pair_spec.specs.Stream.{pairReceiver, historyOver};
-ghost use Rattle.loopback.specs.Random.{pairPayload};
+ghost use Rattle.loopback_core.specs.Random.{pairPayload};
+ghost use Rattle.loopback_core.specs.Steps.{eachStep};
 ghost use Rattle.loopback.specs.Received.{wordIn, keptWord, payloadWord, codedCounted, payloadCounted, pairCompared, pairTaken, nextReceived};
-ghost use Rattle.loopback.specs.Steps.{eachStep};
 
 // The first of the ten pairs before pair k. A word of the first ten pairs has zeros in front, whatever stands there.
 fn before(k: usize) -> usize

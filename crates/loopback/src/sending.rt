@@ -1,16 +1,16 @@
 // Sending: the pairs of an encoder, super-frame by super-frame.
-use crate::counts::add;
-use crate::counts::print_encoder;
-use crate::random;
-use crate::refusing::refuse_encodings;
+use crate::printing::print_encoder;
+use loopback_core::counts::add;
+use loopback_core::random;
+use refusing_core::refuse_encodings;
 ghost use mathlib.Core.Path.{_≡_};
 ghost use Prim.Native.Nat.{_*_, _<_};
 ghost use lib.ListN.{length, replicate};
 ghost use Rattle.bits.specs.Parts.{endToEnd};
 ghost use Rattle.pair_spec.specs.Stream.{pairEncoder as encoderOf, codedOf, historyOver};
-ghost use Rattle.loopback.specs.Random.{payloadIn};
+ghost use Rattle.loopback_core.specs.Random.{payloadIn};
+ghost use Rattle.loopback_core.specs.Steps.{eachStep};
 ghost use Rattle.loopback.specs.Sent.{sentIn, frameSent};
-ghost use Rattle.loopback.specs.Steps.{eachStep};
 
 // The 336 coded pairs of an encoder.
 type Coded = [u8; 172032];

@@ -1,17 +1,16 @@
 // Super-frames of the line: the coded pairs of both encoders made into frames, by the calls of interleaving, cells and framing for every
 // buffer and sub-frame; and the way back, from frames to coded pairs. `pair_stream` has the step between payload and coded pairs.
-// Over `cells_core` and `superframe_core`; by the definitions of `superframe_spec`.
+// Over `cells_core`, `superframe_buffers_core` and `superframe_core`; by the definitions of `superframe_spec`.
 use calls::Answer;
 use calls::Refusal;
 use cells_core::legal::first_illegal;
 ghost use mathlib.Core.Path.{_≡_};
-ghost use lib.ListN.{length};
 ghost use Rattle.calls.specs.declared.Answer.the-variants.{Done};
-ghost use Rattle.cells_spec.specs.Cells.{overheadRule, Legal};
 ghost use Rattle.cells_spec.specs.Profiles.{qam16};
 ghost use Rattle.interleaver_spec.specs.Calls.{parted};
 ghost use Rattle.superframe_spec.specs.Superframe.{superframe};
-ghost use Rattle.superframe_spec.specs.Apart.{lineRule, takenApart, takeApart};
+ghost use Rattle.superframe_spec.specs.Apart.{takenApart, takeApart};
+ghost use Rattle.superframe_spec.specs.Lent.{PairsToFrames, LegalFrames, FramesToPairs};
 
 // The payload of a super-frame: 172,032 cells of two bytes.
 type Payload = [u8; 344064];
@@ -22,28 +21,28 @@ fn blank() -> Payload {
 
 // The frames of a super-frame, end to end.
 pub fn make(pairs0: &[u8], pairs1: &[u8], overhead: &[u8], line: &mut [u8])
-    requires { ⌜ (length (now pairs0) ≡ 86016) × (length (now pairs1) ≡ 86016) × (length (now overhead) ≡ 12288) × Legal overheadRule (now overhead) × (length (now line) ≡ 356352) ⌝ }
+    requires { ⌜ PairsToFrames (now pairs0) (now pairs1) (now overhead) (now line) ⌝ }
     ensures { λ _. ⌜ now (line .exit) ≡ superframe qam16 (now (pairs0 .entry)) (now (pairs1 .entry)) (now (overhead .entry)) ⌝ }
 {
     let mut payload = blank();
-    superframe_core::buffers::join(pairs0, pairs1, &mut payload);
-    superframe_core::subframes::frame_all(&payload, overhead, line);
+    superframe_buffers_core::join(pairs0, pairs1, &mut payload);
+    superframe_core::frame_all(&payload, overhead, line);
 }
 
 // The coded pairs of both encoders from legal frames, and the number of overhead cells that differ from the list.
 fn take(line: &[u8], overhead: &[u8], pairs0: &mut [u8], pairs1: &mut [u8]) -> u32
-    requires { ⌜ (length (now line) ≡ 356352) × Legal (lineRule qam16) (now line) × (length (now overhead) ≡ 12288) × Legal overheadRule (now overhead) × (length (now pairs0) ≡ 86016) × (length (now pairs1) ≡ 86016) ⌝ }
+    requires { ⌜ LegalFrames (now line) (now overhead) × FramesToPairs (now line) (now overhead) (now pairs0) (now pairs1) ⌝ }
     ensures { λ r. ⌜ parted (Done r) (now (pairs0 .exit)) (now (pairs1 .exit)) ≡ takenApart qam16 (now (line .entry)) (now (overhead .entry)) ⌝ }
 {
     let mut payload = blank();
-    let differing = superframe_core::subframes::unframe_all(line, overhead, &mut payload);
-    superframe_core::buffers::part(&payload, pairs0, pairs1);
+    let differing = superframe_core::unframe_all(line, overhead, &mut payload);
+    superframe_buffers_core::part(&payload, pairs0, pairs1);
     differing
 }
 
 // The same from any frames, all of which must be legal, as the list must be.
 pub fn take_apart(line: &[u8], overhead: &[u8], pairs0: &mut [u8], pairs1: &mut [u8]) -> Answer
-    requires { ⌜ (length (now line) ≡ 356352) × (length (now overhead) ≡ 12288) × (length (now pairs0) ≡ 86016) × (length (now pairs1) ≡ 86016) ⌝ }
+    requires { ⌜ FramesToPairs (now line) (now overhead) (now pairs0) (now pairs1) ⌝ }
     ensures { λ r. ⌜ parted r (now (pairs0 .exit)) (now (pairs1 .exit)) ≡ takeApart qam16 (now (line .entry)) (now (overhead .entry)) (now (pairs0 .entry)) (now (pairs1 .entry)) ⌝ }
 {
     let list = first_illegal(overhead);

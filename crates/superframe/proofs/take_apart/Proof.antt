@@ -17,7 +17,7 @@ take-apart-spec =
     (λ c. search kit)  -- returns
     (λ c κs. search kit)  -- first-illegal-requires-2
     (λ c. search kit)  -- returns-2
-    (λ c κs. (search needs, line-legal _ _ (c .before .before .before .first-illegal2 .ensures) (c .before .before .if2 .left), search needs, search (needs, demap-legal), search needs, search needs))  -- take-requires
+    (λ c κs. (record { frames-legal = line-legal _ _ (c .before .before .before .first-illegal2 .ensures) (c .before .before .if2 .left); overhead-legal = search (needs, demap-legal) }, search needs))  -- take-requires
     (λ c. search kit)  -- same-length
     (λ c. search kit)  -- same-length-2
     (λ c. search kit))  -- returns-3

@@ -53,14 +53,14 @@ use Rattle.line_file_spec.specs.Opening.{headerOf, openPart}
 use Rattle.line_file_spec.specs.OpeningLaws.{put-together}
 use Rattle.line_file_spec.proofs.Header as S
 use Rattle.line_file_spec.proofs.Header.Laws as S′
-use Rattle.line_file_core.proofs.opening.open_header as head
-use Rattle.line_file_core.proofs.opening.open_header.Symbol as head-def
-use Rattle.line_file_core.proofs.opening.open_header.Symbol.{name as #line-file-core·open-header}
-use Rattle.line_file_core.proofs.opening.open_header.Met as head-thm
-use Rattle.line_file_core.proofs.opening.open_part as part
-use Rattle.line_file_core.proofs.opening.open_part.Symbol as part-def
-use Rattle.line_file_core.proofs.opening.open_part.Symbol.{name as #line-file-core·open-part}
-use Rattle.line_file_core.proofs.opening.open_part.Met as part-thm
+use Rattle.opening_core.proofs.open_header as head
+use Rattle.opening_core.proofs.open_header.Symbol as head-def
+use Rattle.opening_core.proofs.open_header.Symbol.{name as #opening-core·open-header}
+use Rattle.opening_core.proofs.open_header.Met as head-thm
+use Rattle.opening_core.proofs.open_part as part
+use Rattle.opening_core.proofs.open_part.Symbol as part-def
+use Rattle.opening_core.proofs.open_part.Symbol.{name as #opening-core·open-part}
+use Rattle.opening_core.proofs.open_part.Met as part-thm
 
 abbrev stayed : Stays (it.ended .signature .params) (it.ended .kept)
 stayed = (stay-none-slice (0 ∷ []) tt (plain (λ _. u8)) yes, tt)
@@ -144,7 +144,7 @@ module _ {M : Type 1} (𝓤 : URA M) (H : Heap 𝓤) (A : Atoms 𝓤) (W : Given
       nothing ! $ owned ! u32 (Is u32) (uint-makes 𝓤 H A W w32) (h .frames) _ (refl, wt .1 .1 .1 .1 .0 .fits) $ fjoin ! $ owned ! u32 (Is u32) (uint-makes 𝓤 H A W w32) (h .overhead) _ (refl, wt .1 .1 .1 .0 .fits) $ fjoin ! $ owned ! u32 (Is u32) (uint-makes 𝓤 H A W w32) (h .superframes) _ (refl, wt .1 .1 .0 .fits) $ fjoin ! $ move ! (1 ∷ 0 ∷ []) $ fjoin ! $
       by ! (own-shut 𝓤 H A W (T.the-type α) (T′.the-laws α) (r, (h .superframes, (h .overhead, (h .frames, tt)))))
 
-  module _ (C : Calls 𝓤 H) (Λ : Loops 𝓤 H) (fm : FmC 𝓤 H (W .laws) C) (known-head : Triple 𝓤 (C #line-file-core·open-header) (Head 𝓤 H A mem run)) (known-part : Triple 𝓤 (C #line-file-core·open-part) (Part 𝓤 H A mem run)) where
+  module _ (C : Calls 𝓤 H) (Λ : Loops 𝓤 H) (fm : FmC 𝓤 H (W .laws) C) (known-head : Triple 𝓤 (C #opening-core·open-header) (Head 𝓤 H A mem run)) (known-part : Triple 𝓤 (C #opening-core·open-part) (Part 𝓤 H A mem run)) where
     walk : Is R s (v ∷ []) → ent 𝓤 (onEntry 𝓤 H A it.signature (κ, tt) (q, tt) (s, tt) (v ∷ [], tt)) (WpFn 𝓤 H C Λ code.function (v ∷ []) Post)
     walk p =
         qed W (raw (onEntry 𝓤 H A it.signature (κ, tt) (q, tt) (s, tt) (v ∷ [], tt)) ∷ []) ∵ enter ! C Λ code.function (v ∷ []) _ $
@@ -169,13 +169,13 @@ module _ {M : Type 1} (𝓤 : URA M) (H : Heap 𝓤) (A : Atoms 𝓤) (W : Given
         move ! (9 ∷ 10 ∷ []) $ free1 ! $ move ! (7 ∷ 8 ∷ []) $ free1 ! $ move ! (5 ∷ 6 ∷ []) $ free1 ! $ move ! (3 ∷ 4 ∷ []) $ free1 ! $ free0 ! $ by ! (exits h r wt eh er)))))))))))))))
 
 module _ {M : Type 1} (𝓤 : URA M) (H : Heap 𝓤) (A : Atoms 𝓤) (W : Given 𝓤 H A) (mem : Memory → SProp 𝓤) (run : Routine → Fun 𝓤) where
-  it-walks : (C : Calls 𝓤 H) (Λ : Loops 𝓤 H) → FmC 𝓤 H (W .laws) C → Triple 𝓤 (C #line-file-core·open-header) (Head 𝓤 H A mem run) → Triple 𝓤 (C #line-file-core·open-part) (Part 𝓤 H A mem run)
+  it-walks : (C : Calls 𝓤 H) (Λ : Loops 𝓤 H) → FmC 𝓤 H (W .laws) C → Triple 𝓤 (C #opening-core·open-header) (Head 𝓤 H A mem run) → Triple 𝓤 (C #opening-core·open-part) (Part 𝓤 H A mem run)
       → Walks 𝓤 H A it.ended stayed (WpFn 𝓤 H C Λ code.function) (it.clauses 𝓤 H A mem run)
   it-walks C Λ fm known-head known-part = walked 𝓤 H A it.ended stayed (it.clauses 𝓤 H A mem run) (WpFn 𝓤 H C Λ code.function) (λ κs. (slice-vals, tt)) (λ κs. (shr-slice-tells (named 0) (κs .0) u8, tt))
       (λ κs qs bounds a g are. via 𝓤 _ (fst∗ 𝓤 _ (emp 𝓤)) (walk 𝓤 H A W mem run (κs .0) (qs .0) (a .0) C Λ fm known-head known-part (are .0)))
 
 it-meets : {M : Type 1} (𝓤 : URA M) (H : Heap 𝓤) (A : Atoms 𝓤) (W : Given 𝓤 H A) (mem : Memory → SProp 𝓤) (run : Routine → Fun 𝓤) (𝓣 : Tables 𝓤 H)
-    → Triple 𝓤 (𝓣 .C #line-file-core·open-header) (Head 𝓤 H A mem run) → Triple 𝓤 (𝓣 .C #line-file-core·open-part) (Part 𝓤 H A mem run)
+    → Triple 𝓤 (𝓣 .C #opening-core·open-header) (Head 𝓤 H A mem run) → Triple 𝓤 (𝓣 .C #opening-core·open-part) (Part 𝓤 H A mem run)
     → Meets 𝓤 H A it.signature (WpFn 𝓤 H (𝓣 .C) (𝓣 .Λ) code.function) (it.spec 𝓤 H A mem run)
 it-meets 𝓤 H A W mem run 𝓣 known-head known-part = walk-meets 𝓤 H A it.ended stayed W (goes-none-slice 𝓤 H A W 1 (0 ∷ []) tt (plain (λ _. u8)) yes, tt) (it.clauses 𝓤 H A mem run) (WpFn 𝓤 H (𝓣 .C) (𝓣 .Λ) code.function) (WpFn-mono 𝓤 H (W .laws) 𝓣 code.function)
     (it-walks 𝓤 H A W mem run (𝓣 .C) (𝓣 .Λ) (fmOf 𝓤 H (W .laws) 𝓣) known-head known-part)
@@ -186,5 +186,5 @@ open-spec 𝓤 H 𝓜 𝓖 𝓡 =
     entered 𝓤 H (tripleOf 𝓤 H (𝓖 .A) it.signature (it.spec 𝓤 H (𝓖 .A) (𝓜 .mem) (𝓡 .run)))
     (tables 𝓤 H 𝓜 𝓡 code.env .C) (tables 𝓤 H 𝓜 𝓡 code.env .Λ) #line-file·open code.function (code.unfolded 𝓤 H 𝓜 𝓡)
     (it-meets 𝓤 H (𝓖 .A) (givenOf 𝓤 H 𝓜 𝓖) (𝓜 .mem) (𝓡 .run) (tablesOf 𝓤 H 𝓜 (tables 𝓤 H 𝓜 𝓡 code.env))
-    (cited 𝓤 H (Head 𝓤 H (𝓖 .A) (𝓜 .mem) (𝓡 .run)) 𝓜 𝓡 code.env #line-file-core·open-header head-def.routine code.calls-line-file-core·opening·open-header (head-thm.met 𝓤 H 𝓜 𝓖 𝓡))
-    (cited 𝓤 H (Part 𝓤 H (𝓖 .A) (𝓜 .mem) (𝓡 .run)) 𝓜 𝓡 code.env #line-file-core·open-part part-def.routine code.calls-line-file-core·opening·open-part (part-thm.met 𝓤 H 𝓜 𝓖 𝓡)))
+    (cited 𝓤 H (Head 𝓤 H (𝓖 .A) (𝓜 .mem) (𝓡 .run)) 𝓜 𝓡 code.env #opening-core·open-header head-def.routine code.calls-opening-core·open-header (head-thm.met 𝓤 H 𝓜 𝓖 𝓡))
+    (cited 𝓤 H (Part 𝓤 H (𝓖 .A) (𝓜 .mem) (𝓡 .run)) 𝓜 𝓡 code.env #opening-core·open-part part-def.routine code.calls-opening-core·open-part (part-thm.met 𝓤 H 𝓜 𝓖 𝓡)))

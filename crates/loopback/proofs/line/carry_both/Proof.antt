@@ -7,7 +7,7 @@ use Rattle.bits.specs.Filling.{Blocks, by-blocks, blocks-next}
 use Rattle.bits.specs.Parts.{byteOfEach}
 use Rattle.bits.specs.PartLaws.{part-long}
 use Rattle.loopback.specs.Line.{pairsOff, lineIn, lineCounted}
-use Rattle.loopback.specs.StepLaws.{Stepping, step-none, step-more, step-done}
+use Rattle.loopback_core.specs.StepLaws.{Stepping, step-none, step-more, step-done}
 use Rattle.loopback.specs.LineLaws.{off-block, off-whole, line-counted}
 use borrow.Author.Needs.{needs}
 use Rattle.loopback.proofs.line.carry_both.Statement.{statement}

@@ -1,6 +1,6 @@
 -- `loopback::line::overhead` meets its contract.
 -- Assumes nothing.
-use Rattle.loopback.specs.RandomLaws.{list-drawn, drawn-legal}
+use Rattle.loopback_core.specs.RandomLaws.{list-drawn, drawn-legal}
 use borrow.Author.Needs.{needs}
 use Rattle.loopback.proofs.line.overhead.Statement.{statement}
 use Rattle.loopback.proofs.line.overhead.Tie as tie

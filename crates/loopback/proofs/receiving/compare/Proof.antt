@@ -3,7 +3,7 @@
 use mathlib.Core.Path.{_≡_}
 use lib.ListN.{length}
 use Prim.Native.Nat.{_-_}
-use Rattle.loopback.specs.StepLaws.{Stepping, step-none}
+use Rattle.loopback_core.specs.StepLaws.{Stepping, step-none}
 use Rattle.loopback.specs.Received.{wordCompared}
 use Rattle.loopback.specs.StreamLaws.{words-more, words-done}
 use borrow.Author.Needs.{needs}

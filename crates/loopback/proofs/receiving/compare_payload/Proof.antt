@@ -1,7 +1,7 @@
 -- `loopback::receiving::compare_payload` meets its contract.
 -- Assumes nothing.
 use mathlib.Core.Path.{refl}
-use Rattle.loopback.specs.RandomLaws.{payload-drawn}
+use Rattle.loopback_core.specs.RandomLaws.{payload-drawn}
 use Rattle.loopback.specs.StreamLaws.{payload-counted}
 use borrow.Author.Needs.{needs}
 use Rattle.loopback.proofs.receiving.compare_payload.Statement.{statement}

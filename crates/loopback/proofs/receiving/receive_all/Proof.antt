@@ -6,7 +6,7 @@ use Prim.Native.Nat.{_-_}
 use Rattle.bits.specs.Parts.{partOf}
 use Rattle.pair_spec.specs.Stream.{pairReceiver, historyBefore}
 use Rattle.loopback.specs.Received.{nextReceived}
-use Rattle.loopback.specs.StepLaws.{Stepping, step-none, step-done}
+use Rattle.loopback_core.specs.StepLaws.{Stepping, step-none, step-done}
 use Rattle.loopback.specs.StreamLaws.{before-none, before-pair, received-more}
 use borrow.Author.Needs.{needs}
 use Rattle.loopback.proofs.receiving.receive_all.Statement.{statement}

@@ -4,9 +4,9 @@ use mathlib.Core.Path.{refl}
 use Prim.Native.Nat.{_+_, _-_, _*_}
 use Rattle.bits.specs.Filling.{Blocks, by-blocks, blocks-next}
 use Rattle.bits.specs.Parts.{part, byteOfEach}
-use Rattle.loopback.specs.Random.{pairPayload}
+use Rattle.loopback_core.specs.Random.{pairPayload}
 use Rattle.bits.specs.PartLaws.{part-long}
-use Rattle.loopback.specs.RandomLaws.{pair-block, payload-stream-is}
+use Rattle.loopback_core.specs.RandomLaws.{pair-block, payload-stream-is}
 use borrow.Author.Needs.{needs}
 use Rattle.loopback.proofs.sending.draw.Statement.{statement}
 use Rattle.loopback.proofs.sending.draw.Tie as tie

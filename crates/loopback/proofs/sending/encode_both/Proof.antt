@@ -7,11 +7,11 @@ use Rattle.bits.specs.Filling.{Blocks, by-blocks, blocks-next}
 use Rattle.bits.specs.Parts.{byteOfEach}
 use Rattle.bits.specs.PartLaws.{part-long}
 use Rattle.pair_spec.specs.Stream.{pairEncoder as encoderOf, historyBefore}
-use Rattle.loopback.specs.Random.{payloadIn}
+use Rattle.loopback_core.specs.Random.{payloadIn}
 use Rattle.loopback.specs.Sent.{sentIn, frameSent}
-use Rattle.loopback.specs.StepLaws.{Stepping, step-none, step-more, step-done}
+use Rattle.loopback_core.specs.StepLaws.{Stepping, step-none, step-more, step-done}
 use Rattle.loopback.specs.LineLaws.{whole}
-use Rattle.loopback.specs.StreamLaws.{before-none, before-more, frame-block}
+use Rattle.loopback.specs.StreamLaws.{before-none, before-more, stream-frame-block}
 use borrow.Author.Needs.{needs}
 use Rattle.loopback.proofs.sending.encode_both.Statement.{statement}
 use Rattle.loopback.proofs.sending.encode_both.Tie as tie
@@ -49,7 +49,7 @@ encode-both-spec =
     let made = c .before .before .before .encode-next .ensures in (
       search needs,
       search needs,
-      blocks-next {d = l .coded} (l .q * 86016) (l .q * 86016 + 86016) _ (l .inv .2) (search needs) refl refl (frame-block _ _ _ _ _ (l .inv .3) (left .0) (made .0)),
+      blocks-next {d = l .coded} (l .q * 86016) (l .q * 86016 + 86016) _ (l .inv .2) (search needs) refl refl (stream-frame-block _ _ _ _ _ (l .inv .3) (left .0) (made .0)),
       before-more _ _ _ _ _ _ _ (left .0 ∙ l .inv .3) refl (made .1),
       step-more _ (l .inv .4) (search needs) (left .1),
     ))  -- loop-again

@@ -4,7 +4,7 @@ use mathlib.Core.Path.{_≡_, refl}
 use lib.ListN.{length}
 use Prim.Native.Nat.{_-_, _≤_}
 use Rattle.pair_spec.specs.Stream.{pairEncoder as encoderOf, historyBefore}
-use Rattle.loopback.specs.Random.{payloadIn}
+use Rattle.loopback_core.specs.Random.{payloadIn}
 use Rattle.loopback.specs.StreamLaws.{before-none, before-more, sent-one}
 use borrow.Author.Needs.{needs}
 use Rattle.loopback.proofs.sending.encode_one.Statement.{statement}

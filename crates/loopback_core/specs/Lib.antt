@@ -1,0 +1,11 @@
+pub mod Steps
+pub mod StepLaws
+pub mod Random
+pub mod RandomLaws
+pub mod Tally
+pub mod TallyLaws
+pub mod Noise
+pub mod NoiseLaws
+pub mod PlaceLaws
+pub mod File
+pub mod FileLaws

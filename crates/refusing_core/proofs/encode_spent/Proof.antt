@@ -1,0 +1,18 @@
+-- `refusing_core::encode_spent` meets its contract.
+-- Assumes nothing.
+use Rattle.refusing_core.specs.RefusedLaws.{refusing}
+use borrow.Author.Needs.{needs}
+use Rattle.refusing_core.proofs.encode_spent.Statement.{statement}
+use Rattle.refusing_core.proofs.encode_spent.Tie as tie
+
+ruleset kit = (needs, refusing)
+
+pub encode-spent-spec : {M : Type 1} → statement M
+encode-spent-spec =
+    tie.close
+    (tie.spec
+    (λ c. search kit)  -- slice-aggregate-encode-pair
+    (λ c. search kit)  -- slice-aggregate-encode-pair-2
+    (λ c κs. search kit)  -- encode-pair-requires
+    (λ c. search kit)  -- same-length
+    (λ c. (search kit, search kit)))  -- returns

@@ -1,0 +1,19 @@
+-- `refusing_core::receive_short` meets its contract.
+-- Assumes nothing.
+use Rattle.refusing_core.specs.RefusedLaws.{refusing}
+use borrow.Author.Needs.{needs}
+use Rattle.refusing_core.proofs.receive_short.Statement.{statement}
+use Rattle.refusing_core.proofs.receive_short.Tie as tie
+
+ruleset kit = (needs, refusing)
+
+pub receive-short-spec : {M : Type 1} → statement M
+receive-short-spec =
+    tie.close
+    (tie.spec
+    (λ c. search kit)  -- slice-aggregate-receive-pair
+    (λ c. search kit)  -- slice-aggregate-receive-pair-2
+    (λ c. search kit)  -- slice-aggregate-receive-pair-3
+    (λ c κs. search kit)  -- receive-pair-requires
+    (λ c. search kit)  -- same-length
+    (λ c. (search kit, search kit)))  -- returns

@@ -1,0 +1,102 @@
+// Workers of `loopback`: refused calls among the others: lent an encoder's or a receiver's own history, they leave it as it was. Over `pair`
+// and `frame`; counted by `loopback_core`.
+use calls::Answer;
+use loopback_core::counts::answered;
+ghost use mathlib.Core.Path.{_≡_};
+ghost use lib.ListN.{length};
+ghost use Rattle.calls.specs.declared.Answer.the-variants.{Refused};
+ghost use Rattle.calls.specs.declared.Refusal.the-variants.{Misfit, CountSpent, NoSuchFrame, OffGrid};
+ghost use Rattle.loopback_core.specs.Steps.{eachStep};
+ghost use Rattle.loopback_core.specs.Tally.{answered, refusedTwo};
+
+// The pair number that no call takes.
+const SPENT: u32 = 4294967295;
+
+// A call of encoding with a byte too few.
+fn encode_short(history: &mut [u8]) -> Answer
+    ensures { λ r. ⌜ (r ≡ Refused Misfit) × (now (history .exit) ≡ now (history .entry)) ⌝ }
+{
+    let payload = [0u8; 443];
+    let mut coded = [0u8; 512];
+    pair::encode_pair(&payload, &mut coded, history, 0)
+}
+
+// One with the pair number that no call takes.
+fn encode_spent(history: &mut [u8]) -> Answer
+    requires { ⌜ length (now history) ≡ 5120 ⌝ }
+    ensures { λ r. ⌜ (r ≡ Refused CountSpent) × (now (history .exit) ≡ now (history .entry)) ⌝ }
+{
+    let payload = [0u8; 444];
+    let mut coded = [0u8; 512];
+    pair::encode_pair(&payload, &mut coded, history, SPENT)
+}
+
+// Both, for each pair of a super-frame.
+pub fn refuse_encodings(history: &mut [u8], counts: &mut [u32])
+    requires { ⌜ (length (now history) ≡ 5120) × (length (now counts) ≡ 41) ⌝ }
+    ensures { λ _. ⌜ (now (history .exit) ≡ now (history .entry)) × (now (counts .exit) ≡ eachStep 168 (λ k. refusedTwo) (now (counts .entry))) ⌝ }
+{
+    for k in 0..168usize {
+        answered(counts, encode_short(history));
+        answered(counts, encode_spent(history));
+    }
+}
+
+// A call of receiving with a byte too few.
+fn receive_short(history: &mut [u8]) -> Answer
+    ensures { λ r. ⌜ (r ≡ Refused Misfit) × (now (history .exit) ≡ now (history .entry)) ⌝ }
+{
+    let coded = [0u8; 511];
+    let mut payload = [0u8; 444];
+    let mut marks = [0u8; 32];
+    pair::receive_pair(&coded, &mut payload, &mut marks, history, 0)
+}
+
+// One with the pair number that no call takes.
+fn receive_spent(history: &mut [u8]) -> Answer
+    requires { ⌜ length (now history) ≡ 5120 ⌝ }
+    ensures { λ r. ⌜ (r ≡ Refused CountSpent) × (now (history .exit) ≡ now (history .entry)) ⌝ }
+{
+    let coded = [0u8; 512];
+    let mut payload = [0u8; 444];
+    let mut marks = [0u8; 32];
+    pair::receive_pair(&coded, &mut payload, &mut marks, history, SPENT)
+}
+
+// Both.
+pub fn refuse_receiving(history: &mut [u8], counts: &mut [u32])
+    requires { ⌜ (length (now history) ≡ 5120) × (length (now counts) ≡ 41) ⌝ }
+    ensures { λ _. ⌜ (now (history .exit) ≡ now (history .entry)) × (now (counts .exit) ≡ refusedTwo (now (counts .entry))) ⌝ }
+{
+    answered(counts, receive_short(history));
+    answered(counts, receive_spent(history));
+}
+
+// A call of framing for a sub-frame that there is not.
+fn frame_beyond() -> Answer
+    ensures { λ r. ⌜ r ≡ Refused NoSuchFrame ⌝ }
+{
+    let list = [0u8; 12288];
+    let all = &list[..];
+    let mut frame = [0u8; 7424];
+    frame::frame(48, all, all, &mut frame)
+}
+
+// One with an illegal overhead list.
+fn frame_off_grid() -> Answer
+    ensures { λ r. ⌜ r ≡ Refused (OffGrid 0) ⌝ }
+{
+    let list = [16u8; 12288];
+    let all = &list[..];
+    let mut frame = [0u8; 7424];
+    frame::frame(0, &all[0..6980], all, &mut frame)
+}
+
+// Both.
+pub fn refuse_framing(counts: &mut [u32])
+    requires { ⌜ length (now counts) ≡ 41 ⌝ }
+    ensures { λ _. ⌜ now (counts .exit) ≡ answered (Refused (OffGrid 0)) (answered (Refused NoSuchFrame) (now (counts .entry))) ⌝ }
+{
+    answered(counts, frame_beyond());
+    answered(counts, frame_off_grid());
+}
