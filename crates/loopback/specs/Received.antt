@@ -6,13 +6,14 @@ use lib.ListN.{getD}
 use Rattle.bits.specs.Bits.{pack}
 use Rattle.bits.specs.Parts.{part, partOf}
 use Rattle.word_spec.specs.Completion.{firstBits}
+use Rattle.word_spec.specs.Marks.{lostIn}
 use Rattle.pair_spec.specs.History.{depth, fresh}
 use Rattle.pair_spec.specs.Encoding.{openWord}
 use Rattle.pair_spec.specs.Receiving.{heldWord}
 use Rattle.pair_spec.specs.Stream.{pairReceiver, payloadsOf, marksOf, historyOver, historyBefore}
 use Rattle.loopback_core.specs.Random.{pairPayload}
 use Rattle.loopback_core.specs.Steps.{eachStep}
-use Rattle.loopback_core.specs.Tally.{tallySum, tallied, refusedTwo, lost, wordKind, bitKind}
+use Rattle.loopback_core.specs.Tally.{tallySum, tallied, refusedTwo, wordKind, bitKind}
 
 -- Word w of pair k, with the ten pairs before it; a word of the first ten pairs has zeros in front, whatever stands there.
 unfoldable pub wordIn : List ℕ → ℕ → ℕ → List ℕ
@@ -29,13 +30,13 @@ payloadWord payload k w = pack 32 (firstBits (openWord depth (fresh depth) k pay
 -- What is counted of word w of pair k, whose mark is given: the word, and the bits of its back half, from 27 on, or 31 in a lost word;
 unfoldable pub codedCounted : ℕ → ℕ → List ℕ → List ℕ → List ℕ → ℕ → List ℕ → List ℕ
 codedCounted k w sent got history mark counts =
-    tallied 128 (bitKind (27 + lost mark * 4) (wordIn sent k w) (wordIn got k w) (keptWord history k w))
+    tallied 128 (bitKind (27 + lostIn mark * 4) (wordIn sent k w) (wordIn got k w) (keptWord history k w))
     (tallySum (wordKind (wordIn sent k w) (wordIn got k w) mark) 1 counts)
 
 -- and its payload bits, from 35 on, or 37 in a lost word, which are right or wrong.
 unfoldable pub payloadCounted : ℕ → ℕ → List ℕ → List ℕ → ℕ → List ℕ → List ℕ
 payloadCounted k w sent out mark counts =
-    tallied 111 (bitKind (35 + lost mark * 2) (payloadWord sent k w) (payloadWord out k w) (payloadWord sent k w)) counts
+    tallied 111 (bitKind (35 + lostIn mark * 2) (payloadWord sent k w) (payloadWord out k w) (payloadWord sent k w)) counts
 
 -- Word w of pair k of encoder e, with the history, the payload and the marks that the pair's call gave; and all its words.
 unfoldable pub wordCompared : ℕ → ℕ → List ℕ → List ℕ → List ℕ → List ℕ → List ℕ → ℕ → List ℕ → List ℕ

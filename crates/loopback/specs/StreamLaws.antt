@@ -12,6 +12,7 @@ use Rattle.bits.specs.Lists.{tabulate}
 use Rattle.bits.specs.Parts.{part, partOf, byteOfEach}
 use Rattle.bits.specs.PartLaws.{endToEnd-length, each-block}
 use Rattle.word_spec.specs.Completion.{firstBits}
+use Rattle.word_spec.specs.Marks.{lostIn}
 use Rattle.pair_spec.specs.History.{depth, fresh}
 use Rattle.pair_spec.specs.Encoding.{openWord}
 use Rattle.pair_spec.specs.Receiving.{heldWord}
@@ -19,7 +20,7 @@ use Rattle.pair_spec.specs.Calls.{EncodeBuffers, encodeBuffers, ReceiveBuffers,
 use Rattle.pair_spec.specs.Stream.{Coder, pairEncoder, pairReceiver, givenOver, codedOf, payloadsOf, marksOf, historyOver, encodeStream, receiveStream, historyBefore}
 use Rattle.loopback_core.specs.Random.{pairPayload, payloadIn}
 use Rattle.loopback_core.specs.StepLaws.{Stepping, step-more, step-done}
-use Rattle.loopback_core.specs.Tally.{tallySum, tallied, refusedTwo, lost, wordKind, bitKind}
+use Rattle.loopback_core.specs.Tally.{tallySum, tallied, refusedTwo, wordKind, bitKind}
 use Rattle.loopback.specs.Sent.{sentIn}
 use Rattle.loopback.specs.Received.{wordIn, keptWord, payloadWord, codedCounted, payloadCounted, wordCompared, pairCompared}
 use Rattle.loopback.specs.Received.{pairTaken, nextReceived}
@@ -87,7 +88,7 @@ payload-in payload k w r e = e
 
 pub coded-counted : (k w : ℕ) (sent got history : List ℕ) (mark : ℕ) (s g h : List ℕ) (v l : ℕ) (d d₁ d₂ : List ℕ) → s ≡ wordIn sent k w
     → g ≡ wordIn got k w
-    → h ≡ keptWord history k w → v ≡ wordKind s g mark → d₁ ≡ tallySum v 1 d → l ≡ lost mark
+    → h ≡ keptWord history k w → v ≡ wordKind s g mark → d₁ ≡ tallySum v 1 d → l ≡ lostIn mark
     → d₂ ≡ tallied 128 (bitKind (27 + l * 4) s g h) d₁
     → d₂ ≡ codedCounted k w sent got history mark d
 unfolding codedCounted
@@ -95,7 +96,7 @@ coded-counted k w sent got history mark s g h v l d d₁ d₂ es eg eh ev e₁ e
 
 pub payload-counted : (k w pairEncoder : ℕ) (out : List ℕ) (mark : ℕ) (payload s o : List ℕ) (l : ℕ) (d d₁ : List ℕ)
     → payload ≡ pairPayload pairEncoder k
-    → s ≡ payloadWord payload k w → o ≡ payloadWord out k w → l ≡ lost mark → d₁ ≡ tallied 111 (bitKind (35 + l * 2) s o s) d
+    → s ≡ payloadWord payload k w → o ≡ payloadWord out k w → l ≡ lostIn mark → d₁ ≡ tallied 111 (bitKind (35 + l * 2) s o s) d
     → d₁ ≡ payloadCounted k w (pairPayload pairEncoder k) out mark d
 unfolding payloadCounted
 payload-counted k w pairEncoder out mark payload s o l d d₁ ep es eo el e₁ = cc

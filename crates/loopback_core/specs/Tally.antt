@@ -44,10 +44,6 @@ refusedTwo counts = answered (Refused CountSpent) (answered (Refused Misfit) cou
 unfoldable pub wrongAt : List ℕ → List ℕ → ℕ → ℕ
 wrongAt a b k = differs (bit a k) (bit b k)
 
--- A word marked 3 is lost.
-unfoldable pub lost : ℕ → ℕ
-lost mark = cond (eqb mark 3) 1 0
-
 -- Words are counted from 7 on, by their wrong received bits, 0 to 3 or 4 for more, and by their marks, 0 to 3.
 unfoldable pub wordKind : List ℕ → List ℕ → ℕ → ℕ
 wordKind sent got mark = 7 + cond (ltb (distance 256 (bit sent) (bit got)) 4) (distance 256 (bit sent) (bit got)) 4 * 4 + mark % 4

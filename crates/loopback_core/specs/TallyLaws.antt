@@ -24,7 +24,7 @@ use Rattle.calls.specs.declared.Refusal.the-variants.{Misfit, BadHeader, CountS
 use Rattle.calls.specs.Answers.{refusalOf}
 use Rattle.loopback_core.specs.Steps.{eachStep}
 use Rattle.loopback_core.specs.StepLaws.{Stepping, step-more, step-done}
-use Rattle.loopback_core.specs.Tally.{tallySum, oneMore, tallied, tally, answered, refusedTwo, wrongAt, lost, wordKind, bitKind}
+use Rattle.loopback_core.specs.Tally.{tallySum, oneMore, tallied, tally, answered, refusedTwo, wrongAt, wordKind, bitKind}
 
 -- ---- counters
 
@@ -112,14 +112,6 @@ module _ (kind : ℕ → ℕ) (d : List ℕ) (inside : (i : ℕ) → kind i < le
 
 -- ---- kinds
 
-pub lost-yes : (mark : ℕ) → mark ≡ 3 → 1 ≡ lost mark
-unfolding lost
-lost-yes mark e = sym (ap unit (eq-eqb mark 3 e))
-
-pub lost-no : (mark : ℕ) → mark ≢ 3 → 0 ≡ lost mark
-unfolding lost
-lost-no mark e = sym (ap unit (ne-eqb mark 3 e))
-
 pub differ-no : (x y : ℕ) (a b : List ℕ) (k : ℕ) → x ≡ bit a k → y ≡ bit b k → x ≡ y → 0 ≡ wrongAt a b k
 unfolding wrongAt
 differ-no x y a b k ea eb e = sym (differs-same (bit a k) (bit b k) (sym ea ∙ e ∙ eb))
@@ -128,7 +120,7 @@ pub differ-yes : (x y : ℕ) (a b : List ℕ) (k : ℕ) → x ≡ bit a k → y 
 unfolding wrongAt
 differ-yes x y a b k ea eb n = sym (differs-other (bit a k) (bit b k) (λ e. n (ea ∙ e ∙ sym eb)))
 
-pub ruleset telling = (lost-yes, lost-no, differ-no, differ-yes)
+pub ruleset telling = (differ-no, differ-yes)
 
 pub distance-fits : (a b : List ℕ) (n k v : ℕ) → Counting (wrongAt a b) 256 k n → v ≡ wrongAt a b k → Fits w64 (n + v)
 unfolding wrongAt

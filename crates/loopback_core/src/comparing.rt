@@ -5,7 +5,8 @@ ghost use Prim.Native.Nat.{_<_, _≤_};
 ghost use lib.ListN.{length};
 ghost use Rattle.bits.specs.Bits.{bit};
 ghost use Rattle.bits.specs.Count.{distance};
-ghost use Rattle.loopback_core.specs.Tally.{wrongAt, tallied, lost, wordKind, bitKind};
+ghost use Rattle.word_spec.specs.Marks.{lostIn};
+ghost use Rattle.loopback_core.specs.Tally.{wrongAt, tallied, wordKind, bitKind};
 
 // 1 where bit k of two words differs, and 0 otherwise.
 fn differ(a: &[u8], b: &[u8], k: usize) -> usize
@@ -32,12 +33,9 @@ fn distance(a: &[u8], b: &[u8]) -> usize
 
 // 1 for the mark of a lost word.
 pub fn lost(mark: u8) -> usize
-    ensures { λ r. ⌜ (r ≡ lost mark) × (r < 2) ⌝ }
+    ensures { λ r. ⌜ (r ≡ lostIn mark) × (r < 2) ⌝ }
 {
-    if mark == 3 {
-        return 1;
-    }
-    0
+    marks::lost_in(mark) as usize
 }
 
 // The kind of a word.

@@ -31,4 +31,7 @@ pub mark-sum-done : {marks : List ℕ} {k flips lost : ℕ} → MarkSum flipsIn 
 unfolding sumOf
 mark-sum-done f l h = ap₂ (λ x y. record { flips = x; lost = y }) (count-done (f .is) h) (count-done (l .is) h)
 
-pub ruleset mark-summing = (mark-sum-none, mark-sum-more, mark-sum-fits, mark-sum-done)
+pub one-is-few : {v : ℕ} → v ≤ 1 → v ≤ 2
+one-is-few h = omega arith
+
+pub ruleset mark-summing = (mark-sum-none, mark-sum-more, mark-sum-fits, mark-sum-done, one-is-few)

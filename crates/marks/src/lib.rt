@@ -1,4 +1,4 @@
-// What the marks of received words add up to. Over `word_spec`, below `linereceive`.
+// What the marks of received words add up to. Over `word_spec`, below `linereceive` and `loopback_core`.
 ghost use mathlib.Core.Path.{_≡_};
 ghost use Prim.Native.Nat.{_*_, _≤_};
 ghost use lib.ListN.{length};
@@ -22,8 +22,8 @@ fn flips_in(mark: u8) -> u32
 }
 
 // The lost words that it tells of.
-fn lost_in(mark: u8) -> u32
-    ensures { λ r. ⌜ (r ≡ lostIn mark) × (r ≤ 2) ⌝ }
+pub fn lost_in(mark: u8) -> u32
+    ensures { λ r. ⌜ (r ≡ lostIn mark) × (r ≤ 1) ⌝ }
 {
     if mark == 3 {
         return 1;
