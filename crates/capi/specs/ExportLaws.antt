@@ -1,17 +1,16 @@
 -- An exported function that hands the library's call on, and its answer in numbers, gives what it should.
 -- Assumes nothing.
-use mathlib.Core.Path.{_≡_, sym, ap, _∙_}
+use mathlib.Core.Path.{_≡_, ap, _∙_}
 use mathlib.Core.List.{List}
 use Prim.Native.Nat.{ℕ, _^_, _<_}
 use native.Mathlib.Omega.{arith}
-use borrow.Author.Tests.{eq-eqb, ne-eqb}
 use lib.ListN.{length}
 use Rattle.calls.specs.declared.Answer.{Answer}
 use Rattle.calls.specs.Calls.{After, after}
 use Rattle.line_file_spec.specs.Reading.{readRefusal, startOf, readPart}
-use Rattle.line_file_spec.specs.ReadingLaws.{stretch-length}
+use Rattle.line_file_spec.specs.ReadingLaws.{stretch-refused, handed-length, stretch-done}
 use Rattle.capi.specs.declared.Outcome.{Outcome}
-use Rattle.capi.specs.Outcomes.{outcome, outcomeOf, stretchOf}
+use Rattle.capi.specs.Outcomes.{outcome, outcomeOf, outcomeIn, stretchOf}
 use Rattle.capi.specs.Exports.{exported, inNumbers}
 
 pub exported-is : {B : Type 0} (a : Answer) (o : Outcome) (refused : ℕ) → o ≡ outcomeOf a refused → (x : After B) (w : B) → after a w ≡ x
@@ -22,20 +21,16 @@ exported-is a o refused e x w g = ap (λ q. exported q w) e ∙ ap (inNumbers re
 -- ---- reading a line file: m is the number that the companion gave
 
 module _ (file : List ℕ) (n o f q s m : ℕ) (is : m ≡ readRefusal file n o f q s) where
-  pub stretch-refused : (m ≡ 0 → ⊥) → outcome m 0 0 ≡ stretchOf (readRefusal file n o f q s) f q s
+  pub reading-refused : (m ≡ 0 → ⊥) → outcome m 0 0 ≡ stretchOf (readRefusal file n o f q s) f q s
   unfolding stretchOf
-  stretch-refused h = rw is (simp (ne-eqb _ 0 (λ z. h (is ∙ z))))
+  reading-refused h = ap outcomeIn (stretch-refused file n o f q s m is h)
 
-  -- Where it gave none, the reader hands back a part of 7,424 bytes.
   module _ (part : List ℕ) (none : m ≡ 0) (handed : part ≡ readPart file n o f q s) where
-    pub handed-length : length part ≡ 7424
-    handed-length = ap length handed ∙ stretch-length file n o f q s (sym is ∙ none)
+    pub reading-fits : length part < 2 ^ 32
+    reading-fits = omega (arith, handed-length file n o f q s m is part none handed)
 
-    pub handed-fits : length part < 2 ^ 32
-    handed-fits = omega (arith, handed-length)
-
-    pub stretch-done : (i : ℕ) → i ≡ startOf f q s → outcome 0 (length part) i ≡ stretchOf (readRefusal file n o f q s) f q s
+    pub reading-done : (i : ℕ) → i ≡ startOf f q s → outcome 0 (length part) i ≡ stretchOf (readRefusal file n o f q s) f q s
     unfolding stretchOf
-    stretch-done i e = rw (handed-length, e) (simp (eq-eqb _ 0 (sym is ∙ none)))
+    reading-done i e = ap outcomeIn (stretch-done file n o f q s m is part none handed i e)
 
-pub ruleset stretches = (stretch-refused, handed-fits, stretch-done)
+pub ruleset readings = (reading-refused, reading-fits, reading-done)

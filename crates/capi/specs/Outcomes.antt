@@ -1,13 +1,14 @@
 -- What the exported functions answer: the answers of the library in numbers, by its own definitions.
 -- Assumes nothing.
 use mathlib.Core.Path.{_≡_, refl}
-use mathlib.Core.Bool.{Bool, not, cond}
+use mathlib.Core.Bool.{Bool, not}
 use Prim.Native.Nat.{ℕ}
 use lib.Dec.{eqb}
 use Rattle.calls.specs.declared.Answer.{Answer}
 use Rattle.calls.specs.Answers.{refusalOf, indexOf, valueOr}
+use Rattle.calls.specs.Results.{Result}
 use Rattle.line_file_spec.specs.declared.Header.{Header}
-use Rattle.line_file_spec.specs.Reading.{startOf}
+use Rattle.line_file_spec.specs.Reading.{stretchResult}
 use Rattle.capi.specs.declared.Outcome.{Outcome}
 use Rattle.capi.specs.declared.Line.{Line}
 
@@ -34,6 +35,10 @@ pub line-is : (g h : Header) (n : ℕ) → h ≡ g → n ≡ refusalOf (h .answe
     → _≡_ {A = Line} (record { refusal = n; superframes = h .superframes; overhead = h .overhead; frames = h .frames }) (lineOf g)
 line-is g h n e d = rw (d, e) refl
 
+-- A result of the library.
+abbrev pub outcomeIn : Result → Outcome
+outcomeIn r = outcome (r .refusal) (r .value) (r .index)
+
 -- Where a sub-frame stands, n being the companion's number: its 7,424 bytes from f + 356,352×q + 7,424×s on; zeros in a refusal.
 unfoldable pub stretchOf : ℕ → ℕ → ℕ → ℕ → Outcome
-stretchOf n f q s = cond (eqb n 0) (outcome 0 7424 (startOf f q s)) (outcome n 0 0)
+stretchOf n f q s = outcomeIn (stretchResult n f q s)

@@ -1,8 +1,8 @@
-// The calls on a line file: opening it, reading its sub-frames, writing a header (01, "Line file"). Over `opening_core` and
-// `line_file_core`, by the definitions of `line_file_spec`.
+// The calls on a line file: opening it, reading its sub-frames, writing a header (01, "Line file"). Over `opening_core`,
+// `line_file_core` and `header`, by the definitions of `line_file_spec`.
 mod line_file;
-mod writing;
 
+pub use header::write_header;
 pub use line_file::LineFile;
 pub use line_file::frame_of;
 pub use line_file::open;
@@ -15,4 +15,3 @@ pub use line_file_core::reading::start;
 pub use opening_core::open_header;
 pub use opening_core::open_part;
 pub use opening_core::open_refusal;
-pub use writing::write_header;

@@ -1,5 +1,6 @@
 -- Reading a sub-frame of a line file.
 -- Assumes nothing.
+use mathlib.Core.Bool.{cond}
 use mathlib.Core.List.{List, [], _∷_, _++_}
 use Prim.Native.Nat.{ℕ, _+_, _*_}
 use lib.Dec.{eqb}
@@ -7,6 +8,7 @@ use lib.ListN.{length, take, drop}
 use Rattle.bits.specs.Tests.{both}
 use Rattle.calls.specs.declared.Answer.{Answer}
 use Rattle.calls.specs.Answers.{refusalOf}
+use Rattle.calls.specs.Results.{Result, result}
 use Rattle.calls.specs.Calls.{Test, badHeader, noSubFrame, noSuperFrame, verdict}
 use Rattle.line_file_spec.specs.Header.{headerNumber, headerTests}
 use Rattle.line_file_spec.specs.Opening.{partWhen, OpenFile}
@@ -31,6 +33,11 @@ startOf f q s = f + 356352 * q + 7424 * s
 -- hands back the empty part".
 unfoldable pub readPart : List ℕ → ℕ → ℕ → ℕ → ℕ → ℕ → List ℕ
 readPart file n o f q s = partWhen (readAnswer file n o f q s) (take 7424 (drop (startOf f q s) file))
+
+-- Where that stretch stands, as a result in numbers, r being the companion's number: the length, and the start as the index; zeros in a
+-- refusal.
+unfoldable pub stretchResult : ℕ → ℕ → ℕ → ℕ → Result
+stretchResult r f q s = cond (eqb r 0) (result 0 7424 (startOf f q s)) (result r 0 0)
 
 -- The same of an open file.
 abbrev pub readAnswerIn : OpenFile → ℕ → ℕ → Answer

@@ -17,6 +17,7 @@ use Rattle.calls.specs.declared.Refusal.{Refusal}
 use Rattle.calls.specs.declared.Refusal.the-variants.{Misfit, BadHeader, NoSuchFrame}
 use Rattle.calls.specs.Answers.{refusalOf, Accepted, TurnedBack}
 use Rattle.calls.specs.AnswerLaws.{accepted-done}
+use Rattle.calls.specs.Results.{result}
 use Rattle.calls.specs.Calls.{Test, noSubFrame, noSuperFrame, verdict}
 use Rattle.calls.specs.CallLaws.{none-left, is-bad-header, no-bad-header, no-sub-frame, sub-frame, no-super-frame, super-frame}
 use Rattle.calls.specs.CallLaws.{first-refused, first-passed, passed-all, rules-kept, told}
@@ -25,7 +26,7 @@ use Rattle.line_file_spec.specs.Header.{headerNumber, headerTests, judge
 use Rattle.line_file_spec.specs.HeaderLaws.{Sound, both-true, rules-are, judged-good, judged-done}
 use Rattle.line_file_spec.specs.Opening.{headerOf, openAnswer, partWhen, openCall}
 use Rattle.line_file_spec.specs.OpeningLaws.{open-done, open-refused, open-misfit}
-use Rattle.line_file_spec.specs.Reading.{otherNumbers, readAnswer, readAnswerIn, startOf, readPart}
+use Rattle.line_file_spec.specs.Reading.{otherNumbers, readAnswer, readRefusal, readAnswerIn, startOf, readPart, stretchResult}
 
 -- ---- the numbers of an open file, beside the header of its bytes
 
@@ -133,6 +134,21 @@ module _ (file : List ℕ) (n o f q s : ℕ) where
     pub stretch-byte : (i : ℕ) → i < 7424 → getD (readPart file n o f q s) i 0 ≡ getD file (startOf f q s + i) 0
     stretch-byte i l =
         ap (λ (p : List ℕ). getD p i 0) is-stretch ∙ getD-take 7424 (drop (startOf f q s) file) i 0 l ∙ getD-drop (startOf f q s) file i 0
+
+-- Its result: m is the number that the companion gave.
+module _ (file : List ℕ) (n o f q s m : ℕ) (is : m ≡ readRefusal file n o f q s) where
+  pub stretch-refused : (m ≡ 0 → ⊥) → result m 0 0 ≡ stretchResult (readRefusal file n o f q s) f q s
+  unfolding stretchResult
+  stretch-refused h = rw is (simp (ne-eqb _ 0 (λ z. h (is ∙ z))))
+
+  -- Where it gave none, the reader hands back a part of 7,424 bytes.
+  module _ (handed : List ℕ) (none : m ≡ 0) (eh : handed ≡ readPart file n o f q s) where
+    pub handed-length : length handed ≡ 7424
+    handed-length = ap length eh ∙ stretch-length file n o f q s (sym is ∙ none)
+
+    pub stretch-done : (i : ℕ) → i ≡ startOf f q s → result 0 (length handed) i ≡ stretchResult (readRefusal file n o f q s) f q s
+    unfolding stretchResult
+    stretch-done i e = rw (handed-length, e) (simp (eq-eqb _ 0 (sym is ∙ none)))
 
 -- The 48 stretches of a super-frame, end to end, are its bytes of the file.
 pub stretches-whole : (file : List ℕ) (n o f q : ℕ) → ((s : ℕ) → s ≤ 47 → Accepted (readAnswer file n o f q s))

@@ -1,10 +1,10 @@
--- `line_file::write_header` meets its contract: the cases of the call.
+-- `header::write_header` meets its contract: the cases of the call.
 -- Assumes nothing.
 use Rattle.calls.specs.CallLaws.{cases}
 use Rattle.line_file_spec.specs.WritingLaws.{n-rule, write-done}
 use borrow.Author.Needs.{needs}
-use Rattle.line_file.proofs.writing.write_header.Statement.{statement}
-use Rattle.line_file.proofs.writing.write_header.Tie as tie
+use Rattle.header.proofs.write_header.Statement.{statement}
+use Rattle.header.proofs.write_header.Tie as tie
 
 ruleset kit = (needs, cases, n-rule, write-done)
 

@@ -1,4 +1,5 @@
-// Writing a header.
+// The call that writes the header of a line file (01, "Line file"). Over `header_core`, by the definitions of `line_file_spec`; `line_file`
+// gives it out with the others.
 use calls::Answer;
 use calls::Refusal;
 use header_core::writing::put_numbers;
