@@ -1,6 +1,7 @@
 //! The library's functions once more, in plain Rust with the same loops: what is left between the two
 //! when the structure is the same. It follows crates/pair, pair_core, pair_words_core, word, gf256, interleaver,
-//! interleaver_core, block_core, cells, cells_core, frame and frame_core function by function, and changes with them.
+//! interleaver_core, block_core, cells, levels_core, mapping_core, cells_core, frame and frame_core function by function, and
+//! changes with them.
 //!
 //! Lengths of buffers that contracts of the library require are in the types here, and no call is inlined
 //! into the code that times it.

@@ -1,4 +1,4 @@
-//! crates/cells_core: cells by tables that are filled once a call.
+//! crates/levels_core, crates/mapping_core and crates/cells_core: cells by tables that are filled once a call.
 
 const LEVELS: [i8; 4] = [-3, -1, 3, 1];
 const PAIRS: [u8; 4] = [0, 1, 3, 2];
