@@ -43,6 +43,10 @@ module _ (m w : ℕ) (f : ℕ → List ℕ) where
   unfolding endToEnd
   endToEnd-length = length-tabulate (m * w) (byteOfEach w f)
 
+  pub is-endToEnd : (d : List ℕ) → d ≡ tabulate (m * w) (byteOfEach w f) → d ≡ endToEnd m w f
+  unfolding endToEnd
+  is-endToEnd d e = e
+
   pub endToEnd-at : (y : ℕ) → y < m * w → getD (endToEnd m w f) y 0 ≡ byteOfEach w f y
   unfolding endToEnd
   endToEnd-at y l = getD-tabulate (m * w) (byteOfEach w f) y 0 l

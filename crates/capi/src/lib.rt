@@ -4,8 +4,8 @@ use calls::Answer;
 ghost use mathlib.Core.Path.{_≡_};
 ghost use Rattle.word_spec.specs.Calls.{repairCall};
 ghost use Rattle.pair_spec.specs.Calls.{encodeBuffers, encodeCall, receiveBuffers, receiveCall};
-ghost use Rattle.interleaver_spec.specs.Calls.{interleave, pairBuffers, deinterleave};
-ghost use Rattle.cells_spec.specs.Calls.{bitsToCells, cellsToBits};
+ghost use Rattle.interleaver_spec.specs.Calls.{interleaveCall, pairBuffers, deinterleaveCall};
+ghost use Rattle.cells_spec.specs.Calls.{mapCall, demapCall};
 ghost use Rattle.cells_spec.specs.Profiles.{qam16};
 ghost use Rattle.frame_spec.specs.Calls.{frameCall, unframeCall};
 ghost use Rattle.line_file_spec.specs.Opening.{headerOf};
@@ -83,7 +83,7 @@ pub extern "C" fn ofec_receive_pair(
 // Interleaves a buffer: 21 pairs of each encoder.
 #[no_mangle]
 pub extern "C" fn ofec_interleave(pairs0: &[u8], pairs1: &[u8], bits: &mut [u8]) -> Outcome
-    ensures { λ r. ⌜ exported r (now (bits .exit)) ≡ inNumbers 0 (interleave (now (pairs0 .entry)) (now (pairs1 .entry)) (now (bits .entry))) ⌝ }
+    ensures { λ r. ⌜ exported r (now (bits .exit)) ≡ inNumbers 0 (interleaveCall (now (pairs0 .entry)) (now (pairs1 .entry)) (now (bits .entry))) ⌝ }
 {
     outcome_of(interleaver::interleave(pairs0, pairs1, bits), 0)
 }
@@ -91,7 +91,7 @@ pub extern "C" fn ofec_interleave(pairs0: &[u8], pairs1: &[u8], bits: &mut [u8])
 // Takes a buffer apart.
 #[no_mangle]
 pub extern "C" fn ofec_deinterleave(bits: &[u8], pairs0: &mut [u8], pairs1: &mut [u8]) -> Outcome
-    ensures { λ r. ⌜ exported r (pairBuffers (now (pairs0 .exit)) (now (pairs1 .exit))) ≡ inNumbers 0 (deinterleave (now (bits .entry)) (now (pairs0 .entry)) (now (pairs1 .entry))) ⌝ }
+    ensures { λ r. ⌜ exported r (pairBuffers (now (pairs0 .exit)) (now (pairs1 .exit))) ≡ inNumbers 0 (deinterleaveCall (now (bits .entry)) (now (pairs0 .entry)) (now (pairs1 .entry))) ⌝ }
 {
     outcome_of(interleaver::deinterleave(bits, pairs0, pairs1), 0)
 }
@@ -99,7 +99,7 @@ pub extern "C" fn ofec_deinterleave(bits: &[u8], pairs0: &mut [u8], pairs1: &mut
 // Maps a buffer's bits to cells.
 #[no_mangle]
 pub extern "C" fn ofec_bits_to_cells(bits: &[u8], cells: &mut [u8]) -> Outcome
-    ensures { λ r. ⌜ exported r (now (cells .exit)) ≡ inNumbers 0 (bitsToCells qam16 (now (bits .entry)) (now (cells .entry))) ⌝ }
+    ensures { λ r. ⌜ exported r (now (cells .exit)) ≡ inNumbers 0 (mapCall qam16 (now (bits .entry)) (now (cells .entry))) ⌝ }
 {
     outcome_of(cells::bits_to_cells(bits, cells), 0)
 }
@@ -107,7 +107,7 @@ pub extern "C" fn ofec_bits_to_cells(bits: &[u8], cells: &mut [u8]) -> Outcome
 // Maps a buffer's cells back to bits.
 #[no_mangle]
 pub extern "C" fn ofec_cells_to_bits(cells: &[u8], bits: &mut [u8]) -> Outcome
-    ensures { λ r. ⌜ exported r (now (bits .exit)) ≡ inNumbers 0 (cellsToBits qam16 (now (cells .entry)) (now (bits .entry))) ⌝ }
+    ensures { λ r. ⌜ exported r (now (bits .exit)) ≡ inNumbers 0 (demapCall qam16 (now (cells .entry)) (now (bits .entry))) ⌝ }
 {
     outcome_of(cells::cells_to_bits(cells, bits), 0)
 }

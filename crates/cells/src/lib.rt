@@ -5,7 +5,7 @@ use calls::Refusal;
 use cells_core::legal::first_illegal;
 ghost use mathlib.Core.Path.{_≡_};
 ghost use Rattle.calls.specs.Calls.{after};
-ghost use Rattle.cells_spec.specs.Calls.{bitsToCells, cellsToBits};
+ghost use Rattle.cells_spec.specs.Calls.{mapCall, demapCall};
 ghost use Rattle.cells_spec.specs.Profiles.{qam16};
 
 // A buffer of bits: 172,032 of them, 21,504 symbols.
@@ -16,7 +16,7 @@ const CELLS: usize = 43008;
 
 // The cells of a buffer of bits.
 pub fn bits_to_cells(bits: &[u8], cells: &mut [u8]) -> Answer
-    ensures { λ r. ⌜ after r (now (cells .exit)) ≡ bitsToCells qam16 (now (bits .entry)) (now (cells .entry)) ⌝ }
+    ensures { λ r. ⌜ after r (now (cells .exit)) ≡ mapCall qam16 (now (bits .entry)) (now (cells .entry)) ⌝ }
 {
     if bits.len() != BITS {
         return Answer::Refused(Refusal::Misfit);
@@ -30,7 +30,7 @@ pub fn bits_to_cells(bits: &[u8], cells: &mut [u8]) -> Answer
 
 // The bits of a buffer of cells, all of which must be legal.
 pub fn cells_to_bits(cells: &[u8], bits: &mut [u8]) -> Answer
-    ensures { λ r. ⌜ after r (now (bits .exit)) ≡ cellsToBits qam16 (now (cells .entry)) (now (bits .entry)) ⌝ }
+    ensures { λ r. ⌜ after r (now (bits .exit)) ≡ demapCall qam16 (now (cells .entry)) (now (bits .entry)) ⌝ }
 {
     if cells.len() != CELLS {
         return Answer::Refused(Refusal::Misfit);

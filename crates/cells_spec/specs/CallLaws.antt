@@ -15,7 +15,7 @@ use Rattle.cells_spec.specs.Profile.{Profile, cellsPerBuffer}
 use Rattle.cells_spec.specs.Cells.{payloadRule, firstIllegal, Legal, toCells, toBits}
 use Rattle.cells_spec.specs.CellLaws.{all-legal, none-illegal, toCells-legal, buffer-cells, buffer-bits, buffer-back}
 use Rattle.cells_spec.specs.CellLaws.{buffer-cells-back}
-use Rattle.cells_spec.specs.Calls.{illegalIn, bitsToCells, cellsToBits}
+use Rattle.cells_spec.specs.Calls.{illegalIn, mapCall, demapCall}
 
 -- ---- a buffer with an illegal byte, and one without
 
@@ -37,32 +37,32 @@ pub ruleset legality = (is-illegal, is-legal)
 -- ---- calls that no test refuses
 
 pub map-done : (p : Profile) (bits cells d : List ℕ) → length bits ≡ 21504 → length cells ≡ cellsPerBuffer p * 2 → d ≡ toCells p bits
-    → after (Done 0) d ≡ bitsToCells p bits cells
+    → after (Done 0) d ≡ mapCall p bits cells
 map-done p bits cells d hb hc e = rw e (search cases depth 6)
 
 pub demap-done : (p : Profile) (cells bits : List ℕ) (at : ℕ) → length cells ≡ cellsPerBuffer p * 2 → length bits ≡ 21504
     → at ≡ firstIllegal (payloadRule p) cells
-    → (d : List ℕ) → length cells ≤ at → d ≡ toBits p cells → after (Done 0) d ≡ cellsToBits p cells bits
+    → (d : List ℕ) → length cells ≤ at → d ≡ toBits p cells → after (Done 0) d ≡ demapCall p cells bits
 demap-done p cells bits at hc hb ha d h e = rw e (search (cases, legality) depth 7)
 
 -- ---- refused calls leave the buffer as it was
 
-pub map-keeps : (p : Profile) (bits cells : List ℕ) → TurnedBack (bitsToCells p bits cells .answer)
-    → bitsToCells p bits cells .written ≡ cells
+pub map-keeps : (p : Profile) (bits cells : List ℕ) → TurnedBack (mapCall p bits cells .answer)
+    → mapCall p bits cells .written ≡ cells
 map-keeps p bits cells = call-keeps _ _ _ refl
 
-pub demap-keeps : (p : Profile) (cells bits : List ℕ) → TurnedBack (cellsToBits p cells bits .answer)
-    → cellsToBits p cells bits .written ≡ bits
+pub demap-keeps : (p : Profile) (cells bits : List ℕ) → TurnedBack (demapCall p cells bits .answer)
+    → demapCall p cells bits .written ≡ bits
 demap-keeps p cells bits = call-keeps _ _ _ refl
 
 -- ---- calls that are accepted
 
 pub map-accepts : (p : Profile) (bits cells : List ℕ) → length bits ≡ 21504 → length cells ≡ cellsPerBuffer p * 2
-    → bitsToCells p bits cells ≡ after (Done 0) (toCells p bits)
+    → mapCall p bits cells ≡ after (Done 0) (toCells p bits)
 map-accepts p bits cells hb hc = sym (map-done p bits cells (toCells p bits) hb hc refl)
 
 pub demap-accepts : (p : Profile) (cells bits : List ℕ) → length cells ≡ cellsPerBuffer p * 2 → length bits ≡ 21504
-    → Legal (payloadRule p) cells → cellsToBits p cells bits ≡ after (Done 0) (toBits p cells)
+    → Legal (payloadRule p) cells → demapCall p cells bits ≡ after (Done 0) (toBits p cells)
 demap-accepts p cells bits hc hb legal =
     sym (demap-done p cells bits (firstIllegal (payloadRule p) cells) hc hb refl (toBits p cells) (none-illegal (payloadRule p) cells legal) refl)
 
@@ -71,16 +71,16 @@ demap-accepts p cells bits hc hb legal =
 -- Cells to bits, lent what bits to cells left, is accepted and gives the bits back, whatever stood in the two buffers.
 pub demap-after-map : (p : Profile) (bits cells out : List ℕ) → length bits ≡ 21504 → length cells ≡ cellsPerBuffer p * 2
     → length out ≡ 21504 → ((i : ℕ) → getD bits i 0 < 256)
-    → cellsToBits p (bitsToCells p bits cells .written) out ≡ after (Done 0) bits
+    → demapCall p (mapCall p bits cells .written) out ≡ after (Done 0) bits
 demap-after-map p bits cells out hb hc ho bytes =
-    ap (λ a. cellsToBits p (a .written) out) (map-accepts p bits cells hb hc)
+    ap (λ a. demapCall p (a .written) out) (map-accepts p bits cells hb hc)
     ∙ demap-accepts p (toCells p bits) out (buffer-cells p bits hb) ho (toCells-legal p bits)
     ∙ ap (after (Done 0)) (buffer-back p bits hb bytes)
 
 pub map-after-demap : (p : Profile) (cells bits out : List ℕ) → length cells ≡ cellsPerBuffer p * 2 → length bits ≡ 21504
     → length out ≡ cellsPerBuffer p * 2 → Legal (payloadRule p) cells
-    → bitsToCells p (cellsToBits p cells bits .written) out ≡ after (Done 0) cells
+    → mapCall p (demapCall p cells bits .written) out ≡ after (Done 0) cells
 map-after-demap p cells bits out hc hb ho legal =
-    ap (λ a. bitsToCells p (a .written) out) (demap-accepts p cells bits hc hb legal)
+    ap (λ a. mapCall p (a .written) out) (demap-accepts p cells bits hc hb legal)
     ∙ map-accepts p (toBits p cells) out (buffer-bits p cells hc) ho
     ∙ ap (after (Done 0)) (buffer-cells-back p cells hc legal)

@@ -15,9 +15,9 @@ illegalIn rule cells = offGrid (firstIllegal rule cells) (firstIllegal rule cell
 
 -- A buffer: 21,504 bytes of bits ("Output 21,504 bytes") and its cells, two bytes each.
 module _ (p : Profile) where
-  abbrev pub bitsToCells : List ℕ → List ℕ → After (List ℕ)
-  bitsToCells bits cells = call (misfit bits 21504 ∷ misfit cells (cellsPerBuffer p * 2) ∷ []) cells (after (Done 0) (toCells p bits))
+  abbrev pub mapCall : List ℕ → List ℕ → After (List ℕ)
+  mapCall bits cells = call (misfit bits 21504 ∷ misfit cells (cellsPerBuffer p * 2) ∷ []) cells (after (Done 0) (toCells p bits))
 
-  abbrev pub cellsToBits : List ℕ → List ℕ → After (List ℕ)
-  cellsToBits cells bits =
+  abbrev pub demapCall : List ℕ → List ℕ → After (List ℕ)
+  demapCall cells bits =
       call (misfit cells (cellsPerBuffer p * 2) ∷ misfit bits 21504 ∷ illegalIn (payloadRule p) cells ∷ []) bits (after (Done 0) (toBits p cells))

@@ -8,12 +8,12 @@ use Rattle.calls.specs.Calls.{After, after, misfit, call}
 use Rattle.interleaver_spec.specs.Interleaving.{interleaved, apart}
 
 -- Interleaving writes the bits.
-abbrev pub interleave : List ℕ → List ℕ → List ℕ → After (List ℕ)
-interleave pairs0 pairs1 bits =
+abbrev pub interleaveCall : List ℕ → List ℕ → List ℕ → After (List ℕ)
+interleaveCall pairs0 pairs1 bits =
     call (misfit pairs0 10752 ∷ misfit pairs1 10752 ∷ misfit bits 21504 ∷ []) bits
     (after (Done 0) (interleaved pairs0 pairs1))
 
--- Taking apart writes the pairs of either encoder.
+-- Taking apart, which is deinterleaving, writes the pairs of either encoder.
 pub record PairBuffers : Type 0 where
   pub pairs0 : List ℕ
   pub pairs1 : List ℕ
@@ -21,13 +21,13 @@ pub record PairBuffers : Type 0 where
 abbrev pub pairBuffers : List ℕ → List ℕ → PairBuffers
 pairBuffers s t = record { pairs0 = s; pairs1 = t }
 
-abbrev pub Apart : Type 0
-Apart = After PairBuffers
+abbrev pub Deinterleaved : Type 0
+Deinterleaved = After PairBuffers
 
-abbrev pub parted : Answer → List ℕ → List ℕ → Apart
-parted a s t = after a (pairBuffers s t)
+abbrev pub afterDeinterleave : Answer → List ℕ → List ℕ → Deinterleaved
+afterDeinterleave a s t = after a (pairBuffers s t)
 
-abbrev pub deinterleave : List ℕ → List ℕ → List ℕ → Apart
-deinterleave bits pairs0 pairs1 =
+abbrev pub deinterleaveCall : List ℕ → List ℕ → List ℕ → Deinterleaved
+deinterleaveCall bits pairs0 pairs1 =
     call (misfit bits 21504 ∷ misfit pairs0 10752 ∷ misfit pairs1 10752 ∷ []) (pairBuffers pairs0 pairs1)
-    (parted (Done 0) (apart bits 0) (apart bits 1))
+    (afterDeinterleave (Done 0) (apart bits 0) (apart bits 1))

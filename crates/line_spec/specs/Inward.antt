@@ -10,10 +10,10 @@ use Rattle.calls.specs.Sequences.{At, Run, accepted}
 use Rattle.calls.specs.Calls.{After}
 use Rattle.pair_spec.specs.Calls.{Receiving, Receivings, State, start}
 use Rattle.pair_spec.specs.Promise.{Limit}
-use Rattle.interleaver_spec.specs.Calls.{Apart, deinterleave}
+use Rattle.interleaver_spec.specs.Calls.{Deinterleaved, deinterleaveCall}
 use Rattle.cells_spec.specs.Profile.{Profile, cellsPerBuffer, pairsIn}
 use Rattle.cells_spec.specs.Cells.{overheadRule, Legal}
-use Rattle.cells_spec.specs.Calls.{cellsToBits}
+use Rattle.cells_spec.specs.Calls.{demapCall}
 use Rattle.frame_spec.specs.Frames.{payloadCells, payloadStart, frameRule, subFrameOf}
 use Rattle.frame_spec.specs.Calls.{unframeCall}
 use Rattle.line_spec.specs.Sides.{Side, side0, side1}
@@ -55,10 +55,10 @@ module _ (p : Profile) (n : ℕ) (h : ReceivedLine p n) where
   receivedCells b = tabulate (cellsPerBuffer p * 2) (λ i. receivedByte (b / p .bits) (b % p .bits * cellsPerBuffer p + i / 2) (i % 2))
 
   unfoldable pub demapping : ℕ → After (List ℕ)
-  demapping b = cellsToBits p (receivedCells b) (h .lent .bits b)
+  demapping b = demapCall p (receivedCells b) (h .lent .bits b)
 
-  unfoldable pub parting : ℕ → Apart
-  parting b = deinterleave (demapping b .written) (h .lent .pairs side0 b) (h .lent .pairs side1 b)
+  unfoldable pub parting : ℕ → Deinterleaved
+  parting b = deinterleaveCall (demapping b .written) (h .lent .pairs side0 b) (h .lent .pairs side1 b)
 
   unfoldable pub pairsBack : Side → ℕ → List ℕ
   pairsBack side0 b = parting b .written .pairs0

@@ -22,7 +22,7 @@ use Rattle.pair_spec.specs.Promise.{Holds, Takes}
 use Rattle.pair_spec.specs.PromiseLaws.{promise}
 use Rattle.interleaver_spec.specs.Interleaving.{pairsBit, apart}
 use Rattle.interleaver_spec.specs.InterleavingLaws.{pairsBit-lt, bit-apart}
-use Rattle.interleaver_spec.specs.Calls.{Apart, parted}
+use Rattle.interleaver_spec.specs.Calls.{Deinterleaved, afterDeinterleave}
 use Rattle.interleaver_spec.specs.CallLaws.{part-done}
 use Rattle.cells_spec.specs.Profile.{Profile, cellsPerBuffer, buffersIn, pairsIn, rowsIn}
 use Rattle.cells_spec.specs.Cells.{payloadRule, Legal, toBits}
@@ -118,7 +118,7 @@ module _ (p : Profile) (n : ℕ) (h : ReceivedLine p n) where
       ap (λ (a : After (List ℕ)). length (a .written)) (demapping-is b lb) ∙ buffer-bits p (receivedCells p n h b) (cells-length b)
 
   parting-is : (b : ℕ) → b < buffersIn p n
-      → parting p n h b ≡ parted (Done 0) (apart (demapping p n h b .written) 0) (apart (demapping p n h b .written) 1)
+      → parting p n h b ≡ afterDeinterleave (Done 0) (apart (demapping p n h b .written) 0) (apart (demapping p n h b .written) 1)
   unfolding parting
   parting-is b lb =
       sym
@@ -128,9 +128,9 @@ module _ (p : Profile) (n : ℕ) (h : ReceivedLine p n) where
   pub pairs-is : (e : Side) (b : ℕ) → b < buffersIn p n → pairsBack p n h e b ≡ apart (toBits p (receivedCells p n h b)) (encoder e)
   unfolding pairsBack
   pairs-is side0 b lb =
-      ap (λ (a : Apart). a .written .pairs0) (parting-is b lb) ∙ ap (λ (a : After (List ℕ)). apart (a .written) 0) (demapping-is b lb)
+      ap (λ (a : Deinterleaved). a .written .pairs0) (parting-is b lb) ∙ ap (λ (a : After (List ℕ)). apart (a .written) 0) (demapping-is b lb)
   pairs-is side1 b lb =
-      ap (λ (a : Apart). a .written .pairs1) (parting-is b lb) ∙ ap (λ (a : After (List ℕ)). apart (a .written) 1) (demapping-is b lb)
+      ap (λ (a : Deinterleaved). a .written .pairs1) (parting-is b lb) ∙ ap (λ (a : After (List ℕ)). apart (a .written) 1) (demapping-is b lb)
 
   -- ---- what a received pair holds
 
@@ -180,7 +180,7 @@ module _ (p : Profile) (o : Outward p) (i : Inward p o) where
       record {
         unframed = λ f l. ap (λ (a : After (List ℕ)). refusalOf (a .answer)) (unframing-is p (o .superframes) (i .received) f l);
         demapped = λ b l. ap (λ (a : After (List ℕ)). refusalOf (a .answer)) (demapping-is p (o .superframes) (i .received) b l);
-        parted = λ b l. ap (λ (a : Apart). refusalOf (a .answer)) (parting-is p (o .superframes) (i .received) b l);
+        parted = λ b l. ap (λ (a : Deinterleaved). refusalOf (a .answer)) (parting-is p (o .superframes) (i .received) b l);
         words = λ e P c a R r is lr.
             promise (o .sent e) (lineBit p (i .received .frames) e) (payloads (o .calls e)) (o .formulas e) (i .calls e) (i .runs e) (enough e) (takes e)
             (i .limit e) R r c lr (subst (λ Q. At (accepted Receivings (i .calls e)) Q c) (sym is) a);

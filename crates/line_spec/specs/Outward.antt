@@ -11,10 +11,10 @@ use Rattle.calls.specs.Calls.{After}
 use Rattle.pair_spec.specs.Rows.{RowBits}
 use Rattle.pair_spec.specs.Sent.{Sent}
 use Rattle.pair_spec.specs.Calls.{Encoding, encode, Encodings, State, start, payloads}
-use Rattle.interleaver_spec.specs.Calls.{interleave}
+use Rattle.interleaver_spec.specs.Calls.{interleaveCall}
 use Rattle.cells_spec.specs.Profile.{Profile, cellsPerBuffer, buffersIn, pairsIn}
 use Rattle.cells_spec.specs.Cells.{overheadRule, Legal}
-use Rattle.cells_spec.specs.Calls.{bitsToCells}
+use Rattle.cells_spec.specs.Calls.{mapCall}
 use Rattle.frame_spec.specs.Frames.{payloadCells, payloadStart}
 use Rattle.frame_spec.specs.Calls.{frameCall}
 use Rattle.line_spec.specs.Sides.{Side, side0, side1}
@@ -56,10 +56,10 @@ pairsOfBuffer pairs b = tabulate 10752 (λ i. getD (getD pairs (21 * b + i / 512
 module _ (p : Profile) (o : Outward p) where
   unfoldable pub interleaving : ℕ → After (List ℕ)
   interleaving b =
-      interleave (pairsOfBuffer (codedPairs (o .calls side0)) b) (pairsOfBuffer (codedPairs (o .calls side1)) b) (o .lent .bits b)
+      interleaveCall (pairsOfBuffer (codedPairs (o .calls side0)) b) (pairsOfBuffer (codedPairs (o .calls side1)) b) (o .lent .bits b)
 
   unfoldable pub mapping : ℕ → After (List ℕ)
-  mapping b = bitsToCells p (interleaving b .written) (o .lent .cells b)
+  mapping b = mapCall p (interleaving b .written) (o .lent .cells b)
 
   -- "Payload runs on from buffer to buffer and sub-frame to sub-frame": byte h of payload cell x of super-frame q; and the payload of
   -- sub-frame f of the line.

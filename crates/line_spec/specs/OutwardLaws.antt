@@ -21,7 +21,7 @@ use Rattle.interleaver_spec.specs.CallLaws.{join-done}
 use Rattle.cells_spec.specs.Profile.{Profile, cellsPerBuffer, rowsIn}
 use Rattle.cells_spec.specs.Cells.{payloadRule, Legal, toCells}
 use Rattle.cells_spec.specs.CellLaws.{toCells-legal, buffer-cells}
-use Rattle.cells_spec.specs.Calls.{bitsToCells}
+use Rattle.cells_spec.specs.Calls.{mapCall}
 use Rattle.cells_spec.specs.CallLaws.{map-accepts}
 use Rattle.frame_spec.specs.Frames.{ownOverhead, framed, frameRule}
 use Rattle.frame_spec.specs.FrameLaws.{own-legal}
@@ -72,7 +72,7 @@ module _ (p : Profile) (o : Outward p) where
       ∙ map-accepts p (bits b) (o .lent .cells b) (length-bits b) (o .lent .cells-long b)
     where
       mapped : List ℕ → After (List ℕ)
-      mapped s = bitsToCells p s (o .lent .cells b)
+      mapped s = mapCall p s (o .lent .cells b)
 
   cells-is : (b : ℕ) → mapping p o b .written ≡ toCells p (bits b)
   cells-is b = ap (λ (a : After (List ℕ)). a .written) (mapping-is b)

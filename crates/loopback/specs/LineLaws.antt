@@ -12,7 +12,7 @@ use Rattle.bits.specs.Parts.{part, byteOfEach, endToEnd}
 use Rattle.bits.specs.PartLaws.{part-length, endToEnd-length, endToEnd-at, each-block}
 use Rattle.calls.specs.declared.Answer.{Answer}
 use Rattle.calls.specs.Answers.{valueOr}
-use Rattle.interleaver_spec.specs.Calls.{Apart, parted}
+use Rattle.interleaver_spec.specs.Calls.{Deinterleaved, afterDeinterleave}
 use Rattle.cells_spec.specs.Profile.{Profile, cellsPerBuffer}
 use Rattle.cells_spec.specs.Profiles.{qam16}
 use Rattle.cells_spec.specs.ProfileLaws.{buffer-whole}
@@ -20,7 +20,7 @@ use Rattle.cells_spec.specs.Cells.{overheadRule, Legal}
 use Rattle.cells_spec.specs.CellLaws.{none-illegal}
 use Rattle.frame_spec.specs.Frames.{payloadCells, payloadStart, ownOverhead, frameRule}
 use Rattle.frame_spec.specs.FrameLaws.{framed-length, framed-legal, own-length, own-legal}
-use Rattle.superframe_spec.specs.Superframe.{payload, subFrame, framesEndToEnd, superframe}
+use Rattle.superframe_spec.specs.Superframe.{payloadOfPairs, subFrame, framesEndToEnd, superframe}
 use Rattle.superframe_spec.specs.SuperframeLaws.{part-legal, payload-legal, payload-within}
 use Rattle.superframe_spec.specs.Apart.{takenPairs, differingAll, lineRule, takenApart, takeApart}
 use Rattle.superframe_spec.specs.ApartLaws.{apart-done}
@@ -35,11 +35,11 @@ use Rattle.loopback.specs.Line.{damagedLine, pairsOff, lineIn, allOff, l
 
 -- The frames of a super-frame are legal.
 module _ (p : Profile) (pairs0 pairs1 list : List ℕ) (ll : length list ≡ 12288) (hl : Legal overheadRule list) where
-  cells-long : length (payload p pairs0 pairs1) ≡ 344064
-  unfolding payload
+  cells-long : length (payloadOfPairs p pairs0 pairs1) ≡ 344064
+  unfolding payloadOfPairs
   cells-long = endToEnd-length (p .bits) (cellsPerBuffer p * 2) _ ∙ omega (arith, buffer-whole p)
 
-  sub-frame-legal : (s : ℕ) → s < 48 → Legal (frameRule p s) (subFrame (payload p pairs0 pairs1) list s)
+  sub-frame-legal : (s : ℕ) → s < 48 → Legal (frameRule p s) (subFrame (payloadOfPairs p pairs0 pairs1) list s)
   unfolding subFrame
   sub-frame-legal s ls =
       framed-legal p s (part (payloadStart s * 2) (payloadCells s * 2) cells) (ownOverhead s list) (part-length (payloadStart s * 2) (payloadCells s * 2) cells fits)
@@ -47,7 +47,7 @@ module _ (p : Profile) (pairs0 pairs1 list : List ℕ) (ll : length list ≡ 122
       (own-legal s list (omega arith) ll hl)
     where
       cells : List ℕ
-      cells = payload p pairs0 pairs1
+      cells = payloadOfPairs p pairs0 pairs1
 
       fits : payloadStart s * 2 + payloadCells s * 2 ≤ length cells
       fits = omega (arith, payload-within s ls, cells-long)
@@ -57,13 +57,13 @@ module _ (p : Profile) (pairs0 pairs1 list : List ℕ) (ll : length list ≡ 122
   superframe-legal =
       record {
         legal = λ k lk.
-            let l : k < 356352 = omega (arith, endToEnd-length 48 7424 (subFrame (payload p pairs0 pairs1) list)) in
+            let l : k < 356352 = omega (arith, endToEnd-length 48 7424 (subFrame (payloadOfPairs p pairs0 pairs1) list)) in
             let s : k / 7424 < 48 = omega arith in
-            ap (frameRule p (k / 7424) (k % 7424)) (endToEnd-at 48 7424 (subFrame (payload p pairs0 pairs1) list) k l)
+            ap (frameRule p (k / 7424) (k % 7424)) (endToEnd-at 48 7424 (subFrame (payloadOfPairs p pairs0 pairs1) list) k l)
             ∙ sub-frame-legal (k / 7424) s .legal (k % 7424) (omega (arith, sub-frame-long (k / 7424)));
       }
     where
-      sub-frame-long : (s : ℕ) → length (subFrame (payload p pairs0 pairs1) list s) ≡ 7424
+      sub-frame-long : (s : ℕ) → length (subFrame (payloadOfPairs p pairs0 pairs1) list s) ≡ 7424
       sub-frame-long s = framed-length s _ _
 
 -- ---- one super-frame
@@ -75,7 +75,7 @@ line-made list q coded0 coded1 a b e f = f ∙ ap (damaged q) e
 
 -- What comes off the damaged frames of coded pairs, which a file leaves as they were.
 module _ (q : ℕ) (coded0 coded1 list made frames got0 got1 x y : List ℕ) (r : Answer) (is : made ≡ damagedLine list q coded0 coded1) (kept : frames ≡ made)
-    (ll : length list ≡ 12288) (hl : Legal overheadRule list) (t : parted r x y ≡ takeApart qam16 frames list got0 got1) where
+    (ll : length list ≡ 12288) (hl : Legal overheadRule list) (t : afterDeinterleave r x y ≡ takeApart qam16 frames list got0 got1) where
   abbrev line : List ℕ
   line = damagedLine list q coded0 coded1
 
@@ -83,7 +83,7 @@ module _ (q : ℕ) (coded0 coded1 list made frames got0 got1 x y : List ℕ) (r 
   unfolding damagedLine
   legal = damaged-legal q (superframe qam16 coded0 coded1 list) (superframe-legal qam16 coded0 coded1 list ll hl)
 
-  carried : parted r x y ≡ takenApart qam16 line list
+  carried : afterDeinterleave r x y ≡ takenApart qam16 line list
   carried =
       t ∙ ap (λ l. takeApart qam16 l list got0 got1) (kept ∙ is)
       ∙ sym (apart-done qam16 line list got0 got1 _ refl (none-illegal overheadRule list hl) _ refl (none-illegal (lineRule qam16) line legal) _ refl)
@@ -92,7 +92,7 @@ module _ (q : ℕ) (coded0 coded1 list made frames got0 got1 x y : List ℕ) (r 
   pub line-carried : (v : ℕ) → v ≡ valueOr r 0
       → (v ≡ differingAll (damagedLine list q coded0 coded1) list) × (x ≡ pairsOff (damagedLine list q coded0 coded1) 0) × (y ≡ pairsOff (damagedLine list q coded0 coded1) 1)
   unfolding pairsOff
-  line-carried v e = (e ∙ ap (λ (a : Apart). valueOr (a .answer) 0) carried, ap (λ (a : Apart). a .written .pairs0) carried, ap (λ (a : Apart). a .written .pairs1) carried)
+  line-carried v e = (e ∙ ap (λ (a : Deinterleaved). valueOr (a .answer) 0) carried, ap (λ (a : Deinterleaved). a .written .pairs0) carried, ap (λ (a : Deinterleaved). a .written .pairs1) carried)
 
 -- The same of what encoder e and the other one send, in the order of the encoders.
 module _ (list : List ℕ) (q e : ℕ) (own other : List ℕ) (eo : own ≡ sentIn e q) (et : other ≡ sentIn (1 - e) q) where
@@ -137,10 +137,6 @@ pub off-whole : (list : List ℕ) (e : ℕ) (d : List ℕ) → d ≡ tabulate 17
     → d ≡ allOff list e
 unfolding allOff endToEnd
 off-whole list e d is = is
-
-pub whole : (m w : ℕ) (f : ℕ → List ℕ) (d : List ℕ) → d ≡ tabulate (m * w) (byteOfEach w f) → d ≡ endToEnd m w f
-unfolding endToEnd
-whole m w f d e = e
 
 -- With a list that is known by another name.
 module _ (list known : List ℕ) (el : list ≡ known) where

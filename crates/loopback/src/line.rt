@@ -4,7 +4,7 @@ use loopback_core::counts::add;
 use loopback_core::file;
 use loopback_core::noise::damage;
 use loopback_core::random;
-use refusing_core::refuse_framing;
+use loopback_refused_core::refuse_framing;
 ghost use mathlib.Core.Path.{_≡_};
 ghost use Prim.Native.Nat.{_-_, _<_};
 ghost use lib.ListN.{length, replicate};

@@ -1,6 +1,6 @@
 // Two payload streams from a fixed seed, through the whole chain and back over two super-frames of a damaged line, with refused
 // calls in between; what came of it, in counts.
-// Over `pair_words_core`, `pair_stream`, `superframe`, `loopback_core` and `refusing_core`.
+// Over `pair_words_core`, `pair_stream`, `superframe`, `loopback_core` and `loopback_refused_core`.
 //
 // Each function that has a large array returns before the next such array is needed, so that the program stays within a megabyte of
 // stack: one receiver after the other, each with a run of the line of its own, and what was sent is encoded again where it is needed.

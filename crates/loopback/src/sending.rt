@@ -2,7 +2,7 @@
 use crate::printing::print_encoder;
 use loopback_core::counts::add;
 use loopback_core::random;
-use refusing_core::refuse_encodings;
+use loopback_refused_core::refuse_encodings;
 ghost use mathlib.Core.Path.{_≡_};
 ghost use Prim.Native.Nat.{_*_, _<_};
 ghost use lib.ListN.{length, replicate};

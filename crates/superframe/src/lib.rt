@@ -7,7 +7,7 @@ use cells_core::legal::first_illegal;
 ghost use mathlib.Core.Path.{_≡_};
 ghost use Rattle.calls.specs.declared.Answer.the-variants.{Done};
 ghost use Rattle.cells_spec.specs.Profiles.{qam16};
-ghost use Rattle.interleaver_spec.specs.Calls.{parted};
+ghost use Rattle.interleaver_spec.specs.Calls.{afterDeinterleave};
 ghost use Rattle.superframe_spec.specs.Superframe.{superframe};
 ghost use Rattle.superframe_spec.specs.Apart.{takenApart, takeApart};
 ghost use Rattle.superframe_spec.specs.Lent.{PairsToFrames, LegalFrames, FramesToPairs};
@@ -32,7 +32,7 @@ pub fn make(pairs0: &[u8], pairs1: &[u8], overhead: &[u8], line: &mut [u8])
 // The coded pairs of both encoders from legal frames, and the number of overhead cells that differ from the list.
 fn take(line: &[u8], overhead: &[u8], pairs0: &mut [u8], pairs1: &mut [u8]) -> u32
     requires { ⌜ LegalFrames (now line) (now overhead) × FramesToPairs (now line) (now overhead) (now pairs0) (now pairs1) ⌝ }
-    ensures { λ r. ⌜ parted (Done r) (now (pairs0 .exit)) (now (pairs1 .exit)) ≡ takenApart qam16 (now (line .entry)) (now (overhead .entry)) ⌝ }
+    ensures { λ r. ⌜ afterDeinterleave (Done r) (now (pairs0 .exit)) (now (pairs1 .exit)) ≡ takenApart qam16 (now (line .entry)) (now (overhead .entry)) ⌝ }
 {
     let mut payload = blank();
     let differing = superframe_core::unframe_all(line, overhead, &mut payload);
@@ -43,7 +43,7 @@ fn take(line: &[u8], overhead: &[u8], pairs0: &mut [u8], pairs1: &mut [u8]) -> u
 // The same from any frames, all of which must be legal, as the list must be.
 pub fn take_apart(line: &[u8], overhead: &[u8], pairs0: &mut [u8], pairs1: &mut [u8]) -> Answer
     requires { ⌜ FramesToPairs (now line) (now overhead) (now pairs0) (now pairs1) ⌝ }
-    ensures { λ r. ⌜ parted r (now (pairs0 .exit)) (now (pairs1 .exit)) ≡ takeApart qam16 (now (line .entry)) (now (overhead .entry)) (now (pairs0 .entry)) (now (pairs1 .entry)) ⌝ }
+    ensures { λ r. ⌜ afterDeinterleave r (now (pairs0 .exit)) (now (pairs1 .exit)) ≡ takeApart qam16 (now (line .entry)) (now (overhead .entry)) (now (pairs0 .entry)) (now (pairs1 .entry)) ⌝ }
 {
     let list = first_illegal(overhead);
     if list < overhead.len() {

@@ -4,7 +4,7 @@
 ghost use mathlib.Core.Path.{_≡_};
 ghost use Prim.Native.Nat.{_<_};
 ghost use Rattle.cells_spec.specs.Profiles.{qam16};
-ghost use Rattle.superframe_spec.specs.Superframe.{bufferCells, payload};
+ghost use Rattle.superframe_spec.specs.Superframe.{bufferCells, payloadOfPairs};
 ghost use Rattle.superframe_spec.specs.Apart.{bufferPairs, takenPairs};
 ghost use Rattle.superframe_spec.specs.Lent.{PairsToCells, CellsToPairs};
 
@@ -23,7 +23,7 @@ fn buffer(b: usize, pairs0: &[u8], pairs1: &[u8], cells: &mut [u8])
 // The cells of all.
 pub fn join(pairs0: &[u8], pairs1: &[u8], cells: &mut [u8])
     requires { ⌜ PairsToCells 344064 (now pairs0) (now pairs1) (now cells) ⌝ }
-    ensures { λ _. ⌜ now (cells .exit) ≡ payload qam16 (now (pairs0 .entry)) (now (pairs1 .entry)) ⌝ }
+    ensures { λ _. ⌜ now (cells .exit) ≡ payloadOfPairs qam16 (now (pairs0 .entry)) (now (pairs1 .entry)) ⌝ }
 {
     for b in 0..8 {
         let f = b * 43008;

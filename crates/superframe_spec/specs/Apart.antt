@@ -11,7 +11,7 @@ use Rattle.bits.specs.Parts.{partOf, endToEnd}
 use Rattle.calls.specs.declared.Answer.the-variants.{Done}
 use Rattle.calls.specs.Calls.{call}
 use Rattle.interleaver_spec.specs.Interleaving.{apart}
-use Rattle.interleaver_spec.specs.Calls.{pairBuffers, Apart, parted}
+use Rattle.interleaver_spec.specs.Calls.{pairBuffers, Deinterleaved, afterDeinterleave}
 use Rattle.cells_spec.specs.Profile.{Profile, cellsPerBuffer}
 use Rattle.cells_spec.specs.Cells.{overheadRule, toBits}
 use Rattle.cells_spec.specs.Calls.{illegalIn}
@@ -43,12 +43,12 @@ unfoldable pub lineRule : Profile → ℕ → ℕ → Bool
 lineRule p j v = frameRule p (j / 7424) (j % 7424) v
 
 -- What taking a super-frame apart gives: the number of differing overhead cells, and the pairs.
-abbrev pub takenApart : Profile → List ℕ → List ℕ → Apart
+abbrev pub takenApart : Profile → List ℕ → List ℕ → Deinterleaved
 takenApart p line overhead =
-    parted (Done (differingAll line overhead)) (takenPairs p (takenCells line) 0) (takenPairs p (takenCells line) 1)
+    afterDeinterleave (Done (differingAll line overhead)) (takenPairs p (takenCells line) 0) (takenPairs p (takenCells line) 1)
 
 -- The step: No. 5, "an illegal byte in cells that the call reads", "overhead list first". The index counts in the whole overhead list, or
 -- in the 48 frames as they stand end to end.
-abbrev pub takeApart : Profile → List ℕ → List ℕ → List ℕ → List ℕ → Apart
+abbrev pub takeApart : Profile → List ℕ → List ℕ → List ℕ → List ℕ → Deinterleaved
 takeApart p line overhead pairs0 pairs1 =
     call (illegalIn overheadRule overhead ∷ illegalIn (lineRule p) line ∷ []) (pairBuffers pairs0 pairs1) (takenApart p line overhead)

@@ -32,13 +32,13 @@ use Rattle.calls.specs.Calls.{After, after}
 use Rattle.calls.specs.CallLaws.{cases}
 use Rattle.interleaver_spec.specs.Interleaving.{apart}
 use Rattle.interleaver_spec.specs.InterleavingLaws.{length-apart}
-use Rattle.interleaver_spec.specs.Calls.{Apart, parted, deinterleave}
+use Rattle.interleaver_spec.specs.Calls.{Deinterleaved, afterDeinterleave, deinterleaveCall}
 use Rattle.interleaver_spec.specs.CallLaws.{deinterleave-pairs0, deinterleave-pairs1}
 use Rattle.cells_spec.specs.Profile.{Profile, cellsPerBuffer}
 use Rattle.cells_spec.specs.Profiles.{qam16}
 use Rattle.cells_spec.specs.Cells.{overheadRule, payloadRule, firstIllegal, Legal, toBits}
 use Rattle.cells_spec.specs.CellLaws.{buffer-bits}
-use Rattle.cells_spec.specs.Calls.{cellsToBits}
+use Rattle.cells_spec.specs.Calls.{demapCall}
 use Rattle.cells_spec.specs.CallLaws.{legality, demap-accepts, demap-legal}
 use Rattle.frame_spec.specs.Frames.{isOverhead, overheadCells, payloadCells, overheadStart, payloadStart, ownOverhead, cellRule, frameRule}
 use Rattle.frame_spec.specs.Frames.{unframed, subFrameOf, cellOf}
@@ -209,16 +209,16 @@ module _ (p : Profile) (b f g : ℕ) (ef : f ≡ b * (cellsPerBuffer p * 2)) (eg
   own-long : length (partOf (cellsPerBuffer p * 2) cells b) ≡ cellsPerBuffer p * 2
   own-long = partOf-length (cellsPerBuffer p * 2) (p .bits) b lb cells lc
 
-  pub demapped-bits : (r : Answer) (s bits : List ℕ) → after r s ≡ cellsToBits p (part f (g - f) cells) bits → length bits ≡ 21504
+  pub demapped-bits : (r : Answer) (s bits : List ℕ) → after r s ≡ demapCall p (part f (g - f) cells) bits → length bits ≡ 21504
       → s ≡ toBits p (partOf (cellsPerBuffer p * 2) cells b)
   demapped-bits r s bits is l =
       ap (λ (x : After (List ℕ)). x .written)
-      (is ∙ ap (λ x. cellsToBits p x bits) own-cells
+      (is ∙ ap (λ x. demapCall p x bits) own-cells
       ∙ demap-accepts p (partOf (cellsPerBuffer p * 2) cells b) bits own-long l
       (part-legal p (b * (cellsPerBuffer p * 2)) (cellsPerBuffer p * 2) cells (part-within (cellsPerBuffer p * 2) (p .bits) b lb cells lc) hc))
 
 module _ (p : Profile) (b : ℕ) (lb : b < p .bits) (cells : List ℕ) (lc : length cells ≡ p .bits * (cellsPerBuffer p * 2)) (r : Answer) (x y s pairs0 pairs1 : List ℕ)
-    (is : parted r x y ≡ deinterleave s pairs0 pairs1) (es : s ≡ toBits p (partOf (cellsPerBuffer p * 2) cells b)) (l0 : length pairs0 ≡ 10752)
+    (is : afterDeinterleave r x y ≡ deinterleaveCall s pairs0 pairs1) (es : s ≡ toBits p (partOf (cellsPerBuffer p * 2) cells b)) (l0 : length pairs0 ≡ 10752)
     (l1 : length pairs1 ≡ 10752) where
   bits-long : length s ≡ 21504
   bits-long =
@@ -226,11 +226,11 @@ module _ (p : Profile) (b : ℕ) (lb : b < p .bits) (cells : List ℕ) (lc : len
 
   pub parted-pairs0 : x ≡ bufferPairs p cells 0 b
   unfolding bufferPairs
-  parted-pairs0 = ap (λ (a : Apart). a .written .pairs0) is ∙ deinterleave-pairs0 s pairs0 pairs1 bits-long l0 l1 ∙ ap (λ t. apart t 0) es
+  parted-pairs0 = ap (λ (a : Deinterleaved). a .written .pairs0) is ∙ deinterleave-pairs0 s pairs0 pairs1 bits-long l0 l1 ∙ ap (λ t. apart t 0) es
 
   pub parted-pairs1 : y ≡ bufferPairs p cells 1 b
   unfolding bufferPairs
-  parted-pairs1 = ap (λ (a : Apart). a .written .pairs1) is ∙ deinterleave-pairs1 s pairs0 pairs1 bits-long l0 l1 ∙ ap (λ t. apart t 1) es
+  parted-pairs1 = ap (λ (a : Deinterleaved). a .written .pairs1) is ∙ deinterleave-pairs1 s pairs0 pairs1 bits-long l0 l1 ∙ ap (λ t. apart t 1) es
 
 pub ruleset part-blocks = (demapped-bits, parted-pairs0, parted-pairs1)
 
@@ -248,7 +248,7 @@ pub ruleset parting-all = (parted-block, pairs-are)
 
 pub taken-is : (p : Profile) (line overhead cells x y : List ℕ) (n : ℕ) → n ≡ differingAll line overhead → cells ≡ takenCells line
     → x ≡ takenPairs p cells 0
-    → y ≡ takenPairs p cells 1 → parted (Done n) x y ≡ takenApart p line overhead
+    → y ≡ takenPairs p cells 1 → afterDeinterleave (Done n) x y ≡ takenApart p line overhead
 taken-is p line overhead cells x y n en ec ex ey = rw (en, ex, ey, ec)
 
 -- ---- the step
@@ -265,6 +265,6 @@ line-legal line at e l = demap-legal (lineRule qam16) line at (line-flat line at
 
 pub apart-done : (p : Profile) (line overhead pairs0 pairs1 : List ℕ) (list : ℕ) → list ≡ firstIllegal overheadRule overhead
     → length overhead ≤ list
-    → (at : ℕ) → at ≡ firstIllegal (lineRule p) line → length line ≤ at → (x : Apart) → x ≡ takenApart p line overhead
+    → (at : ℕ) → at ≡ firstIllegal (lineRule p) line → length line ≤ at → (x : Deinterleaved) → x ≡ takenApart p line overhead
     → x ≡ takeApart p line overhead pairs0 pairs1
 apart-done p line overhead pairs0 pairs1 list el ok at ea h x e = rw e (search (cases, legality))

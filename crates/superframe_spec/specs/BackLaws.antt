@@ -21,7 +21,7 @@ use Rattle.pair_spec.specs.Calls.{State, start, Receiving, receive, Receivings}
 use Rattle.pair_spec.specs.Stream.{pairReceiver, historyAt, payloadsOf, marksOf, historyBefore}
 use Rattle.pair_spec.specs.StreamRunLaws.{stream-payload, stream-marks, stream-history}
 use Rattle.interleaver_spec.specs.Interleaving.{apart}
-use Rattle.interleaver_spec.specs.Calls.{parted}
+use Rattle.interleaver_spec.specs.Calls.{afterDeinterleave}
 use Rattle.cells_spec.specs.Profile.{Profile, cellsPerBuffer, buffersIn}
 use Rattle.cells_spec.specs.Cells.{overheadRule, Legal, toBits}
 use Rattle.cells_spec.specs.ProfileLaws.{buffer-whole, cells-pos, width-pos}
@@ -171,7 +171,7 @@ module _ (p : Profile) (n : ℕ) (h : ReceivedLine p n) where
     -- THE STEP over super-frame q: the pairs received, and the sum of what each unframing call reports, whatever the buffers were lent
     -- with.
     pub step-back : (pairs0 pairs1 : List ℕ) → takeApart p (receivedLine q) (h .overhead) pairs0 pairs1
-        ≡ parted (Done (count 48 (λ s. valueOr (unframing p n h (48 * q + s) .answer) 0))) (receivedPairs q side0) (receivedPairs q side1)
+        ≡ afterDeinterleave (Done (count 48 (λ s. valueOr (unframing p n h (48 * q + s) .answer) 0))) (receivedPairs q side0) (receivedPairs q side1)
     step-back pairs0 pairs1 =
         sym
         (apart-done p (receivedLine q) (h .overhead) pairs0 pairs1 _ refl (none-illegal overheadRule (h .overhead) (h .overhead-legal)) _ refl

@@ -25,7 +25,7 @@ use Rattle.line_spec.specs.Sides.{Side, side0, side1}
 use Rattle.line_spec.specs.Outward as outward
 use Rattle.line_spec.specs.Outward.{Outward, codedPairs, pairsOfBuffer, mapping, payloadByte, framePayload}
 use Rattle.line_spec.specs.OutwardLaws.{coded-at, cells-are, frame-is}
-use Rattle.superframe_spec.specs.Superframe.{bufferCells, payload, subFrame, framesEndToEnd, superframe}
+use Rattle.superframe_spec.specs.Superframe.{bufferCells, payloadOfPairs, subFrame, framesEndToEnd, superframe}
 use Rattle.superframe_spec.specs.SuperframeLaws.{payload-within}
 
 -- The pairs of an encoder in a super-frame.
@@ -72,11 +72,11 @@ module _ (p : Profile) (o : Outward p) (q : ℕ) where
       ap₂ (λ x y. toCells p (interleaved x y)) (buffer-pairs side0 b l) (buffer-pairs side1 b l) ∙ sym (cells-are p o (buffersIn p q + b))
 
   cells : List ℕ
-  cells = payload p (codedPairsIn p o q side0) (codedPairsIn p o q side1)
+  cells = payloadOfPairs p (codedPairsIn p o q side0) (codedPairsIn p o q side1)
 
   -- Byte h of payload cell x.
   cell-is : (x h : ℕ) → x < 172032 → h < 2 → getD cells (x * 2 + h) 0 ≡ payloadByte p o q x h
-  unfolding payload payloadByte cells
+  unfolding payloadOfPairs payloadByte cells
   cell-is x h lx lh =
       ap (λ y. getD cells y 0) split
       ∙ endToEnd-at (p .bits) (cellsPerBuffer p * 2) (bufferCells p (codedPairsIn p o q side0) (codedPairsIn p o q side1)) _
@@ -98,7 +98,7 @@ module _ (p : Profile) (o : Outward p) (q : ℕ) where
       split = omega (arith, digits (cellsPerBuffer p) (cells-pos p) x)
 
   payload-is : (s f : ℕ) → s < 48 → f / 48 ≡ q → f % 48 ≡ s → part (payloadStart s * 2) (payloadCells s * 2) cells ≡ framePayload p o f
-  unfolding framePayload payload cells
+  unfolding framePayload payloadOfPairs cells
   payload-is s f l eq es =
       rw (es, eq)
       (is-tabulate 0 (part (payloadStart s * 2) (payloadCells s * 2) cells) (payloadCells s * 2) (λ i. payloadByte p o q (payloadStart s + i / 2) (i % 2))

@@ -14,8 +14,8 @@ unfoldable pub bufferCells : Profile → List ℕ → List ℕ → ℕ → List 
 bufferCells p pairs0 pairs1 b = toCells p (interleaved (partOf 10752 pairs0 b) (partOf 10752 pairs1 b))
 
 -- The payload of the super-frame.
-unfoldable pub payload : Profile → List ℕ → List ℕ → List ℕ
-payload p pairs0 pairs1 = endToEnd (p .bits) (cellsPerBuffer p * 2) (bufferCells p pairs0 pairs1)
+unfoldable pub payloadOfPairs : Profile → List ℕ → List ℕ → List ℕ
+payloadOfPairs p pairs0 pairs1 = endToEnd (p .bits) (cellsPerBuffer p * 2) (bufferCells p pairs0 pairs1)
 
 -- Sub-frame s of the 48, whose payload is its own part of it.
 unfoldable pub subFrame : List ℕ → List ℕ → ℕ → List ℕ
@@ -25,4 +25,4 @@ unfoldable pub framesEndToEnd : List ℕ → List ℕ → List ℕ
 framesEndToEnd cells overhead = endToEnd 48 7424 (subFrame cells overhead)
 
 unfoldable pub superframe : Profile → List ℕ → List ℕ → List ℕ → List ℕ
-superframe p pairs0 pairs1 overhead = framesEndToEnd (payload p pairs0 pairs1) overhead
+superframe p pairs0 pairs1 overhead = framesEndToEnd (payloadOfPairs p pairs0 pairs1) overhead

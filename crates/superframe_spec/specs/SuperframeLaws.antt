@@ -17,20 +17,20 @@ use Rattle.calls.specs.declared.Answer.{Answer}
 use Rattle.calls.specs.Calls.{After, after}
 use Rattle.interleaver_spec.specs.Interleaving.{interleaved}
 use Rattle.interleaver_spec.specs.InterleavingLaws.{length-interleaved}
-use Rattle.interleaver_spec.specs.Calls.{interleave}
+use Rattle.interleaver_spec.specs.Calls.{interleaveCall}
 use Rattle.interleaver_spec.specs.CallLaws.{interleave-bits}
 use Rattle.cells_spec.specs.Profile.{Profile, cellsPerBuffer}
 use Rattle.cells_spec.specs.Cells.{overheadRule, payloadRule, Legal}
 use Rattle.cells_spec.specs.ProfileLaws.{cells-pos}
 use Rattle.cells_spec.specs.CellLaws.{toCells-legal, buffer-cells}
-use Rattle.cells_spec.specs.Calls.{bitsToCells}
+use Rattle.cells_spec.specs.Calls.{mapCall}
 use Rattle.cells_spec.specs.CallLaws.{map-accepts}
 use Rattle.frame_spec.specs.Frames.{payloadCells, payloadStart, ownOverhead}
 use Rattle.frame_spec.specs.FrameLaws.{framed-length, own-legal}
 use Rattle.frame_spec.specs.LayoutLaws.{payloadStart-closed}
 use Rattle.frame_spec.specs.Calls.{frameCall}
 use Rattle.frame_spec.specs.CallLaws.{frame-accepts}
-use Rattle.superframe_spec.specs.Superframe.{bufferCells, payload, subFrame, framesEndToEnd, superframe}
+use Rattle.superframe_spec.specs.Superframe.{bufferCells, payloadOfPairs, subFrame, framesEndToEnd, superframe}
 
 -- A part of legal payload is legal.
 pub part-legal : (p : Profile) (a n : ℕ) (s : List ℕ) → a + n ≤ length s → Legal (payloadRule p) s → Legal (payloadRule p) (part a n s)
@@ -48,7 +48,7 @@ module _ (n b a e : ℕ) (ea : a ≡ b * 10752) (ee : e ≡ a + 10752) (lb : b <
   pairs-long : (s : List ℕ) → length s ≡ n * 10752 → length (part a (e - a) s) ≡ 10752
   pairs-long s l = part-long a e 10752 s ee (omega arith)
 
-  pub joined-bits : (r : Answer) (s bits : List ℕ) → after r s ≡ interleave (part a (e - a) pairs0) (part a (e - a) pairs1) bits
+  pub joined-bits : (r : Answer) (s bits : List ℕ) → after r s ≡ interleaveCall (part a (e - a) pairs0) (part a (e - a) pairs1) bits
       → length bits ≡ 21504
       → s ≡ interleaved (partOf 10752 pairs0 b) (partOf 10752 pairs1 b)
   joined-bits r s bits j l =
@@ -57,13 +57,13 @@ module _ (n b a e : ℕ) (ea : a ≡ b * 10752) (ee : e ≡ a + 10752) (lb : b <
       ∙ ap₂ (λ x y. interleaved (part x y pairs0) (part x y pairs1)) ea own-pairs
 
 module _ (p : Profile) where
-  pub mapped-cells : (b : ℕ) (pairs0 pairs1 : List ℕ) (r : Answer) (d s cells : List ℕ) → after r d ≡ bitsToCells p s cells
+  pub mapped-cells : (b : ℕ) (pairs0 pairs1 : List ℕ) (r : Answer) (d s cells : List ℕ) → after r d ≡ mapCall p s cells
       → s ≡ interleaved (partOf 10752 pairs0 b) (partOf 10752 pairs1 b) → length cells ≡ cellsPerBuffer p * 2
       → d ≡ bufferCells p pairs0 pairs1 b
   unfolding bufferCells
   mapped-cells b pairs0 pairs1 r d s cells e f l =
       ap (λ (x : After (List ℕ)). x .written) e
-      ∙ ap (λ u. bitsToCells p u cells .written) f
+      ∙ ap (λ u. mapCall p u cells .written) f
       ∙ ap (λ (x : After (List ℕ)). x .written) (map-accepts p _ cells (length-interleaved (partOf 10752 pairs0 b) (partOf 10752 pairs1 b)) l)
 
   size-pos : 0 < cellsPerBuffer p * 2
@@ -80,13 +80,13 @@ module _ (p : Profile) where
 
   pub buffers-are : (pairs0 pairs1 d : List ℕ)
       → d ≡ tabulate (p .bits * (cellsPerBuffer p * 2)) (byteOfEach (cellsPerBuffer p * 2) (bufferCells p pairs0 pairs1))
-      → d ≡ payload p pairs0 pairs1
-  unfolding payload endToEnd
+      → d ≡ payloadOfPairs p pairs0 pairs1
+  unfolding payloadOfPairs endToEnd
   buffers-are pairs0 pairs1 d e = e
 
   -- The payload is legal.
-  pub payload-legal : (pairs0 pairs1 d : List ℕ) → d ≡ payload p pairs0 pairs1 → Legal (payloadRule p) d
-  unfolding payload bufferCells payloadRule
+  pub payload-legal : (pairs0 pairs1 d : List ℕ) → d ≡ payloadOfPairs p pairs0 pairs1 → Legal (payloadRule p) d
+  unfolding payloadOfPairs bufferCells payloadRule
   payload-legal pairs0 pairs1 d e =
       rw e
       (record {
@@ -163,7 +163,7 @@ pub ruleset frame-blocks = (frame-block, frames-are)
 
 -- ---- the super-frame
 
-pub superframe-is : (p : Profile) (pairs0 pairs1 overhead cells d : List ℕ) → cells ≡ payload p pairs0 pairs1
+pub superframe-is : (p : Profile) (pairs0 pairs1 overhead cells d : List ℕ) → cells ≡ payloadOfPairs p pairs0 pairs1
     → d ≡ framesEndToEnd cells overhead → d ≡ superframe p pairs0 pairs1 overhead
 unfolding superframe
 superframe-is p pairs0 pairs1 overhead cells d e f = f ∙ ap (λ c. framesEndToEnd c overhead) e

@@ -10,13 +10,13 @@ use Rattle.pair_spec.specs.Stream.{pairEncoder as encoderOf, historyBefore}
 use Rattle.loopback_core.specs.Random.{payloadIn}
 use Rattle.loopback.specs.Sent.{sentIn, frameSent}
 use Rattle.loopback_core.specs.StepLaws.{Stepping, step-none, step-more, step-done}
-use Rattle.loopback.specs.LineLaws.{whole}
+use Rattle.bits.specs.PartLaws.{is-endToEnd}
 use Rattle.loopback.specs.StreamLaws.{before-none, before-more, stream-frame-block}
 use borrow.Author.Needs.{needs}
 use Rattle.loopback.proofs.sending.encode_both.Statement.{statement}
 use Rattle.loopback.proofs.sending.encode_both.Tie as tie
 
-ruleset kit = (needs, by-blocks, before-none, step-none, step-done, whole)
+ruleset kit = (needs, by-blocks, before-none, step-none, step-done, is-endToEnd)
 
 abbrev Inv-loop : tie.InvT-loop
 Inv-loop encoder coded₀ counts₀ history₀ q₀ coded counts history q = (length history ≡ 5120) × (length counts ≡ 41) × Blocks (byteOfEach 86016 (sentIn encoder)) 86016 2 q coded × (history ≡ historyBefore encoderOf 168 (payloadIn encoder) q) × Stepping (λ i. frameSent) 2 counts₀ q counts

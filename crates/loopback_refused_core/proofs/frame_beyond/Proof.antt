@@ -1,9 +1,9 @@
--- `refusing_core::frame_beyond` meets its contract.
+-- `loopback_refused_core::frame_beyond` meets its contract.
 -- Assumes nothing.
-use Rattle.refusing_core.specs.RefusedLaws.{refusing}
+use Rattle.loopback_refused_core.specs.RefusedLaws.{refusing}
 use borrow.Author.Needs.{needs}
-use Rattle.refusing_core.proofs.frame_beyond.Statement.{statement}
-use Rattle.refusing_core.proofs.frame_beyond.Tie as tie
+use Rattle.loopback_refused_core.proofs.frame_beyond.Statement.{statement}
+use Rattle.loopback_refused_core.proofs.frame_beyond.Tie as tie
 
 ruleset kit = (needs, refusing)
 

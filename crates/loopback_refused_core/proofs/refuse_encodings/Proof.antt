@@ -1,4 +1,4 @@
--- `refusing_core::refuse_encodings` meets its contract: the calls of one pair a turn.
+-- `loopback_refused_core::refuse_encodings` meets its contract: the calls of one pair a turn.
 -- Assumes nothing.
 use mathlib.Core.Path.{_≡_}
 use lib.ListN.{length}
@@ -7,8 +7,8 @@ use Rattle.loopback_core.specs.StepLaws.{Stepping, step-none, step-done}
 use Rattle.loopback_core.specs.Tally.{refusedTwo}
 use Rattle.loopback_core.specs.TallyLaws.{refused-more}
 use borrow.Author.Needs.{needs}
-use Rattle.refusing_core.proofs.refuse_encodings.Statement.{statement}
-use Rattle.refusing_core.proofs.refuse_encodings.Tie as tie
+use Rattle.loopback_refused_core.proofs.refuse_encodings.Statement.{statement}
+use Rattle.loopback_refused_core.proofs.refuse_encodings.Tie as tie
 
 ruleset kit = (needs, step-none, step-done, refused-more)
 

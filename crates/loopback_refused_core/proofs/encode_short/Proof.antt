@@ -1,14 +1,14 @@
--- `refusing_core::encode_spent` meets its contract.
+-- `loopback_refused_core::encode_short` meets its contract.
 -- Assumes nothing.
-use Rattle.refusing_core.specs.RefusedLaws.{refusing}
+use Rattle.loopback_refused_core.specs.RefusedLaws.{refusing}
 use borrow.Author.Needs.{needs}
-use Rattle.refusing_core.proofs.encode_spent.Statement.{statement}
-use Rattle.refusing_core.proofs.encode_spent.Tie as tie
+use Rattle.loopback_refused_core.proofs.encode_short.Statement.{statement}
+use Rattle.loopback_refused_core.proofs.encode_short.Tie as tie
 
 ruleset kit = (needs, refusing)
 
-pub encode-spent-spec : {M : Type 1} → statement M
-encode-spent-spec =
+pub encode-short-spec : {M : Type 1} → statement M
+encode-short-spec =
     tie.close
     (tie.spec
     (λ c. search kit)  -- slice-aggregate-encode-pair

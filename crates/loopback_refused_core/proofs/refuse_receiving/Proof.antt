@@ -1,9 +1,9 @@
--- `refusing_core::refuse_receiving` meets its contract.
+-- `loopback_refused_core::refuse_receiving` meets its contract.
 -- Assumes nothing.
 use Rattle.loopback_core.specs.TallyLaws.{two-answered}
 use borrow.Author.Needs.{needs}
-use Rattle.refusing_core.proofs.refuse_receiving.Statement.{statement}
-use Rattle.refusing_core.proofs.refuse_receiving.Tie as tie
+use Rattle.loopback_refused_core.proofs.refuse_receiving.Statement.{statement}
+use Rattle.loopback_refused_core.proofs.refuse_receiving.Tie as tie
 
 ruleset kit = (needs, two-answered)
 

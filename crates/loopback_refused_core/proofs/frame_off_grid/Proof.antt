@@ -1,9 +1,9 @@
--- `refusing_core::frame_off_grid` meets its contract.
+-- `loopback_refused_core::frame_off_grid` meets its contract.
 -- Assumes nothing.
-use Rattle.refusing_core.specs.RefusedLaws.{frame-off-grid}
+use Rattle.loopback_refused_core.specs.RefusedLaws.{frame-off-grid}
 use borrow.Author.Needs.{needs}
-use Rattle.refusing_core.proofs.frame_off_grid.Statement.{statement}
-use Rattle.refusing_core.proofs.frame_off_grid.Tie as tie
+use Rattle.loopback_refused_core.proofs.frame_off_grid.Statement.{statement}
+use Rattle.loopback_refused_core.proofs.frame_off_grid.Tie as tie
 
 pub frame-off-grid-spec : {M : Type 1} → statement M
 frame-off-grid-spec =
