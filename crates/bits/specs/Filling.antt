@@ -70,11 +70,9 @@ module _ {A : Type 0} where
           ∙ ap f (omega arith)
 
   -- Two values a turn.
-  pub fill-two : {f : ℕ → A} {n : ℕ} {d : List A} (i : ℕ) (u v : A) → Filling f n (2 * i) d → 2 * i + 1 < n → u ≡ f (2 * i) → v ≡ f (2 * i + 1)
-      → Filling f n (2 * (i + 1)) (set (set d (2 * i) u) (2 * i + 1) v)
-  fill-two i u v h l p q =
-      let e : 2 * i + 1 + 1 ≡ 2 * (i + 1) = omega arith in
-      rw e at (fill-more v (fill-more u h (omega arith) p) l q)
+  pub fill-two : {f : ℕ → A} {n i j : ℕ} {d : List A} (u v : A) → Filling f n i d → i + 1 < n → u ≡ f i → v ≡ f (i + 1) → j ≡ i + 1 + 1
+      → Filling f n j (set (set d i u) (i + 1) v)
+  fill-two u v h l p q e = rw e (fill-more v (fill-more u h (omega arith) p) l q)
 
 pub ruleset fill = (fill-none, fill-more, fill-done)
 

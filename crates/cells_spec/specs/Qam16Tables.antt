@@ -7,7 +7,7 @@ use native.Mathlib.Omega.{arith}
 use lib.ListN.{length, getD, set}
 use Rattle.bits.specs.Lists.{tabulate}
 use Rattle.bits.specs.ListLaws.{getD-tabulate}
-use Rattle.bits.specs.Filling.{fill-more, Blocks, blocks-none, blocks-done}
+use Rattle.bits.specs.Filling.{Blocks, blocks-none, blocks-done, fill-two}
 use Rattle.cells_spec.specs.Qam16.{cellByte}
 use Rattle.cells_spec.specs.Qam16Inverse.{byteOfCell}
 use Rattle.cells_spec.specs.Qam16Laws.{cellByte-lt}
@@ -77,13 +77,7 @@ symbol-entry t x y e lx ly =
 
 pub filled-more : {f : ℕ → ℕ} {m i : ℕ} {d : List ℕ} (v w : ℕ) → Blocks f 2 m i d → i < m → v ≡ f (i * 2) → w ≡ f (i * 2 + 1)
     → Blocks f 2 m (i + 1) (set (set d (i * 2) v) (i * 2 + 1) w)
-filled-more {f} {m} {i} {d} v w h l ev ew =
-    record {
-      turns = omega arith;
-      filled =
-          let e : (i + 1) * 2 ≡ i * 2 + 1 + 1 = omega arith in
-          rw e (fill-more w (fill-more v (h .filled) (omega arith) ev) (omega arith) ew);
-    }
+filled-more v w h l ev ew = record { turns = omega arith; filled = fill-two v w (h .filled) (omega arith) ev ew (omega arith) }
 
 -- The second byte of the next cell stands in the buffer.
 pub filled-second : {f : ℕ → ℕ} {m i : ℕ} {d : List ℕ} → Blocks f 2 m i d → i < m → i * 2 + 1 < length d

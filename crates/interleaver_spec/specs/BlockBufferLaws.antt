@@ -9,7 +9,7 @@ use borrow.Rule.Slice.PartMut.{putMid}
 use lib.ListN.{length, getD, set, length-set}
 use Rattle.bits.specs.Bits.{bitOf, bit, fromBits, byteOf, pack}
 use Rattle.bits.specs.BitLaws.{bit-lt, bitOf-fromBits, fromBits-ext, pack-ext}
-use Rattle.bits.specs.Filling.{Filling, fill-none, fill-more, fill-done, Blocks, blocks-next}
+use Rattle.bits.specs.Filling.{Filling, fill-none, fill-done, Blocks, blocks-next, fill-two}
 use Rattle.bits.specs.ListLaws.{getD-tabulate, tabulate-ext}
 use Rattle.bits.specs.Lists.{tabulate}
 use Rattle.interleaver_spec.specs.declared.BlockRow.{BlockRow}
@@ -215,9 +215,7 @@ twos-room {f} {x} {d} u h l = omega (arith, length-set d (2 * x) u, h .filled .l
 
 pub twos-more : {f : ℕ → ℕ} {x : ℕ} {d : List ℕ} (u v : ℕ) → Twos f x d → x < 128 → u ≡ f (2 * x) → v ≡ f (2 * x + 1)
     → Twos f (x + 1) (set (set d (2 * x) u) (2 * x + 1) v)
-twos-more {f} {x} {d} u v h l p q =
-    let e : 2 * x + 1 + 1 ≡ 2 * (x + 1) = omega arith in
-    record { filled = rw e at (fill-more v (fill-more u (h .filled) (omega arith) p) (omega arith) q) }
+twos-more u v h l p q = record { filled = fill-two u v (h .filled) (omega arith) p q (omega arith) }
 
 pub twos-done : {f : ℕ → ℕ} {x : ℕ} {d : List ℕ} → Twos f x d → 128 ≤ x → d ≡ tabulate 256 f
 twos-done h l = fill-done (h .filled) (omega arith)

@@ -71,11 +71,11 @@ module _ (x n rest : ℕ) (lx : x < 2 ^ 16) (is : n + rest ≡ 16) where
   parted = sym (fromBits-bitOf 16 x lx) ∙ ap (λ w. fromBits w (bitOf 16 x)) (sym is) ∙ fromBits-split n rest (bitOf 16 x)
 
   turn-front : x / 2 ^ rest ≡ front
-  turn-front = ap (λ v. v / 2 ^ rest) afterDeinterleave ∙ high front rest (fromBits-lt rest (λ c. bitOf 16 x (n + c)))
+  turn-front = ap (λ v. v / 2 ^ rest) parted ∙ high front rest (fromBits-lt rest (λ c. bitOf 16 x (n + c)))
 
   turn-back : x * 2 ^ n % 2 ^ 16 ≡ back * 2 ^ n
   turn-back =
-      ap (λ v. v * 2 ^ n % 2 ^ 16) afterDeinterleave
+      ap (λ v. v * 2 ^ n % 2 ^ 16) parted
       ∙ ap (λ v. v % 2 ^ 16) (add-mul (front * 2 ^ rest) back (2 ^ n) ∙ ap (λ v. v + back * 2 ^ n) whole)
       ∙ low front 16 small
     where

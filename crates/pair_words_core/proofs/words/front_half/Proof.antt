@@ -33,5 +33,5 @@ front-half-spec =
     (λ c. search kit)  -- array-write-word-2
     (λ c. search kit)  -- add-b
     (λ c. search kit)  -- loop-less
-    (λ c. let a = c .before .before .before in fill-two (a .loop .b) _ _ (a .loop .inv) (omega arith) (c .before .front-byte .ensures) (c .front-byte2 .ensures))  -- loop-again
+    (λ c. let a = c .before .before .before in fill-two _ _ (a .loop .inv) (omega arith) (c .before .front-byte .ensures) (c .front-byte2 .ensures) (omega arith))  -- loop-again
     (λ c. search kit))  -- returns-2
