@@ -1,4 +1,4 @@
-// The header of a line file, the workers: its rules over sixteen bytes and a length, and its bytes. By the definitions of `line_file_spec`, below
-// `opening_core`, `header` and the programs.
+// Workers: the header of a line file, its rules over sixteen bytes and a length, and its bytes. By the definitions of `line_file_spec`,
+// below `opening_core`, `header` and the programs.
 pub mod rules;
 pub mod writing;

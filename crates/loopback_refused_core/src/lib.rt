@@ -1,5 +1,5 @@
-// Workers of `loopback`: refused calls among the others: lent an encoder's or a receiver's own history, they leave it as it was. Over `pair`
-// and `frame`; counted by `loopback_core`.
+// Workers of `loopback`: refused calls among the others. Lent an encoder's or a receiver's own history, they leave it as it was. Over
+// `pair` and `frame`; `loopback_core` counts them.
 use calls::Answer;
 use loopback_core::counts::answered;
 ghost use mathlib.Core.Path.{_≡_};
