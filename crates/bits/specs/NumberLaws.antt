@@ -38,7 +38,9 @@ byteOf-bit s j x e l =
 pub byte-copied : (s : List ℕ) (f : ℕ → ℕ) (j n : ℕ) → ((i : ℕ) → getD s i 0 < 256) → ((k : ℕ) → k < 8 → bit s (n * 8 + k) ≡ f (j * 8 + k))
     → getD s n 0 ≡ byteOf f j
 unfolding byteOf
-byte-copied s f j n b same = sym (byteOf-bit s n (getD s n 0) refl (b n)) ∙ fromBits-ext 8 (λ k. bit s (n * 8 + k)) (λ k. f (j * 8 + k)) (λ k lk. ap (λ u. u % 2) (same k lk))
+byte-copied s f j n b same =
+    sym (byteOf-bit s n (getD s n 0) refl (b n))
+    ∙ fromBits-ext 8 (λ k. bit s (n * 8 + k)) (λ k. f (j * 8 + k)) (λ k lk. ap (λ u. u % 2) (same k lk))
 
 -- Bits that agree on a byte.
 pub byteOf-ext : (f g : ℕ → ℕ) (j : ℕ) → ((k : ℕ) → k < 8 → f (j * 8 + k) ≡ g (j * 8 + k)) → byteOf f j ≡ byteOf g j

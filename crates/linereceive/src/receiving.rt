@@ -72,7 +72,8 @@ fn judge(taken: Answer, capture: Input, q: u32) -> u32
     refusal
 }
 
-// Receives the pairs of one encoder, numbered from `first` on, and writes payload and marks to files that are called so where a write fails.
+// Receives the pairs of one encoder, numbered from `first` on, and writes payload and marks; the names of the two files are said where a
+// write fails.
 fn receive_and_write(
     pairs: &[u8; 86016],
     first: u32,

@@ -29,7 +29,7 @@ use Rattle.loopback_core.specs.NoiseLaws.{damaged-legal}
 use Rattle.loopback_core.specs.Steps.{eachStep}
 use Rattle.loopback_core.specs.Tally.{tallySum}
 use Rattle.loopback.specs.Sent.{sentIn}
-use Rattle.loopback.specs.Line.{damagedLine, pairsOff, lineIn, allOff, lineCounted}
+use Rattle.loopback.specs.Line.{damagedLine, pairsOff, Taken, lineIn, allOff, lineCounted}
 
 -- ---- legal
 
@@ -89,10 +89,14 @@ module _ (q : ℕ) (coded0 coded1 list made frames got0 got1 x y : List ℕ) (r 
       ∙ sym (apart-done qam16 line list got0 got1 _ refl (none-illegal overheadRule list hl) _ refl (none-illegal (lineRule qam16) line legal) _ refl)
 
   -- The differing cells and both encoders' pairs.
-  pub line-carried : (v : ℕ) → v ≡ valueOr r 0
-      → (v ≡ differingAll (damagedLine list q coded0 coded1) list) × (x ≡ pairsOff (damagedLine list q coded0 coded1) 0) × (y ≡ pairsOff (damagedLine list q coded0 coded1) 1)
+  pub line-carried : (v : ℕ) → v ≡ valueOr r 0 → Taken (damagedLine list q coded0 coded1) list v x y
   unfolding pairsOff
-  line-carried v e = (e ∙ ap (λ (a : Deinterleaved). valueOr (a .answer) 0) carried, ap (λ (a : Deinterleaved). a .written .pairs0) carried, ap (λ (a : Deinterleaved). a .written .pairs1) carried)
+  line-carried v e =
+      record {
+        differing = e ∙ ap (λ (a : Deinterleaved). valueOr (a .answer) 0) carried;
+        off0 = ap (λ (a : Deinterleaved). a .written .pairs0) carried;
+        off1 = ap (λ (a : Deinterleaved). a .written .pairs1) carried;
+      }
 
 -- The same of what encoder e and the other one send, in the order of the encoders.
 module _ (list : List ℕ) (q e : ℕ) (own other : List ℕ) (eo : own ≡ sentIn e q) (et : other ≡ sentIn (1 - e) q) where

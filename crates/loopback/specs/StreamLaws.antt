@@ -60,7 +60,8 @@ module _ (e q : ℕ) (h s ys : List ℕ) (es : s ≡ payloadIn e q) where
   pub coded-of : (g : List ℕ) → encodeBuffers ys g ≡ encodeStream 168 h (168 * q) s → ys ≡ codedOf 168 h (168 * q) (payloadIn e q)
   coded-of g is = ap (λ (b : EncodeBuffers). b .coded) is ∙ ap (codedOf 168 h (168 * q)) es
 
-  pub history-of : (c : List ℕ) → encodeBuffers c ys ≡ encodeStream 168 h (168 * q) s → ys ≡ historyOver pairEncoder 168 h (168 * q) (payloadIn e q)
+  pub history-of : (c : List ℕ) → encodeBuffers c ys ≡ encodeStream 168 h (168 * q) s
+      → ys ≡ historyOver pairEncoder 168 h (168 * q) (payloadIn e q)
   history-of c is = ap (λ (b : EncodeBuffers). b .history) is ∙ ap (historyOver pairEncoder 168 h (168 * q)) es
 
 -- A super-frame sent, after refused calls that leave the history.

@@ -15,7 +15,7 @@ ghost use Rattle.superframe_spec.specs.Apart.{differingAll};
 ghost use Rattle.loopback_core.specs.Random.{drawnList};
 ghost use Rattle.loopback_core.specs.Steps.{eachStep};
 ghost use Rattle.loopback_core.specs.Tally.{answered};
-ghost use Rattle.loopback.specs.Line.{damagedLine, pairsOff, lineIn, allOff, lineCounted};
+ghost use Rattle.loopback.specs.Line.{damagedLine, pairsOff, Taken, lineIn, allOff, lineCounted};
 ghost use Rattle.loopback.specs.Sent.{sentIn};
 
 // An overhead list that is drawn.
@@ -49,7 +49,7 @@ fn send(q: usize, list: &[u8], coded0: &[u8], coded1: &[u8], frames: &mut [u8])
 // cells that differ.
 fn transmit_both(q: usize, list: &[u8], pairs0: &mut [u8], pairs1: &mut [u8]) -> u32
     requires { ⌜ (q < 2) × (length (now list) ≡ 12288) × Legal overheadRule (now list) × (length (now pairs0) ≡ 86016) × (length (now pairs1) ≡ 86016) ⌝ }
-    ensures { λ r. ⌜ (r ≡ differingAll (damagedLine (now (list .entry)) q (now (pairs0 .entry)) (now (pairs1 .entry))) (now (list .entry))) × (now (pairs0 .exit) ≡ pairsOff (damagedLine (now (list .entry)) q (now (pairs0 .entry)) (now (pairs1 .entry))) 0) × (now (pairs1 .exit) ≡ pairsOff (damagedLine (now (list .entry)) q (now (pairs0 .entry)) (now (pairs1 .entry))) 1) ⌝ }
+    ensures { λ r. ⌜ Taken (damagedLine (now (list .entry)) q (now (pairs0 .entry)) (now (pairs1 .entry))) (now (list .entry)) r (now (pairs0 .exit)) (now (pairs1 .exit)) ⌝ }
 {
     let mut frames = file::blank_frames();
     send(q, list, pairs0, pairs1, &mut frames);
