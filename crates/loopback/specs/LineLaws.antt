@@ -105,11 +105,9 @@ module _ (list : List ℕ) (q e : ℕ) (own other : List ℕ) (eo : own ≡ sent
     unfolding lineIn
     first-line = let one : 1 - e ≡ 1 = omega arith in ap₂ (damagedLine list q) (eo ∙ ap (λ n. sentIn n q) h) (et ∙ ap (λ n. sentIn n q) one)
 
-    pub first-counted : (v : ℕ) → v ≡ differingAll (damagedLine list q own other) list → v ≡ differingAll (lineIn list q) list
-    first-counted v ev = ev ∙ ap (λ l. differingAll l list) first-line
-
-    pub first-off : (ys : List ℕ) → ys ≡ pairsOff (damagedLine list q own other) 0 → ys ≡ pairsOff (lineIn list q) e
-    first-off ys es = es ∙ ap₂ pairsOff first-line (sym h)
+    pub first-taken : {v : ℕ} {x y : List ℕ} → Taken (damagedLine list q own other) list v x y
+        → (v ≡ differingAll (lineIn list q) list) × (x ≡ pairsOff (lineIn list q) e)
+    first-taken t = (t .differing ∙ ap (λ l. differingAll l list) first-line, t .off0 ∙ ap₂ pairsOff first-line (sym h))
 
   module _ (l : e < 2) (h : e ≢ 0) where
     second-line : damagedLine list q other own ≡ lineIn list q
@@ -119,11 +117,11 @@ module _ (list : List ℕ) (q e : ℕ) (own other : List ℕ) (eo : own ≡ sent
         let zero : 1 - e ≡ 0 = omega arith in
         ap₂ (damagedLine list q) (et ∙ ap (λ n. sentIn n q) zero) (eo ∙ ap (λ n. sentIn n q) one)
 
-    pub second-counted : (v : ℕ) → v ≡ differingAll (damagedLine list q other own) list → v ≡ differingAll (lineIn list q) list
-    second-counted v ev = ev ∙ ap (λ l. differingAll l list) second-line
-
-    pub second-off : (ys : List ℕ) → ys ≡ pairsOff (damagedLine list q other own) 1 → ys ≡ pairsOff (lineIn list q) e
-    second-off ys es = let one : 1 ≡ e = omega arith in es ∙ ap₂ pairsOff second-line one
+    pub second-taken : {v : ℕ} {x y : List ℕ} → Taken (damagedLine list q other own) list v x y
+        → (v ≡ differingAll (lineIn list q) list) × (y ≡ pairsOff (lineIn list q) e)
+    second-taken t =
+        let one : 1 ≡ e = omega arith in
+        (t .differing ∙ ap (λ l. differingAll l list) second-line, t .off1 ∙ ap₂ pairsOff second-line one)
 
 -- ---- super-frames end to end
 

@@ -15,7 +15,7 @@ ghost use Rattle.superframe_spec.specs.Apart.{differingAll};
 ghost use Rattle.loopback_core.specs.Random.{drawnList};
 ghost use Rattle.loopback_core.specs.Steps.{eachStep};
 ghost use Rattle.loopback_core.specs.Tally.{answered};
-ghost use Rattle.loopback.specs.Line.{damagedLine, pairsOff, Taken, lineIn, allOff, lineCounted};
+ghost use Rattle.loopback.specs.Line.{damagedLine, pairsOff, lineIn, allOff, lineCounted};
 ghost use Rattle.loopback.specs.Sent.{sentIn};
 
 // An overhead list that is drawn.
@@ -45,27 +45,22 @@ fn send(q: usize, list: &[u8], coded0: &[u8], coded1: &[u8], frames: &mut [u8])
     damage(q, frames);
 }
 
-// Sends the pairs of both encoders in super-frame q over the line and puts in their place what is taken off it: the number of overhead
-// cells that differ.
-fn transmit_both(q: usize, list: &[u8], pairs0: &mut [u8], pairs1: &mut [u8]) -> u32
-    requires { ⌜ (q < 2) × (length (now list) ≡ 12288) × Legal overheadRule (now list) × (length (now pairs0) ≡ 86016) × (length (now pairs1) ≡ 86016) ⌝ }
-    ensures { λ r. ⌜ Taken (damagedLine (now (list .entry)) q (now (pairs0 .entry)) (now (pairs1 .entry))) (now (list .entry)) r (now (pairs0 .exit)) (now (pairs1 .exit)) ⌝ }
-{
-    let mut frames = file::blank_frames();
-    send(q, list, pairs0, pairs1, &mut frames);
-    file::pass(list, &mut frames);
-    calls::value_or(superframe::take_apart(&frames, list, pairs0, pairs1), 0)
-}
-
-// The same of an encoder's own pairs and the other's.
+// Sends an encoder's own pairs and the other's in super-frame q over the line, and puts in their place what is taken off it: the number of
+// overhead cells that differ. The three steps stand in either branch, so that none of them is compiled into this function: their arrays
+// would then need stack at the same time.
 fn transmit(encoder: u32, q: usize, list: &[u8], own: &mut [u8], other: &mut [u8]) -> u32
     requires { ⌜ (encoder < 2) × (q < 2) × (length (now list) ≡ 12288) × Legal overheadRule (now list) × (length (now own) ≡ 86016) × (length (now other) ≡ 86016) × (now own ≡ sentIn encoder q) × (now other ≡ sentIn (1 - encoder) q) ⌝ }
     ensures { λ r. ⌜ (r ≡ differingAll (lineIn (now (list .entry)) q) (now (list .entry))) × (now (own .exit) ≡ pairsOff (lineIn (now (list .entry)) q) encoder) ⌝ }
 {
+    let mut frames = file::blank_frames();
     if encoder == 0 {
-        return transmit_both(q, list, own, other);
+        send(q, list, own, other, &mut frames);
+        file::pass(list, &mut frames);
+        return calls::value_or(superframe::take_apart(&frames, list, own, other), 0);
     }
-    transmit_both(q, list, other, own)
+    send(q, list, other, own, &mut frames);
+    file::pass(list, &mut frames);
+    calls::value_or(superframe::take_apart(&frames, list, other, own), 0)
 }
 
 // The pairs of an encoder that come off the line in super-frame q, and the number of overhead cells that differ.
