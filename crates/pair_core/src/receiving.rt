@@ -31,7 +31,8 @@ fn receive_word(
     ensures { λ r. ⌜ (r ≡ mark (repairOf depth (now (history .entry)) pair (now (coded .entry)) w)) × (now (back .exit) ≡ backHalf (repairedWord depth (now (history .entry)) pair (now (coded .entry))) w) ⌝ }
 {
     let mut word = held_word(history, coded, pair, w);
-    let r = word::repair_in_place(&mut word, 10 <= pair, columns, table, logs, cubes);
+    let v = word::checks::check_of(&word, columns);
+    let r = word::repair_in_place(&mut word, v, 10 <= pair, table, logs, cubes);
     put_back_half(&word, back);
     word::mark_of(r)
 }

@@ -14,9 +14,13 @@ use Rattle.word_spec.specs.Repair.{places, flipAll, repaired, repair}
 use Rattle.word_spec.specs.RepairLaws.{flipped-ext}
 use Rattle.word_spec.specs.Locating.{Located, confined, located-repair, one-lost, two-lost}
 use Rattle.word_spec.specs.Syndromes.{syndromesOf}
+use Rattle.word_spec.specs.Checks.{check}
 use Rattle.word_spec.specs.declared.Repair.{Repair}
 use Rattle.word_spec.specs.declared.Repair.the-variants.{Sound, One, Two, Lost}
 use Rattle.word_spec.specs.declared.Syndromes.{Syndromes}
+use Rattle.word.specs.Partial.{syndromes}
+use Rattle.word.specs.Checking.{syndromes-none}
+use Rattle.word.specs.Finding.{even-sound}
 
 -- The places of a repair lie in the word.
 abbrev pub Inside : Repair → Type 0
@@ -92,5 +96,17 @@ pub repaired-in-place : (s d : List ℕ) (front : Bool) (y : Syndromes) (q r : R
 repaired-in-place s d front y q r ey L er ed =
     let e : r ≡ repair front (bit s) = er ∙ sym (located-repair (bit s) (λ k l. bit-lt s k) front q (rw ey at L)) in
     (e, ed ∙ ap (λ x. pack 32 (repaired x (bit s))) e)
+
+-- A word whose check bits are all 0.
+pub sound-in-place : (s : List ℕ) (front : Bool) (v : ℕ) → length s ≡ 32 → ((j : ℕ) → getD s j 0 < 256) → (v ≡ check (bit s)) × (v < 131072)
+    → v ≡ 0 → (Sound ≡ repair front (bit s)) × (s ≡ pack 32 (repaired (repair front (bit s)) (bit s)))
+unfolding confined
+sound-in-place s front v l b e z =
+    repaired-in-place s s front (syndromes 0 0 0) Sound Sound (syndromes-none s v e z) (even-sound (syndromes 0 0 0) (omega arith) (λ o. omega arith) refl refl)
+    (still front) (apply-none s Sound l b (sound-none Sound refl))
+  where
+    still : (t : Bool) → Sound ≡ confined t Sound
+    still true = refl
+    still false = refl
 
 pub ruleset applying = (inside-one, inside-second, inside-first, apply-one, apply-two, confined-inside, repaired-in-place)

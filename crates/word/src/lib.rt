@@ -1,6 +1,6 @@
 // Check words in bytes, the workers and the call `repair_word`. Over `word_spec`, below `pair_core`.
 // 01, "Code words": "A word lent by itself is 32 bytes, bit 0 first".
-mod checks;
+pub mod checks;
 pub mod completion;
 mod locating;
 pub mod syndrome;
@@ -15,7 +15,8 @@ ghost use lib.ListN.{length};
 ghost use Rattle.bits.specs.Bits.{bit, pack};
 ghost use Rattle.word_spec.specs.Repair.{repair, repaired, mark};
 ghost use Rattle.word_spec.specs.Locating.{confined};
-ghost use Rattle.word.specs.Tables.{Tables};
+ghost use Rattle.word_spec.specs.Checks.{check};
+ghost use Rattle.gf256.specs.Tables.{powers, logs as exponents, cubed};
 ghost use Rattle.word.specs.Applying.{Inside};
 ghost use Rattle.word_spec.specs.Calls.{repairCall};
 ghost use Rattle.calls.specs.Calls.{after};
@@ -63,20 +64,23 @@ fn apply(w: &mut [u8], r: Repair)
     }
 }
 
-// Repairs a word of 32 bytes in place and says what it flipped; `front` says whether flips may fall in the front half. The tables are those
-// of check bits, powers, exponents and cubes.
+// Repairs a word of 32 bytes that has these check bits, and says what it flipped; `front` says whether flips may fall in the front half. The
+// tables are those of powers, exponents and cubes. A word whose check bits are all zero needs no repair.
 pub fn repair_in_place(
     w: &mut [u8],
+    v: u32,
     front: bool,
-    columns: &[u32; 256],
     table: &[u8; 255],
     logs: &[u8; 256],
     cubes: &[u8; 256],
 ) -> Repair
-    requires { ⌜ (length (now w) ≡ 32) × Tables (now columns) (now table) (now logs) (now cubes) ⌝ }
+    requires { ⌜ (length (now w) ≡ 32) × ((v ≡ check (bit (now w))) × (v < 131072)) × (now table ≡ powers) × (now logs ≡ exponents) × (now cubes ≡ cubed) ⌝ }
     ensures { λ r. ⌜ (r ≡ repair front (bit (now (w .entry)))) × (now (w .exit) ≡ pack 32 (repaired (repair front (bit (now (w .entry)))) (bit (now (w .entry))))) ⌝ }
 {
-    let s = syndrome::syndromes_of(w, columns, table, cubes);
+    if v == 0 {
+        return Repair::Sound;
+    }
+    let s = syndrome::tail_syndromes(v, table, cubes);
     let r = confine(locating::locate(s, table, logs, cubes), front);
     apply(w, r);
     r
@@ -105,6 +109,7 @@ pub fn repair_word(word: &mut [u8], front: bool) -> Answer
     let table = gf256::powers();
     let logs = gf256::logs();
     let cubes = gf256::cubes();
-    let r = repair_in_place(word, front, &columns, &table, &logs, &cubes);
+    let v = checks::check_of(word, &columns);
+    let r = repair_in_place(word, v, front, &table, &logs, &cubes);
     Answer::Done(mark_of(r) as u32)
 }

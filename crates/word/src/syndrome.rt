@@ -1,12 +1,9 @@
 // The syndromes of a word, from the table of powers.
-use crate::checks::check_of;
 use word_spec::Syndromes;
 ghost use mathlib.Core.Path.{_≡_};
 ghost use Prim.Native.Nat.{_<_};
-ghost use lib.ListN.{length};
-ghost use Rattle.bits.specs.Bits.{bit};
 ghost use Rattle.word_spec.specs.Syndromes.{locator, syndromesOf};
-ghost use Rattle.word_spec.specs.Checks.{checks, tail};
+ghost use Rattle.word_spec.specs.Checks.{tail};
 ghost use Rattle.gf256.specs.Tables.{powers, cubed};
 ghost use Rattle.word.specs.Partial.{absorbed};
 
@@ -34,8 +31,8 @@ fn absorb(s: Syndromes, b: u8, k: usize, table: &[u8; 255], cubes: &[u8; 256]) -
     }
 }
 
-// The syndromes of a word that has check bits v alone.
-fn tail_syndromes(v: u32, table: &[u8; 255], cubes: &[u8; 256]) -> Syndromes
+// The syndromes of a word that has check bits v alone, which are those of every word with these check bits.
+pub fn tail_syndromes(v: u32, table: &[u8; 255], cubes: &[u8; 256]) -> Syndromes
     requires { ⌜ (now table ≡ powers) × (now cubes ≡ cubed) ⌝ }
     ensures { λ r. ⌜ r ≡ syndromesOf (tail v) ⌝ }
 {
@@ -49,25 +46,4 @@ fn tail_syndromes(v: u32, table: &[u8; 255], cubes: &[u8; 256]) -> Syndromes
         s = absorb(s, b, k, table, cubes);
     }
     s
-}
-
-// The syndromes and the parity of a word of 32 bytes: those of its check bits.
-pub fn syndromes_of(
-    w: &[u8],
-    columns: &[u32; 256],
-    table: &[u8; 255],
-    cubes: &[u8; 256],
-) -> Syndromes
-    requires { ⌜ (length (now w) ≡ 32) × (now columns ≡ checks) × (now table ≡ powers) × (now cubes ≡ cubed) ⌝ }
-    ensures { λ r. ⌜ r ≡ syndromesOf (bit (now (w .entry))) ⌝ }
-{
-    let v = check_of(w, columns);
-    if v == 0 {
-        return Syndromes {
-            s1: 0,
-            s3: 0,
-            parity: 0,
-        };
-    }
-    tail_syndromes(v, table, cubes)
 }

@@ -1,6 +1,8 @@
 -- `word::repair_in_place` meets its contract: what the syndromes tell is the repair that the search finds.
 -- Assumes nothing.
-use Rattle.word.specs.Applying.{applying, repaired-in-place}
+use denote.Ref.{now}
+use Rattle.word.specs.Checking.{syndromes-are}
+use Rattle.word.specs.Applying.{applying, repaired-in-place, sound-in-place}
 use Rattle.word_spec.specs.CallLaws.{parity-small}
 use borrow.Author.Needs.{needs}
 use Rattle.word.proofs.repair_in_place.Statement.{statement}
@@ -12,7 +14,10 @@ pub repair-in-place-spec : {M : Type 1} → statement M
 repair-in-place-spec =
     tie.close
     (tie.spec
-    (λ c κs. search kit)  -- syndromes-of-requires
+    (λ c.
+    let a = c .before in
+    sound-in-place (now (a .before .args .w)) (a .before .args .front) _ (a .before .pre .0) (λ j. a .slice-known .given j .fits) (a .before .pre .1) (search needs))  -- returns
+    (λ c κs. search kit)  -- tail-syndromes-requires
     (λ c κs. search kit)  -- locate-requires
     (λ c κs. search kit)  -- confine-requires
     (λ c κs. search kit)  -- apply-requires
@@ -20,4 +25,5 @@ repair-in-place-spec =
     (λ c.
     let a = c .before .before in
     let f = a .before .before in
-    repaired-in-place _ _ _ _ _ _ (f .before .before .syndromes-of .ensures) (f .before .locate .ensures) (f .confine .ensures) (a .apply .ensures)))  -- returns
+    let s = f .before .before in
+    repaired-in-place _ _ _ _ _ _ (syndromes-are _ _ _ (s .before .before .before .pre .1) (s .tail-syndromes .ensures)) (f .before .locate .ensures) (f .confine .ensures) (a .apply .ensures)))  -- returns-2

@@ -17,6 +17,7 @@ repair-word-spec =
     (λ c κs. search kit)  -- powers-requires
     (λ c κs. search kit)  -- logs-requires
     (λ c κs. search kit)  -- cubes-requires
+    (λ c κs. search kit)  -- check-of-requires
     (λ c κs. search kit)  -- repair-in-place-requires
     (λ c κs. search kit)  -- mark-of-requires
     (λ c. search kit)  -- cast-t10

@@ -13,6 +13,8 @@ receive-word-spec =
     tie.close
     (tie.spec
     (λ c κs. search kit)  -- held-word-requires
+    (λ c. search kit)  -- slice-aggregate-check-of
+    (λ c κs. search kit)  -- check-of-requires
     (λ c. search kit)  -- slice-aggregate-repair-in-place
     (λ c κs. search kit)  -- repair-in-place-requires
     (λ c. search kit)  -- slice-aggregate-put-back-half
