@@ -1,6 +1,5 @@
 -- What the exported functions answer: the answers of the library in numbers, by its own definitions.
 -- Assumes nothing.
-use mathlib.Core.Path.{_≡_, refl}
 use mathlib.Core.Bool.{Bool, not}
 use Prim.Native.Nat.{ℕ}
 use lib.Dec.{eqb}
@@ -19,10 +18,6 @@ outcome r v i = record { refusal = r; value = v; index = i }
 abbrev pub outcomeOf : Answer → ℕ → Outcome
 outcomeOf a refused = outcome (refusalOf a) (valueOr a refused) (indexOf a)
 
-pub outcome-is : (a : Answer) (refused r v i : ℕ) → r ≡ refusalOf a → v ≡ valueOr a refused → i ≡ indexOf a
-    → outcome r v i ≡ outcomeOf a refused
-outcome-is a refused r v i e f g = rw (e, f, g)
-
 -- A flag passed as a number: any but 0 is set.
 abbrev pub flag : ℕ → Bool
 flag n = not (eqb n 0)
@@ -30,10 +25,6 @@ flag n = not (eqb n 0)
 -- An opened line file: the header's numbers.
 abbrev pub lineOf : Header → Line
 lineOf h = record { refusal = refusalOf (h .answer); superframes = h .superframes; overhead = h .overhead; frames = h .frames }
-
-pub line-is : (g h : Header) (n : ℕ) → h ≡ g → n ≡ refusalOf (h .answer)
-    → _≡_ {A = Line} (record { refusal = n; superframes = h .superframes; overhead = h .overhead; frames = h .frames }) (lineOf g)
-line-is g h n e d = rw (d, e) refl
 
 -- A result of the library.
 abbrev pub outcomeIn : Result → Outcome

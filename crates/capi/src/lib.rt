@@ -144,9 +144,8 @@ pub extern "C" fn ofec_open_line(file: &[u8]) -> Line
     ensures { λ r. ⌜ r ≡ lineOf (headerOf (now (file .entry))) ⌝ }
 {
     let h = line_file::open_header(file);
-    let a = h.answer;
     Line {
-        refusal: calls::refusal_of(a),
+        refusal: line_file::open_refusal(file),
         superframes: h.superframes,
         overhead: h.overhead,
         frames: h.frames,

@@ -1,6 +1,6 @@
 -- `capi::ofec_open_line` meets its contract: the header of the library in numbers.
 -- Assumes nothing.
-use Rattle.capi.specs.Outcomes.{line-is}
+use Rattle.capi.specs.ExportLaws.{line-is}
 use borrow.Author.Needs.{needs}
 use Rattle.capi.proofs.ofec_open_line.Statement.{statement}
 use Rattle.capi.proofs.ofec_open_line.Tie as tie
@@ -12,5 +12,5 @@ ofec-open-line-spec =
     tie.close
     (tie.spec
     (λ c κs. search kit)  -- open-header-requires
-    (λ c κs. search kit)  -- refusal-of-requires
+    (λ c κs. search kit)  -- open-refusal-requires
     (λ c. search kit))  -- returns

@@ -1,6 +1,6 @@
 -- `capi::outcome_of` meets its contract: each number by its own definition.
 -- Assumes nothing.
-use Rattle.capi.specs.Outcomes.{outcome-is}
+use Rattle.capi.specs.ExportLaws.{outcome-is}
 use borrow.Author.Needs.{needs}
 use Rattle.capi.proofs.outcome_of.Statement.{statement}
 use Rattle.capi.proofs.outcome_of.Tie as tie
