@@ -4,9 +4,10 @@ ghost use Prim.Native.Nat.{_+_, _*_, _<_};
 ghost use lib.ListN.{length};
 ghost use Rattle.bits.specs.Bits.{pack};
 ghost use Rattle.bits.specs.Lists.{tabulate};
-ghost use Rattle.interleaver_spec.specs.BlockBuffer.{laid, pairsWords, sentWords, wordsBlock, reorderedIn, reorderedRow, outputBit, columnByte};
-use crate::buffer::block_row_word;
+ghost use Rattle.interleaver_spec.specs.BlockBuffer.{laid, pairsWords, sentWords, wordsBlock, reorderedIn, subsetRowAt, joinedRow, outputBit, columnByte};
 use crate::buffer::lay;
+use crate::buffer::side_by_side;
+use crate::buffer::subset_word;
 use crate::rows::block_row_of;
 use crate::rows::pairs_byte;
 use block_core::block::reorder;
@@ -62,34 +63,52 @@ fn reordered_row(words: &[u16; 128]) -> [u16; 128]
     row
 }
 
-// All block rows, reordered.
-pub fn reordered_rows(pairs0: &[u8], pairs1: &[u8]) -> [[u16; 128]; 84]
-    requires { ⌜ (length (now pairs0) ≡ 10752) × (length (now pairs1) ≡ 10752) ⌝ }
-    ensures { λ r. ⌜ r ≡ tabulate 84 (reorderedRow (now (pairs0 .entry)) (now (pairs1 .entry))) ⌝ }
+// The block rows in which bit rows 16x to 16x+15 of the four subsets stand, reordered.
+fn subset_rows(pairs0: &[u8], pairs1: &[u8], x: usize) -> [[u16; 128]; 4]
+    requires { ⌜ (length (now pairs0) ≡ 10752) × (length (now pairs1) ≡ 10752) × (x < 21) ⌝ }
+    ensures { λ r. ⌜ r ≡ tabulate 4 (subsetRowAt (now (pairs0 .entry)) (now (pairs1 .entry)) x) ⌝ }
 {
     let none = [0u16; 128];
-    let mut rows = [none; 84];
-    for k in 0..84 {
-        let words = sent_words(pairs0, pairs1, BlockRow(k));
-        rows[k] = reordered_row(&words);
+    let mut rows = [none; 4];
+    for subset in 0..4 {
+        let words = sent_words(pairs0, pairs1, block_row_of(subset, SubsetBitRow(16 * x)));
+        rows[subset] = reordered_row(&words);
+    }
+    rows
+}
+
+// All block rows, reordered, those of the four subsets side by side.
+pub fn reordered_rows(pairs0: &[u8], pairs1: &[u8]) -> [[u16; 512]; 21]
+    requires { ⌜ (length (now pairs0) ≡ 10752) × (length (now pairs1) ≡ 10752) ⌝ }
+    ensures { λ r. ⌜ r ≡ tabulate 21 (joinedRow (now (pairs0 .entry)) (now (pairs1 .entry))) ⌝ }
+{
+    let none = [0u16; 512];
+    let mut rows = [none; 21];
+    for x in 0..21 {
+        let four = subset_rows(pairs0, pairs1, x);
+        rows[x] = side_by_side(&four);
     }
     rows
 }
 
 // Bit rows 16x to 16x+15 of each subset at a column: t = 2x of subsets 0 to 3, then t = 2x+1.
-fn write_eight(rows: &[[u16; 128]; 84], column: usize, x: usize, out: &mut [u8])
+fn write_eight(rows: &[[u16; 512]; 21], column: usize, x: usize, out: &mut [u8])
     requires { ⌜ (column < 128) × (x < 21) × (length (now out) ≡ 8) ⌝ }
     ensures { λ _. ⌜ now (out .exit) ≡ tabulate 8 (λ y. columnByte (now (rows .entry)) column (x * 8 + y)) ⌝ }
 {
     for y in 0..8 {
-        let k = block_row_of(y % 4, SubsetBitRow(16 * x));
-        let w = block_row_word(rows, k, 8 * (column % 16) + column / 16);
+        let w = subset_word(
+            rows,
+            y % 4,
+            SubsetBitRow(16 * x),
+            8 * (column % 16) + column / 16,
+        );
         out[y] = ((w >> (8 - 8 * (y / 4))) % 256) as u8;
     }
 }
 
 // The output bits of a column.
-fn write_column(rows: &[[u16; 128]; 84], column: usize, out: &mut [u8])
+fn write_column(rows: &[[u16; 512]; 21], column: usize, out: &mut [u8])
     requires { ⌜ (column < 128) × (length (now out) ≡ 168) ⌝ }
     ensures { λ _. ⌜ now (out .exit) ≡ tabulate 168 (columnByte (now (rows .entry)) column) ⌝ }
 {
@@ -101,7 +120,7 @@ fn write_column(rows: &[[u16; 128]; 84], column: usize, out: &mut [u8])
 }
 
 // The bits of a buffer of reordered block rows.
-pub fn write_bits(rows: &[[u16; 128]; 84], bits: &mut [u8])
+pub fn write_bits(rows: &[[u16; 512]; 21], bits: &mut [u8])
     requires { ⌜ length (now bits) ≡ 21504 ⌝ }
     ensures { λ _. ⌜ now (bits .exit) ≡ pack 21504 (outputBit (now (rows .entry))) ⌝ }
 {

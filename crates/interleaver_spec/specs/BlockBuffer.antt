@@ -1,5 +1,5 @@
 -- The 84 block rows of a buffer as the calls hold them between reading and writing: the eight blocks of a block row side by side, word
--- i of block C being number 8i+C.
+-- i of block C being number 8i+C; outward, where each column takes one word from four block rows, those four side by side too.
 -- Assumes nothing.
 use mathlib.Core.Bool.{cond}
 use mathlib.Core.List.{List, []}
@@ -72,11 +72,29 @@ reorderedBlock pairs0 pairs1 k C = transposed (reordered (sentBlock pairs0 pairs
 unfoldable pub reorderedRow : List ℕ → List ℕ → ℕ → List ℕ
 reorderedRow pairs0 pairs1 k = laid (reorderedBlock pairs0 pairs1 (record { 0 = k }))
 
+-- Four block rows side by side: word x of row s is number 4x+s.
+unfoldable pub joinedWord : List (List ℕ) → ℕ → ℕ
+joinedWord rows i = getD (getD rows (i % 4) []) (i / 4) 0
+
+unfoldable pub joined : List (List ℕ) → List ℕ
+joined rows = tabulate 512 (joinedWord rows)
+
+-- The reordered block row of a subset in which bit rows 16x to 16x+15 of it stand, and those of the four subsets side by side.
+unfoldable pub subsetRowAt : List ℕ → List ℕ → ℕ → ℕ → List ℕ
+subsetRowAt pairs0 pairs1 x subset = reorderedRow pairs0 pairs1 (blockRowOf subset (record { 0 = 16 * x }) .0)
+
+unfoldable pub joinedRow : List ℕ → List ℕ → ℕ → List ℕ
+joinedRow pairs0 pairs1 x = joined (tabulate 4 (subsetRowAt pairs0 pairs1 x))
+
+-- Word x of the block row of a subset in which its bit row q stands, where all block rows are held so.
+unfoldable pub subsetWord : List (List ℕ) → ℕ → SubsetBitRow → ℕ → ℕ
+subsetWord rows subset q x = getD (getD rows (q .0 / 16) []) (4 * x + subset) 0
+
 -- Output bit n by its four parts: bit row 8t+b of the subset, at a column.
 unfoldable pub partsBit : List (List ℕ) → ℕ → ℕ → ℕ → ℕ → ℕ
 partsBit rows column t subset b =
     let q : SubsetBitRow = record { 0 = 8 * t + b } in
-    bitOf 16 (blockRowWord rows (blockRowOf subset q) (8 * (column % 16) + column / 16)) (bitRowWithin q .0)
+    bitOf 16 (subsetWord rows subset q (8 * (column % 16) + column / 16)) (bitRowWithin q .0)
 
 unfoldable pub outputBit : List (List ℕ) → ℕ → ℕ
 outputBit rows n = partsBit rows (outColumn n) (tOf n) (subsetOf n) (bOf n)

@@ -13,21 +13,23 @@ use Rattle.bits.specs.Filling.{Filling, fill-none, fill-done, Blocks, blocks-ne
 use Rattle.bits.specs.ListLaws.{getD-tabulate, tabulate-ext}
 use Rattle.bits.specs.Lists.{tabulate}
 use Rattle.interleaver_spec.specs.declared.BlockRow.{BlockRow}
+use Rattle.interleaver_spec.specs.declared.SubsetBitRow.{SubsetBitRow}
 use Rattle.bits.specs.NumberLaws.{two-bytes, half-is}
-use Rattle.interleaver_spec.specs.Rows.{blockRow, encoderIn, rowIn, blockRowOf}
+use Rattle.interleaver_spec.specs.Rows.{firstOf, blockRow, encoderIn, rowIn, blockRowOf}
 use Rattle.interleaver_spec.specs.Block.{bitAt, rowWord, block, sourceRow, sourceColumn, reordered, restored}
 use Rattle.interleaver_spec.specs.BlockLaws.{bitAt-block-of, block-ext, bitAt-reordered, bitAt-restored, targetRow, targetColumn}
 use Rattle.interleaver_spec.specs.BlockLaws.{targetRow-lt, targetColumn-lt, sourceRow-lt, sourceColumn-lt}
 use Rattle.interleaver_spec.specs.Moves.{turned, moved, transposed}
 use Rattle.interleaver_spec.specs.MoveLaws.{transposed-bit}
-use Rattle.interleaver_spec.specs.Positions.{outColumn, tOf, bOf, outBlockRow, placeRow, placeColumn, encoderOf, rowOf, blockOf}
+use Rattle.interleaver_spec.specs.Positions.{outColumn, tOf, subsetOf, bOf, outBlockRow, placeRow, placeColumn, encoderOf, rowOf, blockOf}
 use Rattle.interleaver_spec.specs.Positions.{bitRowOf, columnOf}
 use Rattle.interleaver_spec.specs.PositionLaws.{part-column, part-t, part-subset, part-b, outputAt, output-upper, output-lower}
 use Rattle.interleaver_spec.specs.PositionLaws.{outputFor, outBlockRow-lt}
 use Rattle.interleaver_spec.specs.Interleaving.{pairsBit, pairsOf, sourceOf, interleavedBit, interleaved, outputOf, apart}
 use Rattle.interleaver_spec.specs.InterleavingLaws.{outputFrom, outputOf-is}
 use Rattle.interleaver_spec.specs.BlockBuffer.{laidWord, laid, blockRowWord, pairsPlace, pairsWord, pairsWords, sentWords, wordsBlock}
-use Rattle.interleaver_spec.specs.BlockBuffer.{reorderedIn, sentBlock, reorderedBlock, reorderedRow, partsBit, outputBit, columnByte}
+use Rattle.interleaver_spec.specs.BlockBuffer.{reorderedIn, sentBlock, reorderedBlock, reorderedRow, joinedWord, joined, subsetRowAt}
+use Rattle.interleaver_spec.specs.BlockBuffer.{joinedRow, subsetWord, partsBit, outputBit, columnByte}
 use Rattle.interleaver_spec.specs.BlockBuffer.{linePlace, lineBlock, lineColumn, lineColumns, restoredBlock, restoredRow, rowByte}
 use Rattle.interleaver_spec.specs.BlockBuffer.{heldBit}
 
@@ -39,15 +41,19 @@ word-block i C l = omega arith
 word-number : (i C : ℕ) → C < 8 → (8 * i + C) / 8 ≡ i
 word-number i C l = omega arith
 
+laid-bit : (g : ℕ → List ℕ) (C i j : ℕ) → C < 8 → i < 16 → bitOf 16 (getD (laid g) (8 * i + C) 0) j ≡ bitAt (g C) i j
+unfolding bitAt laid laidWord
+laid-bit g C i j lC li =
+    ap (λ w. bitOf 16 w j)
+    (getD-tabulate 128 (laidWord g) (8 * i + C) 0 (omega arith) ∙ ap₂ (λ x y. getD (g x) y 0) (word-block i C lC) (word-number i C lC))
+
 held-is : (f : ℕ → List ℕ) (g : BlockRow → ℕ → List ℕ) → ((x : ℕ) → f x ≡ laid (g (record { 0 = x }))) → (rows : List (List ℕ))
     → rows ≡ tabulate 84 f
     → (k : BlockRow) (C i j : ℕ) → k .0 < 84 → C < 8 → i < 16 → bitOf 16 (blockRowWord rows k (8 * i + C)) j ≡ bitAt (g k C) i j
-unfolding blockRowWord bitAt laid laidWord
+unfolding blockRowWord
 held-is f g by rows h k C i j lk lC li =
     ap (λ r. bitOf 16 (getD r (8 * i + C) 0) j) (ap (λ t. getD t (k .0) []) h ∙ getD-tabulate 84 f (k .0) [] lk ∙ by (k .0))
-    ∙ ap (λ w. bitOf 16 w j)
-    (getD-tabulate 128 (laidWord (g k)) (8 * i + C) 0 (omega arith)
-    ∙ ap₂ (λ x y. getD (g k x) y 0) (word-block i C lC) (word-number i C lC))
+    ∙ laid-bit (g k) C i j lC li
 
 -- ---- from pairs to bits, as code finds them
 
@@ -98,7 +104,7 @@ pub reordered-in : (words : List ℕ) (C : ℕ) (b r : List ℕ) → b ≡ words
 unfolding reorderedIn
 reordered-in words C b r p q = q ∙ ap (λ s. transposed (reordered s)) p
 
-pub reordered-words : (pairs0 pairs1 : List ℕ) (k : ℕ) (words row : List ℕ) → words ≡ sentWords pairs0 pairs1 (record { 0 = k })
+reordered-words : (pairs0 pairs1 : List ℕ) (k : ℕ) (words row : List ℕ) → words ≡ sentWords pairs0 pairs1 (record { 0 = k })
     → row ≡ laid (reorderedIn words) → row ≡ reorderedRow pairs0 pairs1 k
 unfolding reorderedRow laid laidWord reorderedIn reorderedBlock
 reordered-words pairs0 pairs1 k words row p q =
@@ -106,12 +112,32 @@ reordered-words pairs0 pairs1 k words row p q =
     ∙ tabulate-ext 128 (laidWord (reorderedIn (sentWords pairs0 pairs1 (record { 0 = k })))) (laidWord (reorderedBlock pairs0 pairs1 (record { 0 = k })))
     (λ x l. ap (λ b. getD (transposed (reordered b)) (x / 8) 0) (block-words pairs0 pairs1 (record { 0 = k }) (x % 8) (omega arith)))
 
+-- That of a subset, and the four of them side by side.
+pub subset-row : (pairs0 pairs1 : List ℕ) (x subset : ℕ) (k : BlockRow) (words row : List ℕ) → k ≡ blockRowOf subset (record { 0 = 16 * x })
+    → words ≡ sentWords pairs0 pairs1 k
+    → row ≡ laid (reorderedIn words) → row ≡ subsetRowAt pairs0 pairs1 x subset
+unfolding subsetRowAt
+subset-row pairs0 pairs1 x subset k words row p q r =
+    reordered-words pairs0 pairs1 (k .0) words row q r ∙ ap (λ (j : BlockRow). reorderedRow pairs0 pairs1 (j .0)) p
+
+pub four-word : (rows : List (List ℕ)) (x subset : ℕ) → subset < 4 → getD (getD rows subset []) x 0 ≡ joinedWord rows (x * 4 + subset)
+unfolding joinedWord
+four-word rows x subset l =
+    let number : (x * 4 + subset) % 4 ≡ subset = omega arith in
+    let word : (x * 4 + subset) / 4 ≡ x = omega arith in
+    rw (number, word)
+
+pub joined-row : (pairs0 pairs1 : List ℕ) (x : ℕ) (four : List (List ℕ)) (row : List ℕ) → four ≡ tabulate 4 (subsetRowAt pairs0 pairs1 x)
+    → row ≡ joined four → row ≡ joinedRow pairs0 pairs1 x
+unfolding joinedRow
+joined-row pairs0 pairs1 x four row p q = q ∙ ap joined p
+
 -- Byte y of the eight of a column in which block row x of each subset stands: half y div 4 of a word of subset y mod 4.
-pub eight-byte : (rows : List (List ℕ)) (column x y : ℕ) (k : BlockRow) (w : ℕ) → k ≡ blockRowOf (y % 4) (record { 0 = 16 * x })
-    → w ≡ blockRowWord rows k (8 * (column % 16) + column / 16) → w < 2 ^ 16 → x < 21 → y < 8
+pub eight-byte : (rows : List (List ℕ)) (column x y w : ℕ)
+    → w ≡ subsetWord rows (y % 4) (record { 0 = 16 * x }) (8 * (column % 16) + column / 16) → w < 2 ^ 16 → x < 21 → y < 8
     → w / 2 ^ (8 - 8 * (y / 4)) % 256 ≡ columnByte rows column (x * 8 + y)
-unfolding columnByte byteOf outputBit partsBit
-eight-byte rows column x y k w p q lw lx ly =
+unfolding columnByte byteOf outputBit partsBit subsetWord
+eight-byte rows column x y w q lw lx ly =
     half-is w (y / 4) lw (omega arith)
     ∙ fromBits-ext 8 (λ c. bitOf 16 w (8 * (y / 4) + c)) (λ c. outputBit rows ((column * 168 + (x * 8 + y)) * 8 + c))
     (λ c l. ap (λ b. b % 2) (here c l))
@@ -129,13 +155,33 @@ eight-byte rows column x y k w p q lw lx ly =
           part-subset _ column (2 * x + y / 4) (y % 4) c t s l n,
           part-b _ column (2 * x + y / 4) (y % 4) c t s l n,
           q,
-          p,
           row,
           bit-row,
         )
 
 -- Of reordered block rows the output bits are the buffer's.
-module _ (pairs0 pairs1 : List ℕ) (rows : List (List ℕ)) (h : rows ≡ tabulate 84 (reorderedRow pairs0 pairs1)) where
+module _ (pairs0 pairs1 : List ℕ) (rows : List (List ℕ)) (h : rows ≡ tabulate 21 (joinedRow pairs0 pairs1)) where
+  subset-word : (subset : ℕ) (q : SubsetBitRow) (x : ℕ) → subset < 4 → q .0 < 336 → x < 128
+      → subsetWord rows subset q x ≡ getD (reorderedRow pairs0 pairs1 (blockRowOf subset q .0)) x 0
+  unfolding subsetWord joinedRow joined joinedWord subsetRowAt
+  subset-word subset q x ls lq lx =
+      ap (λ t. getD (getD t (q .0 / 16) []) (4 * x + subset) 0) h
+      ∙ ap (λ r. getD r (4 * x + subset) 0) (getD-tabulate 21 (joinedRow pairs0 pairs1) (q .0 / 16) [] (omega arith))
+      ∙ getD-tabulate 512 (joinedWord (tabulate 4 (subsetRowAt pairs0 pairs1 (q .0 / 16)))) (4 * x + subset) 0 (omega arith)
+      ∙ ap₂ (λ u v. getD (getD (tabulate 4 (subsetRowAt pairs0 pairs1 (q .0 / 16))) u []) v 0) number word
+      ∙ ap (λ r. getD r x 0)
+      (getD-tabulate 4 (subsetRowAt pairs0 pairs1 (q .0 / 16)) subset [] ls
+      ∙ ap (λ n. reorderedRow pairs0 pairs1 (firstOf subset + 2 * n)) (again (q .0 / 16)))
+    where
+      number : (4 * x + subset) % 4 ≡ subset
+      number = omega arith
+
+      word : (4 * x + subset) / 4 ≡ x
+      word = omega arith
+
+      again : (n : ℕ) → 16 * n / 16 ≡ n
+      again n = omega arith
+
   reordered-place : (k : BlockRow) (C i j : ℕ) → i < 16 → j < 16
       → bitAt (reorderedBlock pairs0 pairs1 k C) j i
       ≡ bit (pairsOf pairs0 pairs1 (k .0 % 2)) (pairsBit (k .0 / 2) C (sourceRow i j) (sourceColumn i j))
@@ -150,14 +196,15 @@ module _ (pairs0 pairs1 : List ℕ) (rows : List (List ℕ)) (h : rows ≡ tabul
   output-bit : (n : ℕ) → n < 172032 → outputBit rows n ≡ interleavedBit pairs0 pairs1 n
   unfolding outputBit partsBit reorderedRow interleavedBit sourceOf encoderOf rowOf blockOf bitRowOf columnOf
   output-bit n ln =
-      held-is (reorderedRow pairs0 pairs1) (reorderedBlock pairs0 pairs1) (λ x. refl) rows h
-      (outBlockRow n) (outColumn n / 16) (placeColumn n) (placeRow n .0) (outBlockRow-lt n ln) (omega arith) (last (outColumn n))
+      ap (λ w. bitOf 16 w (placeRow n .0))
+      (subset-word (subsetOf n) (record { 0 = 8 * tOf n + bOf n }) (8 * placeColumn n + outColumn n / 16) (omega arith) (omega arith) (omega arith))
+      ∙ laid-bit (reorderedBlock pairs0 pairs1 (outBlockRow n)) (outColumn n / 16) (placeColumn n) (placeRow n .0) (omega arith) (last (outColumn n))
       ∙ reordered-place (outBlockRow n) (outColumn n / 16) (placeRow n .0) (placeColumn n) (last (8 * tOf n + bOf n)) (last (outColumn n))
     where
       last : (x : ℕ) → x % 16 < 16
       last x = omega arith
 
-pub interleaved-rows : (pairs0 pairs1 : List ℕ) (rows : List (List ℕ)) (bits : List ℕ) → rows ≡ tabulate 84 (reorderedRow pairs0 pairs1)
+pub interleaved-rows : (pairs0 pairs1 : List ℕ) (rows : List (List ℕ)) (bits : List ℕ) → rows ≡ tabulate 21 (joinedRow pairs0 pairs1)
     → bits ≡ pack 21504 (outputBit rows) → bits ≡ interleaved pairs0 pairs1
 unfolding interleaved
 interleaved-rows pairs0 pairs1 rows bits h e =

@@ -23,11 +23,10 @@ write-eight-spec =
     Inv-loop
     μ-loop
     (λ c. search kit)  -- loop-holds
-    (λ c. search kit)  -- mul-block-row-word
-    (λ c κs. search kit)  -- block-row-of-requires
-    (λ c. search kit)  -- mul-block-row-word-2
-    (λ c. search kit)  -- add-block-row-word
-    (λ c κs. search kit)  -- block-row-word-requires
+    (λ c. search kit)  -- mul-subset-word
+    (λ c. search kit)  -- mul-subset-word-2
+    (λ c. search kit)  -- add-subset-word
+    (λ c κs. search kit)  -- subset-word-requires
     (λ c. search kit)  -- mul-out
     (λ c. search kit)  -- sub-out
     (λ c. search kit)  -- cast-out

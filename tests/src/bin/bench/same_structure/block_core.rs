@@ -88,30 +88,51 @@ fn reordered_row(words: &BlockRow) -> BlockRow {
     row
 }
 
-pub fn reordered_rows(pairs0: &[u8; 10752], pairs1: &[u8; 10752]) -> [BlockRow; 84] {
-    let mut rows = [[0; 128]; 84];
-    for k in 0..84 {
-        let words = sent_words(pairs0, pairs1, k);
-        rows[k] = reordered_row(&words);
+fn subset_rows(pairs0: &[u8; 10752], pairs1: &[u8; 10752], x: usize) -> [BlockRow; 4] {
+    let mut rows = [[0; 128]; 4];
+    for subset in 0..4 {
+        let words = sent_words(pairs0, pairs1, subset / 2 * 42 + subset % 2 + 2 * x);
+        rows[subset] = reordered_row(&words);
     }
     rows
 }
 
-fn write_eight(rows: &[BlockRow; 84], column: usize, x: usize, out: &mut [u8]) {
+/// Four block rows side by side: word x of row s is number 4x+s.
+pub type FourRows = [u16; 512];
+
+fn side_by_side(rows: &[BlockRow; 4]) -> FourRows {
+    let mut words = [0; 512];
+    for x in 0..128 {
+        for subset in 0..4 {
+            words[4 * x + subset] = rows[subset][x];
+        }
+    }
+    words
+}
+
+pub fn reordered_rows(pairs0: &[u8; 10752], pairs1: &[u8; 10752]) -> [FourRows; 21] {
+    let mut rows = [[0; 512]; 21];
+    for x in 0..21 {
+        let four = subset_rows(pairs0, pairs1, x);
+        rows[x] = side_by_side(&four);
+    }
+    rows
+}
+
+fn write_eight(rows: &[FourRows; 21], column: usize, x: usize, out: &mut [u8]) {
     for y in 0..8 {
-        let block_row = y % 4 / 2 * 42 + y % 4 % 2 + 2 * (16 * x / 16);
-        let w = rows[block_row][8 * (column % 16) + column / 16];
+        let w = rows[x][4 * (8 * (column % 16) + column / 16) + y % 4];
         out[y] = ((w >> (8 - 8 * (y / 4))) % 256) as u8;
     }
 }
 
-fn write_column(rows: &[BlockRow; 84], column: usize, out: &mut [u8]) {
+fn write_column(rows: &[FourRows; 21], column: usize, out: &mut [u8]) {
     for x in 0..21 {
         write_eight(rows, column, x, &mut out[x * 8..x * 8 + 8]);
     }
 }
 
-pub fn write_bits(rows: &[BlockRow; 84], bits: &mut [u8; 21504]) {
+pub fn write_bits(rows: &[FourRows; 21], bits: &mut [u8; 21504]) {
     for column in 0..128 {
         write_column(rows, column, &mut bits[column * 168..column * 168 + 168]);
     }
