@@ -1,4 +1,4 @@
-// The text of file names: the folder, the name that a symbolic link leads to, and one beside a name.
+// The text of file names: the folder, the name that a symbolic link leads to, and one beside a name. Below `files`.
 ghost use Prim.Native.Nat.{_+_, _≤_};
 ghost use lib.ListN.{length};
 ghost use Rattle.io.specs.Counts.{Counts};

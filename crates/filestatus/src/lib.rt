@@ -1,4 +1,4 @@
-// What the system says of an open file: its device and number, its kind and its mode.
+// What the system says of an open file: its device and number, its kind and its mode. Below `files`.
 use libc::types::stat;
 use libc::types::timespec;
 

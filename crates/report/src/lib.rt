@@ -1,4 +1,5 @@
-// What the programs print of a line file: its header's numbers on one line, or the refusal. Over `line_file_spec`, below the programs.
+// What the programs print of a line file: its header's numbers on one line, or the refusal. Over `header_core`, by the
+// definitions of `line_file_spec`; below the programs.
 use calls::Answer;
 use header_core::rules::number;
 use libc::STDERR_FILENO;
