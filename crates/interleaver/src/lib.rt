@@ -7,7 +7,6 @@ use calls::Answer;
 use calls::Refusal;
 use interleaver_core::joining::reordered_rows;
 use interleaver_core::joining::write_bits;
-use interleaver_core::taking_apart::restored_rows;
 use interleaver_core::taking_apart::write_pairs;
 
 // Interleaves 21 pairs of each encoder, 10,752 bytes each, to 21,504 bytes.
@@ -41,8 +40,7 @@ pub fn deinterleave(bits: &[u8], pairs0: &mut [u8], pairs1: &mut [u8]) -> Answer
     if pairs1.len() != 10752 {
         return Answer::Refused(Refusal::Misfit);
     }
-    let rows = restored_rows(bits);
-    write_pairs(&rows, 0, pairs0);
-    write_pairs(&rows, 1, pairs1);
+    write_pairs(bits, 0, pairs0);
+    write_pairs(bits, 1, pairs1);
     Answer::Done(0)
 }

@@ -4,18 +4,8 @@ ghost use mathlib.Core.Path.{_≡_};
 ghost use Prim.Native.Nat.{_+_, _*_, _<_};
 ghost use lib.ListN.{length};
 ghost use Rattle.bits.specs.Lists.{tabulate};
-ghost use Rattle.interleaver_spec.specs.BlockBuffer.{blockRowWord, laidIn, joinedWord, joined, subsetWord};
-use interleaver_spec::BlockRow;
+ghost use Rattle.interleaver_spec.specs.BlockBuffer.{laidIn, joinedWord, joined, subsetWord};
 use interleaver_spec::SubsetBitRow;
-
-// A word of a block row.
-pub fn block_row_word(rows: &[[u16; 128]; 84], k: BlockRow, x: usize) -> u16
-    requires { ⌜ (k .0 < 84) × (x < 128) ⌝ }
-    ensures { λ w. ⌜ w ≡ blockRowWord (now (rows .entry)) k x ⌝ }
-{
-    let k = k.0;
-    rows[k][x]
-}
 
 // Puts the words of block C into a block row.
 pub fn lay(row: &mut [u16], block: usize, b: [u16; 16])

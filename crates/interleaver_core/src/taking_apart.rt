@@ -1,11 +1,10 @@
 // From the bits of a buffer to the pairs of two encoders, block row by block row.
 ghost use mathlib.Core.Path.{_≡_};
 ghost use Prim.Native.Nat.{_+_, _*_, _<_};
-ghost use lib.ListN.{length};
-ghost use Rattle.bits.specs.Bits.{pack};
+ghost use lib.ListN.{length, getD};
 ghost use Rattle.bits.specs.Lists.{tabulate};
-ghost use Rattle.interleaver_spec.specs.BlockBuffer.{lineColumns, restoredRow, heldBit, rowByte};
-use crate::buffer::block_row_word;
+ghost use Rattle.interleaver_spec.specs.BlockBuffer.{lineColumns, restoredRow, rowByte};
+ghost use Rattle.interleaver_spec.specs.Interleaving.{apart};
 use crate::buffer::lay;
 use crate::rows::output_byte;
 use block_core::block::restore;
@@ -36,26 +35,21 @@ fn restored_row(bits: &[u8], k: BlockRow) -> [u16; 128]
     row
 }
 
-// All block rows, restored.
-pub fn restored_rows(bits: &[u8]) -> [[u16; 128]; 84]
-    requires { ⌜ length (now bits) ≡ 21504 ⌝ }
-    ensures { λ r. ⌜ r ≡ tabulate 84 (restoredRow (now (bits .entry))) ⌝ }
+// A word of a block row.
+fn row_word(row: &[u16; 128], x: usize) -> u16
+    requires { ⌜ x < 128 ⌝ }
+    ensures { λ w. ⌜ w ≡ getD (now (row .entry)) x 0 ⌝ }
 {
-    let none = [0u16; 128];
-    let mut rows = [none; 84];
-    for k in 0..84 {
-        rows[k] = restored_row(bits, BlockRow(k));
-    }
-    rows
+    row[x]
 }
 
 // The bytes of a block row, two a word: as its encoder's pairs hold them.
-fn write_row(rows: &[[u16; 128]; 84], k: BlockRow, out: &mut [u8])
-    requires { ⌜ (k .0 < 84) × (length (now out) ≡ 256) ⌝ }
-    ensures { λ _. ⌜ now (out .exit) ≡ tabulate 256 (rowByte (now (rows .entry)) k) ⌝ }
+fn write_row(row: &[u16; 128], out: &mut [u8])
+    requires { ⌜ length (now out) ≡ 256 ⌝ }
+    ensures { λ _. ⌜ now (out .exit) ≡ tabulate 256 (rowByte (now (row .entry))) ⌝ }
 {
     for x in 0..128 {
-        let w = block_row_word(rows, k, x);
+        let w = row_word(row, x);
         let a = 2 * x;
         let e = a + 1;
         out[a] = (w / 256 % 256) as u8;
@@ -63,14 +57,15 @@ fn write_row(rows: &[[u16; 128]; 84], k: BlockRow, out: &mut [u8])
     }
 }
 
-// An encoder's pairs of a buffer of restored block rows.
-pub fn write_pairs(rows: &[[u16; 128]; 84], encoder: usize, pairs: &mut [u8])
-    requires { ⌜ (encoder < 2) × (length (now pairs) ≡ 10752) ⌝ }
-    ensures { λ _. ⌜ now (pairs .exit) ≡ pack 10752 (heldBit (now (rows .entry)) encoder) ⌝ }
+// An encoder's pairs of a buffer of bits.
+pub fn write_pairs(bits: &[u8], encoder: usize, pairs: &mut [u8])
+    requires { ⌜ (length (now bits) ≡ 21504) × (encoder < 2) × (length (now pairs) ≡ 10752) ⌝ }
+    ensures { λ _. ⌜ now (pairs .exit) ≡ apart (now (bits .entry)) encoder ⌝ }
 {
     for r in 0..42 {
         let a = r * 256;
         let e = a + 256;
-        write_row(rows, BlockRow(2 * r + encoder), &mut pairs[a..e]);
+        let row = restored_row(bits, BlockRow(2 * r + encoder));
+        write_row(&row, &mut pairs[a..e]);
     }
 }

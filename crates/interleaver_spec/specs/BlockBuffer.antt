@@ -31,10 +31,6 @@ laidAt row C b x = cond (eqb (x % 8) C) (getD b (x / 8) 0) (getD row x 0)
 unfoldable pub laidIn : List ℕ → ℕ → List ℕ → List ℕ
 laidIn row C b = tabulate 128 (laidAt row C b)
 
--- Word x of block row k.
-unfoldable pub blockRowWord : List (List ℕ) → BlockRow → ℕ → ℕ
-blockRowWord rows k x = getD (getD rows (k .0) []) x 0
-
 -- ---- from pairs to bits
 
 -- The bit at (r, c) of block C of block row k in its encoder's pairs, and that block.
@@ -126,10 +122,6 @@ restoredBlock bits k C = restored (lineBlock bits k C)
 unfoldable pub restoredRow : List ℕ → ℕ → List ℕ
 restoredRow bits k = laid (restoredBlock bits (record { 0 = k }))
 
--- Byte y of block row k, two bytes a word.
-unfoldable pub rowByte : List (List ℕ) → BlockRow → ℕ → ℕ
-rowByte rows k y = fromBits 8 (λ c. bitOf 16 (blockRowWord rows k (y / 2)) (8 * (y % 2) + c))
-
--- Bit m of encoder e's pairs.
-unfoldable pub heldBit : List (List ℕ) → ℕ → ℕ → ℕ
-heldBit rows e m = bitOf 16 (blockRowWord rows (blockRow e (m / 2048)) (8 * (m % 2048 / 128) + m % 128 / 16)) (m % 16)
+-- Byte y of a block row, two bytes a word.
+unfoldable pub rowByte : List ℕ → ℕ → ℕ
+rowByte row y = fromBits 8 (λ c. bitOf 16 (getD row (y / 2) 0) (8 * (y % 2) + c))

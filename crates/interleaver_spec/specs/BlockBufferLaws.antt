@@ -9,7 +9,7 @@ use borrow.Rule.Slice.PartMut.{putMid}
 use lib.ListN.{length, getD, set, length-set}
 use Rattle.bits.specs.Bits.{bitOf, bit, fromBits, byteOf, pack}
 use Rattle.bits.specs.BitLaws.{bit-lt, bitOf-fromBits, fromBits-ext, pack-ext}
-use Rattle.bits.specs.Filling.{Filling, fill-none, fill-done, Blocks, blocks-next, fill-two}
+use Rattle.bits.specs.Filling.{Filling, fill-none, fill-done, Blocks, blocks-none, blocks-next, blocks-done, fill-two}
 use Rattle.bits.specs.ListLaws.{getD-tabulate, tabulate-ext}
 use Rattle.bits.specs.Lists.{tabulate}
 use Rattle.interleaver_spec.specs.declared.BlockRow.{BlockRow}
@@ -27,11 +27,10 @@ use Rattle.interleaver_spec.specs.PositionLaws.{part-column, part-t, par
 use Rattle.interleaver_spec.specs.PositionLaws.{outputFor, outBlockRow-lt}
 use Rattle.interleaver_spec.specs.Interleaving.{pairsBit, pairsOf, sourceOf, interleavedBit, interleaved, outputOf, apart}
 use Rattle.interleaver_spec.specs.InterleavingLaws.{outputFrom, outputOf-is}
-use Rattle.interleaver_spec.specs.BlockBuffer.{laidWord, laid, blockRowWord, pairsPlace, pairsWord, pairsWords, sentWords, wordsBlock}
+use Rattle.interleaver_spec.specs.BlockBuffer.{laidWord, laid, pairsPlace, pairsWord, pairsWords, sentWords, wordsBlock}
 use Rattle.interleaver_spec.specs.BlockBuffer.{reorderedIn, sentBlock, reorderedBlock, reorderedRow, joinedWord, joined, subsetRowAt}
 use Rattle.interleaver_spec.specs.BlockBuffer.{joinedRow, subsetWord, partsBit, outputBit, columnByte}
 use Rattle.interleaver_spec.specs.BlockBuffer.{linePlace, lineBlock, lineColumn, lineColumns, restoredBlock, restoredRow, rowByte}
-use Rattle.interleaver_spec.specs.BlockBuffer.{heldBit}
 
 -- ---- a word of the buffer by its block row, block and number
 
@@ -46,14 +45,6 @@ unfolding bitAt laid laidWord
 laid-bit g C i j lC li =
     ap (λ w. bitOf 16 w j)
     (getD-tabulate 128 (laidWord g) (8 * i + C) 0 (omega arith) ∙ ap₂ (λ x y. getD (g x) y 0) (word-block i C lC) (word-number i C lC))
-
-held-is : (f : ℕ → List ℕ) (g : BlockRow → ℕ → List ℕ) → ((x : ℕ) → f x ≡ laid (g (record { 0 = x }))) → (rows : List (List ℕ))
-    → rows ≡ tabulate 84 f
-    → (k : BlockRow) (C i j : ℕ) → k .0 < 84 → C < 8 → i < 16 → bitOf 16 (blockRowWord rows k (8 * i + C)) j ≡ bitAt (g k C) i j
-unfolding blockRowWord
-held-is f g by rows h k C i j lk lC li =
-    ap (λ r. bitOf 16 (getD r (8 * i + C) 0) j) (ap (λ t. getD t (k .0) []) h ∙ getD-tabulate 84 f (k .0) [] lk ∙ by (k .0))
-    ∙ laid-bit (g k) C i j lC li
 
 -- ---- from pairs to bits, as code finds them
 
@@ -234,21 +225,18 @@ restored-block bits k C b r p q =
     (λ i j li lj. bitAt-block-of (lineColumn bits k C) (λ u v. line-lt bits k C v u) j i lj li))
 
 -- A word's bytes.
-row-half : (rows : List (List ℕ)) (k : BlockRow) (x h w : ℕ) → w ≡ blockRowWord rows k x → w < 2 ^ 16 → h < 2
-    → w / 2 ^ (8 - 8 * h) % 256 ≡ rowByte rows k (2 * x + h)
+row-half : (row : List ℕ) (x h w : ℕ) → w ≡ getD row x 0 → w < 2 ^ 16 → h < 2 → w / 2 ^ (8 - 8 * h) % 256 ≡ rowByte row (2 * x + h)
 unfolding rowByte
-row-half rows k x h w e l lh =
+row-half row x h w e l lh =
     let word : (2 * x + h) / 2 ≡ x = omega arith in
     let half : (2 * x + h) % 2 ≡ h = omega arith in
     rw (word, half) (half-is w h l lh ∙ ap (λ v. fromBits 8 (λ c. bitOf 16 v (8 * h + c))) e)
 
-pub row-upper : (rows : List (List ℕ)) (k : BlockRow) (x w : ℕ) → w ≡ blockRowWord rows k x → w < 2 ^ 16
-    → w / 256 % 256 ≡ rowByte rows k (2 * x)
-row-upper rows k x w e l = let n : 2 * x + 0 ≡ 2 * x = omega arith in row-half rows k x 0 w e l (omega arith) ∙ ap (rowByte rows k) n
+pub row-upper : (row : List ℕ) (x w : ℕ) → w ≡ getD row x 0 → w < 2 ^ 16 → w / 256 % 256 ≡ rowByte row (2 * x)
+row-upper row x w e l = let n : 2 * x + 0 ≡ 2 * x = omega arith in row-half row x 0 w e l (omega arith) ∙ ap (rowByte row) n
 
-pub row-lower : (rows : List (List ℕ)) (k : BlockRow) (x w : ℕ) → w ≡ blockRowWord rows k x → w < 2 ^ 16
-    → w % 256 ≡ rowByte rows k (2 * x + 1)
-row-lower rows k x w e l = omega (arith, row-half rows k x 1 w e l (omega arith))
+pub row-lower : (row : List ℕ) (x w : ℕ) → w ≡ getD row x 0 → w < 2 ^ 16 → w % 256 ≡ rowByte row (2 * x + 1)
+row-lower row x w e l = omega (arith, row-half row x 1 w e l (omega arith))
 
 -- The invariant of the loop that writes them: none / more / done.
 pub record Twos (f : ℕ → ℕ) (x : ℕ) (d : List ℕ) : Type 0 where
@@ -269,33 +257,13 @@ twos-done h l = fill-done (h .filled) (omega arith)
 
 pub ruleset twos = (twos-none, twos-room, twos-more, twos-done, row-upper, row-lower)
 
--- The bytes of block row 2r+e are those of row r of encoder e's pairs.
-pairs-part : (rows : List (List ℕ)) (e r : ℕ) (ys : List ℕ) → ys ≡ tabulate 256 (rowByte rows (blockRow e r))
-    → ys ≡ tabulate 256 (λ y. byteOf (heldBit rows e) (r * 256 + y))
-unfolding byteOf rowByte heldBit
-pairs-part rows e r ys q =
-    q ∙ tabulate-ext 256 (rowByte rows (blockRow e r)) (λ y. byteOf (heldBit rows e) (r * 256 + y))
-    (λ y l. fromBits-ext 8 (λ c. bitOf 16 (blockRowWord rows (blockRow e r) (y / 2)) (8 * (y % 2) + c))
-    (λ c. heldBit rows e ((r * 256 + y) * 8 + c))
-    (λ c lc.
-    let number : ((r * 256 + y) * 8 + c) / 2048 ≡ r = omega arith in
-    let word : 8 * (((r * 256 + y) * 8 + c) % 2048 / 128) + ((r * 256 + y) * 8 + c) % 128 / 16 ≡ y / 2 = omega arith in
-    let column : ((r * 256 + y) * 8 + c) % 16 ≡ 8 * (y % 2) + c = omega arith in
-    rw (number, word, column)))
-
-pub pairs-next : {r : ℕ} {d : List ℕ} (rows : List (List ℕ)) (e a z : ℕ) (ys : List ℕ) → Blocks (byteOf (heldBit rows e)) 256 42 r d
-    → r < 42
-    → ys ≡ tabulate 256 (rowByte rows (blockRow e r)) → a ≡ r * 256 → z ≡ a + 256
-    → Blocks (byteOf (heldBit rows e)) 256 42 (r + 1) (putMid a (z - a) d ys)
-pairs-next {r} rows e a z ys h l q s t = blocks-next a z ys h l s t (pairs-part rows e r ys q)
-
--- Of restored block rows the bits are the pairs'.
+-- Of a restored block row, each bit is that of the encoder's pairs which stands there.
 from-at : (e m : ℕ)
     → outputAt (blockRow e (m / 2048)) (record { 0 = targetRow (m % 2048 / 128) (m % 16) }) (16 * (m % 128 / 16) + targetColumn (m % 2048 / 128) (m % 16)) ≡ outputFrom e m
 unfolding outputFrom outputFor
 from-at e m = refl
 
-module _ (bits : List ℕ) (rows : List (List ℕ)) (h : rows ≡ tabulate 84 (restoredRow bits)) where
+module _ (bits : List ℕ) where
   restored-place : (k : BlockRow) (C r c : ℕ) → r < 16 → c < 16
       → bitAt (restoredBlock bits k C) r c ≡ bit bits (outputAt k (record { 0 = targetRow r c }) (16 * C + targetColumn r c))
   unfolding restoredBlock linePlace
@@ -304,16 +272,46 @@ module _ (bits : List ℕ) (rows : List (List ℕ)) (h : rows ≡ tabulate 84 (r
       ∙ bitAt-block-of (linePlace bits k C) (λ i j. bit-lt bits (outputAt k (record { 0 = i }) (16 * C + j)))
       (targetRow r c) (targetColumn r c) (targetRow-lt r c) (targetColumn-lt r c)
 
-  held-bit : (e m : ℕ) → e < 2 → m < 86016 → heldBit rows e m ≡ bit bits (outputOf e m)
-  unfolding heldBit restoredRow
-  held-bit e m le lm =
-      held-is (restoredRow bits) (restoredBlock bits) (λ x. refl) rows h
-      (blockRow e (m / 2048)) (m % 128 / 16) (m % 2048 / 128) (m % 16) (omega arith) (omega arith) (omega arith)
+  restored-bit : (e m : ℕ) → e < 2 → m < 86016
+      → bitOf 16 (getD (restoredRow bits (2 * (m / 2048) + e)) (8 * (m % 2048 / 128) + m % 128 / 16) 0) (m % 16) ≡ bit bits (outputOf e m)
+  unfolding restoredRow
+  restored-bit e m le lm =
+      laid-bit (restoredBlock bits (blockRow e (m / 2048))) (m % 128 / 16) (m % 2048 / 128) (m % 16) (omega arith) (omega arith)
       ∙ restored-place (blockRow e (m / 2048)) (m % 128 / 16) (m % 2048 / 128) (m % 16) (omega arith) (omega arith)
       ∙ ap (bit bits) (from-at e m ∙ sym (outputOf-is e m le lm))
 
-pub apart-rows : (bits : List ℕ) (rows : List (List ℕ)) (e : ℕ) (pairs : List ℕ) → e < 2 → rows ≡ tabulate 84 (restoredRow bits)
-    → pairs ≡ pack 10752 (heldBit rows e) → pairs ≡ apart bits e
-unfolding apart
-apart-rows bits rows e pairs le h q =
-    q ∙ pack-ext 10752 (heldBit rows e) (λ m. bit bits (outputOf e m)) (λ m l. held-bit bits rows h e m le (omega arith))
+  -- The bytes of block row 2r+e are those of row r of encoder e's pairs.
+  row-bytes : (e r : ℕ) (row ys : List ℕ) → e < 2 → r < 42 → row ≡ restoredRow bits (2 * r + e) → ys ≡ tabulate 256 (rowByte row)
+      → ys ≡ tabulate 256 (λ y. byteOf (λ m. bit bits (outputOf e m)) (r * 256 + y))
+  unfolding byteOf rowByte
+  row-bytes e r row ys le lr p q =
+      q ∙ tabulate-ext 256 (rowByte row) (λ y. byteOf (λ m. bit bits (outputOf e m)) (r * 256 + y))
+      (λ y l. fromBits-ext 8 (λ c. bitOf 16 (getD row (y / 2) 0) (8 * (y % 2) + c)) (λ c. bit bits (outputOf e ((r * 256 + y) * 8 + c)))
+      (λ c lc. ap (λ b. b % 2) (ap (λ t. bitOf 16 (getD t (y / 2) 0) (8 * (y % 2) + c)) p ∙ here y c l lc)))
+    where
+      here : (y c : ℕ) → y < 256 → c < 8
+          → bitOf 16 (getD (restoredRow bits (2 * r + e)) (y / 2) 0) (8 * (y % 2) + c) ≡ bit bits (outputOf e ((r * 256 + y) * 8 + c))
+      here y c l lc =
+          let number : ((r * 256 + y) * 8 + c) / 2048 ≡ r = omega arith in
+          let word : 8 * (((r * 256 + y) * 8 + c) % 2048 / 128) + ((r * 256 + y) * 8 + c) % 128 / 16 ≡ y / 2 = omega arith in
+          let column : ((r * 256 + y) * 8 + c) % 16 ≡ 8 * (y % 2) + c = omega arith in
+          rw (number, word, column) at (restored-bit e ((r * 256 + y) * 8 + c) le (omega arith))
+
+-- The invariant of the loop over the rows of encoder e: none / more / done.
+pub record PairRows (bits : List ℕ) (e r : ℕ) (pairs : List ℕ) : Type 0 where
+  pub rows : Blocks (byteOf (λ m. bit bits (outputOf e m))) 256 42 r pairs
+
+pub rows-none : (bits : List ℕ) (e : ℕ) (d : List ℕ) → length d ≡ 10752 → PairRows bits e 0 d
+rows-none bits e d l = record { rows = blocks-none (byteOf (λ m. bit bits (outputOf e m))) 256 42 d l }
+
+pub rows-more : {bits : List ℕ} {e r : ℕ} {d : List ℕ} (a z : ℕ) (row ys : List ℕ) → PairRows bits e r d → e < 2 → r < 42
+    → row ≡ restoredRow bits (2 * r + e) → ys ≡ tabulate 256 (rowByte row)
+    → a ≡ r * 256 → z ≡ a + 256
+    → PairRows bits e (r + 1) (putMid a (z - a) d ys)
+rows-more {bits} {e} {r} a z row ys h le lr p q s t = record { rows = blocks-next a z ys (h .rows) lr s t (row-bytes bits e r row ys le lr p q) }
+
+pub rows-done : {bits : List ℕ} {e r : ℕ} {d : List ℕ} → PairRows bits e r d → 42 ≤ r → d ≡ apart bits e
+unfolding apart pack
+rows-done h l = blocks-done 10752 (h .rows) l refl
+
+pub ruleset by-rows = (rows-none, rows-more, rows-done)

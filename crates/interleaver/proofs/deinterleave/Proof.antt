@@ -1,13 +1,12 @@
 -- `interleaver::deinterleave` meets its contract: the tests in their order, and what it does.
 -- Assumes nothing.
-use Rattle.interleaver_spec.specs.BlockBufferLaws.{apart-rows}
 use Rattle.calls.specs.CallLaws.{cases}
 use Rattle.interleaver_spec.specs.CallLaws.{part-done}
 use borrow.Author.Needs.{needs}
 use Rattle.interleaver.proofs.deinterleave.Statement.{statement}
 use Rattle.interleaver.proofs.deinterleave.Tie as tie
 
-ruleset kit = (needs, cases, part-done, apart-rows)
+ruleset kit = (needs, cases, part-done)
 
 pub deinterleave-spec : {M : Type 1} → statement M
 deinterleave-spec =
@@ -16,7 +15,6 @@ deinterleave-spec =
     (λ c. search kit)  -- returns
     (λ c. search kit)  -- returns-2
     (λ c. search kit)  -- returns-3
-    (λ c κs. search kit)  -- restored-rows-requires
     (λ c κs. search kit)  -- write-pairs-requires
     (λ c κs. search kit)  -- write-pairs-requires-2
     (λ c. search kit)  -- same-length

@@ -87,9 +87,8 @@ pub fn deinterleave(bits: &[u8], pairs0: &mut [u8], pairs1: &mut [u8]) -> Outcom
     else {
         return Outcome::refused(MISFIT);
     };
-    let rows = block_core::restored_rows(bits);
-    block_core::write_pairs(&rows, 0, pairs0);
-    block_core::write_pairs(&rows, 1, pairs1);
+    block_core::write_pairs(bits, 0, pairs0);
+    block_core::write_pairs(bits, 1, pairs1);
     Outcome::accepted(0)
 }
 

@@ -1,24 +1,20 @@
 -- `interleaver_core::taking_apart::write_pairs` meets its contract: row after row.
 -- Assumes nothing.
 use Prim.Native.Nat.{_-_}
-use Rattle.bits.specs.Filling.{Blocks, by-blocks}
-use Rattle.bits.specs.Bits.{byteOf, pack}
-use Rattle.interleaver_spec.specs.BlockBuffer.{heldBit}
-use Rattle.interleaver_spec.specs.BlockBufferLaws.{pairs-next}
+use Rattle.interleaver_spec.specs.BlockBufferLaws.{PairRows, by-rows}
 use borrow.Author.Needs.{needs}
 use Rattle.interleaver_core.proofs.taking_apart.write_pairs.Statement.{statement}
 use Rattle.interleaver_core.proofs.taking_apart.write_pairs.Tie as tie
 
-ruleset kit = (needs, by-blocks, pairs-next)
+ruleset kit = (needs, by-rows)
 
 abbrev Inv-loop : tie.InvT-loop
-Inv-loop rows encoder pairs₀ r₀ pairs r = Blocks (byteOf (heldBit rows encoder)) 256 42 r pairs
+Inv-loop bits encoder pairs₀ r₀ pairs r = PairRows bits encoder r pairs
 
 abbrev μ-loop : tie.MeasureT-loop
-μ-loop rows encoder pairs₀ r₀ pairs r = 42 - r
+μ-loop bits encoder pairs₀ r₀ pairs r = 42 - r
 
 pub write-pairs-spec : {M : Type 1} → statement M
-unfolding pack
 write-pairs-spec =
     tie.close
     (tie.spec
@@ -29,6 +25,7 @@ write-pairs-spec =
     (λ c. search kit)  -- add-e
     (λ c. search kit)  -- mul-t9
     (λ c. search kit)  -- add-t10
+    (λ c κs. search kit)  -- restored-row-requires
     (λ c. search kit)  -- sub-write-row
     (λ c. search kit)  -- part-write-row-start
     (λ c. search kit)  -- part-write-row-end

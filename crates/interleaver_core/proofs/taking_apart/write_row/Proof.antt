@@ -10,10 +10,10 @@ use Rattle.interleaver_core.proofs.taking_apart.write_row.Tie as tie
 ruleset kit = (needs, twos)
 
 abbrev Inv-loop : tie.InvT-loop
-Inv-loop rows k out₀ x₀ out x = Twos (rowByte rows k) x out
+Inv-loop row out₀ x₀ out x = Twos (rowByte row) x out
 
 abbrev μ-loop : tie.MeasureT-loop
-μ-loop rows k out₀ x₀ out x = 128 - x
+μ-loop row out₀ x₀ out x = 128 - x
 
 pub write-row-spec : {M : Type 1} → statement M
 write-row-spec =
@@ -22,7 +22,7 @@ write-row-spec =
     Inv-loop
     μ-loop
     (λ c. search kit)  -- loop-holds
-    (λ c κs. search kit)  -- block-row-word-requires
+    (λ c κs. search kit)  -- row-word-requires
     (λ c. search kit)  -- mul-a
     (λ c. search kit)  -- add-e
     (λ c. search kit)  -- cast-out

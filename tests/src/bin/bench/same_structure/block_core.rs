@@ -157,14 +157,6 @@ fn restored_row(bits: &[u8; 21504], block_row: usize) -> BlockRow {
     row
 }
 
-pub fn restored_rows(bits: &[u8; 21504]) -> [BlockRow; 84] {
-    let mut rows = [[0; 128]; 84];
-    for k in 0..84 {
-        rows[k] = restored_row(bits, k);
-    }
-    rows
-}
-
 fn write_row(row: &BlockRow, out: &mut [u8]) {
     for x in 0..128 {
         let w = row[x];
@@ -173,8 +165,11 @@ fn write_row(row: &BlockRow, out: &mut [u8]) {
     }
 }
 
-pub fn write_pairs(rows: &[BlockRow; 84], encoder: usize, pairs: &mut [u8; 10752]) {
+/// With the bound of the encoder at hand the compiler leaves out the tests of the indices.
+pub fn write_pairs(bits: &[u8; 21504], encoder: usize, pairs: &mut [u8; 10752]) {
+    assert!(encoder < 2, "an encoder");
     for r in 0..42 {
-        write_row(&rows[2 * r + encoder], &mut pairs[r * 256..r * 256 + 256]);
+        let row = restored_row(bits, 2 * r + encoder);
+        write_row(&row, &mut pairs[r * 256..r * 256 + 256]);
     }
 }
