@@ -482,12 +482,12 @@ fn a_link_to_an_output() {
     assert!(room.read("folder/kept") == [0; SUPERFRAME_PAIRS * MARKS]);
 }
 
-/// The same 16 MiB of memory in all, and one megabyte of stack, for 2 super-frames and for 64.
+/// The same 16 MiB of memory in all, and a million bytes of stack, for 2 super-frames and for 64.
 #[test]
 fn a_constant_amount_of_memory() {
     for superframes in [2, 64] {
         let room = Room::of_zeros(superframes);
-        let given = room.run_after("ulimit -v 16384 && ulimit -s 1024 &&");
+        let given = room.run_after("ulimit -v 16384 && ulimit -s 976 &&");
         let line = format!("superframes {superframes} flips 0 lost 0 overhead 0\n");
         assert_eq!(given.out, line);
         assert_eq!(given.said, progress(superframes));
