@@ -3,7 +3,7 @@
 -- Assumes nothing.
 use mathlib.Core.Path.{_≡_, refl, sym, ap, ap₂, subst, _∙_}
 use mathlib.Core.List.{List, [], _∷_, map}
-use Prim.Native.Nat.{ℕ, suc, _≤_}
+use Prim.Native.Nat.{ℕ, _≤_}
 use lib.ListN.{length, length-map}
 use Rattle.calls.specs.Sequences.{At, Part, accepted}
 use Rattle.calls.specs.SequenceLaws.{mapped-at, Mirrors, mirror-run, mirror-accepted}

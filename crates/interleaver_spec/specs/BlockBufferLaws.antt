@@ -23,8 +23,7 @@ use Rattle.interleaver_spec.specs.Moves.{turned, moved, transposed}
 use Rattle.interleaver_spec.specs.MoveLaws.{transposed-bit}
 use Rattle.interleaver_spec.specs.Positions.{outColumn, tOf, subsetOf, bOf, outBlockRow, placeRow, placeColumn, encoderOf, rowOf, blockOf}
 use Rattle.interleaver_spec.specs.Positions.{bitRowOf, columnOf}
-use Rattle.interleaver_spec.specs.PositionLaws.{part-column, part-t, part-subset, part-b, outputAt, output-upper, output-lower}
-use Rattle.interleaver_spec.specs.PositionLaws.{outputFor, outBlockRow-lt}
+use Rattle.interleaver_spec.specs.PositionLaws.{part-column, part-t, part-subset, part-b, outputAt, outputFor, output-upper, output-lower}
 use Rattle.interleaver_spec.specs.Interleaving.{pairsBit, pairsOf, sourceOf, interleavedBit, interleaved, outputOf, apart}
 use Rattle.interleaver_spec.specs.InterleavingLaws.{outputFrom, outputOf-is}
 use Rattle.interleaver_spec.specs.BlockBuffer.{laidWord, laid, pairsPlace, pairsWord, pairsWords, sentWords, wordsBlock}

@@ -10,7 +10,7 @@ use lib.Dec.{lit<}
 use lib.ListN.{length, take, drop, length-drop, length-append}
 use lib.Seq.{take-at, drop-at, drop-drop, drop-length, take-all, length-take-le}
 use Rattle.bits.specs.Lists.{tabulate}
-use Rattle.bits.specs.Parts.{part, byteOfEach, endToEnd}
+use Rattle.bits.specs.Parts.{byteOfEach, endToEnd}
 use Rattle.bits.specs.PartLaws.{each-block}
 use Rattle.calls.specs.declared.Answer.{Answer}
 use Rattle.calls.specs.Calls.{After, after}

@@ -1,6 +1,6 @@
 // What the marks of received words add up to. Over `word_spec`, below `linereceive` and `loopback_core`.
 ghost use mathlib.Core.Path.{_≡_};
-ghost use Prim.Native.Nat.{_*_, _≤_};
+ghost use Prim.Native.Nat.{_≤_};
 ghost use lib.ListN.{length};
 ghost use Rattle.word_spec.specs.Marks.{flipsIn, lostIn};
 ghost use Rattle.marks.specs.Marks.{markSums};

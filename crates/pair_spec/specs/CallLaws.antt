@@ -14,7 +14,7 @@ use Rattle.calls.specs.Sequences.{not-lent, Keeping, Separate}
 use Rattle.calls.specs.SequenceLaws.{part-kept}
 use Rattle.pair_spec.specs.History.{depth, shift}
 use Rattle.pair_spec.specs.Encoding.{encoded}
-use Rattle.pair_spec.specs.Receiving.{newestPair, payloadOut, marks}
+use Rattle.pair_spec.specs.Receiving.{marks}
 use Rattle.pair_spec.specs.Calls.{EncodeBuffers, encodeBuffers, Encoded, encodePair, encodeCall, ReceiveBuffers, receiveBuffers}
 use Rattle.pair_spec.specs.Calls.{Received, receivePair, receiveCall, state, Encoding, Receiving, encode, receive, Encodings}
 use Rattle.pair_spec.specs.Calls.{Receivings}

@@ -6,7 +6,6 @@ use mathlib.Core.List.{List}
 use Prim.Native.Nat.{ℕ, _+_, _-_, _*_, _/_, _%_, _<_, _≤_}
 use native.Mathlib.Omega.{arith}
 use native.Mathlib.Numerals.{add-one}
-use borrow.Author.Tests.{lt-ltb, le-ltb}
 use borrow.Rule.Slice.PartMut.{putMid}
 use lib.Dec.{lit<, leb}
 use lib.ListN.{length, getD}
@@ -25,8 +24,7 @@ use Rattle.bits.specs.PartLaws.{partOf-length, partOf-at, part-long, part-withi
 use Rattle.bits.specs.Seeking.{first}
 use Rattle.bits.specs.TestLaws.{either}
 use Rattle.calls.specs.declared.Answer.{Answer}
-use Rattle.calls.specs.declared.Answer.the-variants.{Done, Refused}
-use Rattle.calls.specs.declared.Refusal.the-variants.{OffGrid}
+use Rattle.calls.specs.declared.Answer.the-variants.{Done}
 use Rattle.calls.specs.Answers.{valueOr}
 use Rattle.calls.specs.Calls.{After, after}
 use Rattle.calls.specs.CallLaws.{cases}

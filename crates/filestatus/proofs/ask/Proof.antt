@@ -1,7 +1,7 @@
 -- `filestatus::ask` is safe and ends: a walk of its MIR, by hand, since the borrow checker covers no reference to a struct.
 -- The struct is lent for a lifetime that is made for the call, and comes back at some value when it is over.
 -- Assumes nothing.
-use mathlib.Core.Path.{_≡_, refl}
+use mathlib.Core.Path.{refl}
 use mathlib.Core.List.{List, [], _∷_}
 use Prim.Native.Nat.{ℕ}
 use lib.IntN.{ℤ}
