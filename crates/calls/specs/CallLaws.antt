@@ -43,6 +43,17 @@ module _ (ts : List Test) where
     unfolding misfit
     no-misfit a h = test-passes (misfit s n) ts a (simp (eq-eqb _ _ h))
 
+    -- Where the code compares with m, which is n.
+    module _ (m : ℕ) (e : m ≡ n) where
+      pub is-misfit-of : length s ≢ m → Refused Misfit ≡ verdict (misfit s n ∷ ts)
+      is-misfit-of h = is-misfit (λ f. h (f ∙ sym e))
+
+      pub no-misfit-of : (a : Answer) → length s ≡ m → a ≡ verdict ts → a ≡ verdict (misfit s n ∷ ts)
+      no-misfit-of a h = no-misfit a (h ∙ e)
+
+      pub fits-of : length s ≡ m → length s ≡ n
+      fits-of h = h ∙ e
+
   module _ (size : ℕ) where
     pub is-short-file : size < 16 → Refused Misfit ≡ verdict (shortFile size ∷ ts)
     unfolding shortFile
@@ -150,6 +161,8 @@ pub ruleset tests = (
   first-refused,
   first-passed,
 )
+
+pub ruleset misfit-of = (is-misfit-of, no-misfit-of, fits-of)
 
 pub ruleset cases = (tests, call-refused, call-done)
 

@@ -1,12 +1,13 @@
 // The library for C and Rust: one exported function for each entry point, buffers as pointer and length. See include/ofec.h. Over the
 // crates of calls (`word`, `pair`, `interleaver`, `cells`, `frame`, `line_file`).
 use calls::Answer;
+use profile::Profile;
 ghost use mathlib.Core.Path.{_≡_};
 ghost use Rattle.word_spec.specs.Calls.{repairCall};
 ghost use Rattle.pair_spec.specs.Calls.{encodeBuffers, encodeCall, receiveBuffers, receiveCall};
 ghost use Rattle.interleaver_spec.specs.Calls.{interleaveCall, pairBuffers, deinterleaveCall};
 ghost use Rattle.cells_spec.specs.Calls.{mapCall, demapCall};
-ghost use Rattle.cells_spec.specs.Profiles.{qam16};
+ghost use Rattle.cells_spec.specs.Profiles.{qam16, qpsk};
 ghost use Rattle.frame_spec.specs.Calls.{frameCall, unframeCall};
 ghost use Rattle.line_file_spec.specs.Opening.{headerOf};
 ghost use Rattle.line_file_spec.specs.Reading.{readRefusal};
@@ -101,7 +102,7 @@ pub extern "C" fn ofec_deinterleave(bits: &[u8], pairs0: &mut [u8], pairs1: &mut
 pub extern "C" fn ofec_bits_to_cells(bits: &[u8], cells: &mut [u8]) -> Outcome
     ensures { λ r. ⌜ exported r (now (cells .exit)) ≡ inNumbers 0 (mapCall qam16 (now (bits .entry)) (now (cells .entry))) ⌝ }
 {
-    outcome_of(cells::bits_to_cells(bits, cells), 0)
+    outcome_of(cells::bits_to_cells(Profile::Qam16, bits, cells), 0)
 }
 
 // Maps a buffer's cells back to bits.
@@ -109,7 +110,7 @@ pub extern "C" fn ofec_bits_to_cells(bits: &[u8], cells: &mut [u8]) -> Outcome
 pub extern "C" fn ofec_cells_to_bits(cells: &[u8], bits: &mut [u8]) -> Outcome
     ensures { λ r. ⌜ exported r (now (bits .exit)) ≡ inNumbers 0 (demapCall qam16 (now (cells .entry)) (now (bits .entry))) ⌝ }
 {
-    outcome_of(cells::cells_to_bits(cells, bits), 0)
+    outcome_of(cells::cells_to_bits(Profile::Qam16, cells, bits), 0)
 }
 
 // Frames a sub-frame.
@@ -122,7 +123,10 @@ pub extern "C" fn ofec_frame(
 ) -> Outcome
     ensures { λ r. ⌜ exported r (now (frame .exit)) ≡ inNumbers 0 (frameCall qam16 number (now (payload .entry)) (now (overhead .entry)) (now (frame .entry))) ⌝ }
 {
-    outcome_of(frame::frame(number, payload, overhead, frame), 0)
+    outcome_of(
+        frame::frame(Profile::Qam16, number, payload, overhead, frame),
+        0,
+    )
 }
 
 // Unframes a sub-frame. value: the number of overhead cells that differ from the lent list.
@@ -135,7 +139,58 @@ pub extern "C" fn ofec_unframe(
 ) -> Outcome
     ensures { λ r. ⌜ exported r (now (payload .exit)) ≡ inNumbers 0 (unframeCall qam16 number (now (frame .entry)) (now (overhead .entry)) (now (payload .entry))) ⌝ }
 {
-    outcome_of(frame::unframe(number, frame, overhead, payload), 0)
+    outcome_of(
+        frame::unframe(Profile::Qam16, number, frame, overhead, payload),
+        0,
+    )
+}
+
+// Maps a buffer's bits to the cells of QPSK.
+#[no_mangle]
+pub extern "C" fn ofec_bits_to_cells_qpsk(bits: &[u8], cells: &mut [u8]) -> Outcome
+    ensures { λ r. ⌜ exported r (now (cells .exit)) ≡ inNumbers 0 (mapCall qpsk (now (bits .entry)) (now (cells .entry))) ⌝ }
+{
+    outcome_of(cells::bits_to_cells(Profile::Qpsk, bits, cells), 0)
+}
+
+// Maps a buffer's cells of QPSK back to bits.
+#[no_mangle]
+pub extern "C" fn ofec_cells_to_bits_qpsk(cells: &[u8], bits: &mut [u8]) -> Outcome
+    ensures { λ r. ⌜ exported r (now (bits .exit)) ≡ inNumbers 0 (demapCall qpsk (now (cells .entry)) (now (bits .entry))) ⌝ }
+{
+    outcome_of(cells::cells_to_bits(Profile::Qpsk, cells, bits), 0)
+}
+
+// Frames a sub-frame of QPSK.
+#[no_mangle]
+pub extern "C" fn ofec_frame_qpsk(
+    number: u32,
+    payload: &[u8],
+    overhead: &[u8],
+    frame: &mut [u8],
+) -> Outcome
+    ensures { λ r. ⌜ exported r (now (frame .exit)) ≡ inNumbers 0 (frameCall qpsk number (now (payload .entry)) (now (overhead .entry)) (now (frame .entry))) ⌝ }
+{
+    outcome_of(
+        frame::frame(Profile::Qpsk, number, payload, overhead, frame),
+        0,
+    )
+}
+
+// Unframes a sub-frame of QPSK. value: the number of overhead cells that differ from the lent list.
+#[no_mangle]
+pub extern "C" fn ofec_unframe_qpsk(
+    number: u32,
+    frame: &[u8],
+    overhead: &[u8],
+    payload: &mut [u8],
+) -> Outcome
+    ensures { λ r. ⌜ exported r (now (payload .exit)) ≡ inNumbers 0 (unframeCall qpsk number (now (frame .entry)) (now (overhead .entry)) (now (payload .entry))) ⌝ }
+{
+    outcome_of(
+        frame::unframe(Profile::Qpsk, number, frame, overhead, payload),
+        0,
+    )
 }
 
 // Opens a line file: its header's numbers, or zeros in a refusal.

@@ -11,7 +11,7 @@ use Rattle.calls.specs.declared.Refusal.the-variants.{OffGrid}
 use Rattle.calls.specs.Answers.{TurnedBack}
 use Rattle.calls.specs.Calls.{after, Test, verdict}
 use Rattle.calls.specs.CallLaws.{cases, is-off-grid, on-grid, call-keeps}
-use Rattle.cells_spec.specs.Profile.{Profile, cellsPerBuffer}
+use Rattle.cells_spec.specs.Modulation.{Modulation, cellsPerBuffer}
 use Rattle.cells_spec.specs.Cells.{payloadRule, firstIllegal, Legal, toCells, toBits}
 use Rattle.cells_spec.specs.CellLaws.{all-legal, none-illegal, toCells-legal, buffer-cells, buffer-bits, buffer-back}
 use Rattle.cells_spec.specs.CellLaws.{buffer-cells-back}
@@ -36,40 +36,40 @@ pub ruleset legality = (is-illegal, is-legal)
 
 -- ---- calls that no test refuses
 
-pub map-done : (p : Profile) (bits cells d : List ℕ) → length bits ≡ 21504 → length cells ≡ cellsPerBuffer p * 2 → d ≡ toCells p bits
-    → after (Done 0) d ≡ mapCall p bits cells
-map-done p bits cells d hb hc e = rw e (search cases depth 6)
+-- The code compares the cells with m.
+module _ (p : Modulation) (bits cells : List ℕ) (hb : length bits ≡ 21504) (m : ℕ) (em : m ≡ cellsPerBuffer p * 2) (hc : length cells ≡ m) (d : List ℕ) where
+  pub map-done : d ≡ toCells p bits → after (Done 0) d ≡ mapCall p bits cells
+  map-done e = let fit : length cells ≡ cellsPerBuffer p * 2 = hc ∙ em in rw e (search (cases, fit) depth 6)
 
-pub demap-done : (p : Profile) (cells bits : List ℕ) (at : ℕ) → length cells ≡ cellsPerBuffer p * 2 → length bits ≡ 21504
-    → at ≡ firstIllegal (payloadRule p) cells
-    → (d : List ℕ) → length cells ≤ at → d ≡ toBits p cells → after (Done 0) d ≡ demapCall p cells bits
-demap-done p cells bits at hc hb ha d h e = rw e (search (cases, legality) depth 7)
+  pub demap-done : (at : ℕ) → at ≡ firstIllegal (payloadRule p) cells → length cells ≤ at → d ≡ toBits p cells
+      → after (Done 0) d ≡ demapCall p cells bits
+  demap-done at ha h e = let fit : length cells ≡ cellsPerBuffer p * 2 = hc ∙ em in rw e (search (cases, legality, fit) depth 7)
 
 -- ---- refused calls leave the buffer as it was
 
-pub map-keeps : (p : Profile) (bits cells : List ℕ) → TurnedBack (mapCall p bits cells .answer)
+pub map-keeps : (p : Modulation) (bits cells : List ℕ) → TurnedBack (mapCall p bits cells .answer)
     → mapCall p bits cells .written ≡ cells
 map-keeps p bits cells = call-keeps _ _ _ refl
 
-pub demap-keeps : (p : Profile) (cells bits : List ℕ) → TurnedBack (demapCall p cells bits .answer)
+pub demap-keeps : (p : Modulation) (cells bits : List ℕ) → TurnedBack (demapCall p cells bits .answer)
     → demapCall p cells bits .written ≡ bits
 demap-keeps p cells bits = call-keeps _ _ _ refl
 
 -- ---- calls that are accepted
 
-pub map-accepts : (p : Profile) (bits cells : List ℕ) → length bits ≡ 21504 → length cells ≡ cellsPerBuffer p * 2
+pub map-accepts : (p : Modulation) (bits cells : List ℕ) → length bits ≡ 21504 → length cells ≡ cellsPerBuffer p * 2
     → mapCall p bits cells ≡ after (Done 0) (toCells p bits)
-map-accepts p bits cells hb hc = sym (map-done p bits cells (toCells p bits) hb hc refl)
+map-accepts p bits cells hb hc = sym (map-done p bits cells hb _ refl hc _ refl)
 
-pub demap-accepts : (p : Profile) (cells bits : List ℕ) → length cells ≡ cellsPerBuffer p * 2 → length bits ≡ 21504
+pub demap-accepts : (p : Modulation) (cells bits : List ℕ) → length cells ≡ cellsPerBuffer p * 2 → length bits ≡ 21504
     → Legal (payloadRule p) cells → demapCall p cells bits ≡ after (Done 0) (toBits p cells)
 demap-accepts p cells bits hc hb legal =
-    sym (demap-done p cells bits (firstIllegal (payloadRule p) cells) hc hb refl (toBits p cells) (none-illegal (payloadRule p) cells legal) refl)
+    sym (demap-done p bits cells hb _ refl hc _ _ refl (none-illegal (payloadRule p) cells legal) refl)
 
 -- ---- each call undoes the other
 
 -- Cells to bits, lent what bits to cells left, is accepted and gives the bits back, whatever stood in the two buffers.
-pub demap-after-map : (p : Profile) (bits cells out : List ℕ) → length bits ≡ 21504 → length cells ≡ cellsPerBuffer p * 2
+pub demap-after-map : (p : Modulation) (bits cells out : List ℕ) → length bits ≡ 21504 → length cells ≡ cellsPerBuffer p * 2
     → length out ≡ 21504 → ((i : ℕ) → getD bits i 0 < 256)
     → demapCall p (mapCall p bits cells .written) out ≡ after (Done 0) bits
 demap-after-map p bits cells out hb hc ho bytes =
@@ -77,7 +77,7 @@ demap-after-map p bits cells out hb hc ho bytes =
     ∙ demap-accepts p (toCells p bits) out (buffer-cells p bits hb) ho (toCells-legal p bits)
     ∙ ap (after (Done 0)) (buffer-back p bits hb bytes)
 
-pub map-after-demap : (p : Profile) (cells bits out : List ℕ) → length cells ≡ cellsPerBuffer p * 2 → length bits ≡ 21504
+pub map-after-demap : (p : Modulation) (cells bits out : List ℕ) → length cells ≡ cellsPerBuffer p * 2 → length bits ≡ 21504
     → length out ≡ cellsPerBuffer p * 2 → Legal (payloadRule p) cells
     → mapCall p (demapCall p cells bits .written) out ≡ after (Done 0) cells
 map-after-demap p cells bits out hc hb ho legal =

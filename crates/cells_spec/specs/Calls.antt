@@ -6,7 +6,7 @@ use Prim.Native.Nat.{ℕ, _*_}
 use lib.ListN.{length}
 use Rattle.calls.specs.declared.Answer.the-variants.{Done}
 use Rattle.calls.specs.Calls.{After, after, Test, misfit, offGrid, call}
-use Rattle.cells_spec.specs.Profile.{Profile, cellsPerBuffer}
+use Rattle.cells_spec.specs.Modulation.{Modulation, cellsPerBuffer}
 use Rattle.cells_spec.specs.Cells.{payloadRule, firstIllegal, toCells, toBits}
 
 -- No. 5 of a buffer that the call reads whole, by a rule.
@@ -14,7 +14,7 @@ unfoldable pub illegalIn : (ℕ → ℕ → Bool) → List ℕ → Test
 illegalIn rule cells = offGrid (firstIllegal rule cells) (firstIllegal rule cells) (length cells)
 
 -- A buffer: 21,504 bytes of bits ("Output 21,504 bytes") and its cells, two bytes each.
-module _ (p : Profile) where
+module _ (p : Modulation) where
   abbrev pub mapCall : List ℕ → List ℕ → After (List ℕ)
   mapCall bits cells = call (misfit bits 21504 ∷ misfit cells (cellsPerBuffer p * 2) ∷ []) cells (after (Done 0) (toCells p bits))
 

@@ -8,14 +8,15 @@ use native.Mathlib.Nat.{mul-div-cancel}
 use native.Mathlib.Omega.{arith}
 use lib.ListN.{length, getD}
 use lib.Seq.{ext-getD}
-use Rattle.bits.specs.ListLaws.{length-tabulate, getD-tabulate}
-use Rattle.bits.specs.Bits.{bitOf, bit}
+use Rattle.bits.specs.Lists.{tabulate}
+use Rattle.bits.specs.ListLaws.{length-tabulate, getD-tabulate, tabulate-ext}
+use Rattle.bits.specs.Bits.{bitOf, bit, fromBits, byteOf, pack}
 use Rattle.bits.specs.BitLaws.{bitOf-lt, bitOf-fromBits, fromBits-lt, fromBits-ext, fromBits-bitOf, bit-lt, length-pack, pack-below}
 use Rattle.bits.specs.BitLaws.{bit-pack-of, bits-equal}
 use Rattle.bits.specs.Seeking.{first-none, none-passes}
 use Rattle.bits.specs.DigitLaws.{digit-lt, digits, group-of, place-of, place-lt, group-lt}
-use Rattle.cells_spec.specs.Profile.{Profile, symbolOf, cellsPerBuffer}
-use Rattle.cells_spec.specs.ProfileLaws.{width-pos, buffer-whole, symbol-back, cell-back}
+use Rattle.cells_spec.specs.Modulation.{Modulation, symbolOf, cellsPerBuffer}
+use Rattle.cells_spec.specs.ModulationLaws.{width-pos, buffer-whole, symbol-back, cell-back}
 use Rattle.cells_spec.specs.Cells.{payloadRule, firstIllegal, Legal, symbolAt, cellsAt, toCells, cellsBit, toBits}
 
 -- ---- legal cells
@@ -29,7 +30,7 @@ module _ (rule : ℕ → ℕ → Bool) (cells : List ℕ) where
   unfolding firstIllegal
   none-illegal h = omega (arith, first-none 0 rule cells (h .legal))
 
-module _ (p : Profile) where
+module _ (p : Modulation) where
   -- ---- buffers by their places
 
   pub toCells-length : (bits : List ℕ) (m : ℕ) → length bits * 8 ≡ m * p .bits → length (toCells p bits) ≡ m * 2
@@ -137,6 +138,30 @@ module _ (p : Profile) where
           toCells-at (toBits p cells) j (omega (arith, long))
           ∙ ap (λ s. p .cell s (j % 2)) (symbol-at (j / 2) (omega arith))
           ∙ half j (j % 2) l (omega arith)
+
+  -- ---- as the code fills the buffers: by functions that agree with the definitions
+
+  pub symbolAt-bit : (bits : List ℕ) (i k : ℕ) → k < p .bits → bitOf (p .bits) (symbolAt p bits i) k ≡ bit bits (i * p .bits + k)
+  unfolding symbolAt
+  symbolAt-bit bits i k l =
+      bitOf-fromBits (p .bits) (λ j. bit bits (i * p .bits + j)) k l ∙ omega (arith, bit-lt bits (i * p .bits + k))
+
+  pub cells-made : (bits d : List ℕ) (n : ℕ) (f : ℕ → ℕ) → n ≡ length bits * 8 / p .bits * 2 → ((j : ℕ) → f j ≡ cellsAt p bits j) → d ≡ tabulate n f
+      → d ≡ toCells p bits
+  unfolding toCells
+  cells-made bits d n f e same is = is ∙ tabulate-ext n f (cellsAt p bits) (λ j l. same j) ∙ ap (λ k. tabulate k (cellsAt p bits)) e
+
+  pub bits-made : (cells d : List ℕ) (n : ℕ) (f : ℕ → ℕ) → n ≡ length cells / 2 * p .bits / 8 → ((i : ℕ) → i < n → f i < 256)
+      → ((i k : ℕ) → i < n → k < 8 → bitOf 8 (f i) k ≡ cellsBit p cells (i * 8 + k)) → d ≡ tabulate n f
+      → d ≡ toBits p cells
+  unfolding toBits pack byteOf
+  bits-made cells d n f e bytes same is =
+      is ∙ tabulate-ext n f (byteOf (cellsBit p cells)) (λ i l. sym (at i l)) ∙ ap (λ k. tabulate k (byteOf (cellsBit p cells))) e
+    where
+      at : (i : ℕ) → i < n → fromBits 8 (λ k. cellsBit p cells (i * 8 + k)) ≡ f i
+      at i l =
+          fromBits-ext 8 (λ k. cellsBit p cells (i * 8 + k)) (bitOf 8 (f i)) (λ k lk. ap (λ b. b % 2) (sym (same i k l lk)))
+          ∙ fromBits-bitOf 8 (f i) (bytes i l)
 
   -- ---- a buffer: 21,504 bytes of bits
 

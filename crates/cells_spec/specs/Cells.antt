@@ -10,7 +10,7 @@ use lib.ListN.{length, getD}
 use Rattle.bits.specs.Lists.{tabulate}
 use Rattle.bits.specs.Bits.{bitOf, bit, fromBits, pack}
 use Rattle.bits.specs.Seeking.{first}
-use Rattle.cells_spec.specs.Profile.{Profile, symbolOf}
+use Rattle.cells_spec.specs.Modulation.{Modulation, symbolOf}
 
 -- ---- legal cells
 
@@ -20,7 +20,7 @@ unfoldable pub overheadRule : ℕ → ℕ → Bool
 overheadRule j v = leb 16 v
 
 -- The rule of payload cells.
-unfoldable pub payloadRule : Profile → ℕ → ℕ → Bool
+unfoldable pub payloadRule : Modulation → ℕ → ℕ → Bool
 payloadRule p j v = p .illegal v
 
 -- The index of the first illegal byte; the length where there is none.
@@ -31,7 +31,7 @@ firstIllegal rule cells = first 0 rule cells
 pub record Legal (rule : ℕ → ℕ → Bool) (cells : List ℕ) : Type 0 where
   pub legal : (k : ℕ) → k < length cells → rule k (getD cells k 0) ≡ false
 
-module _ (p : Profile) where
+module _ (p : Modulation) where
   -- ---- bits to cells
 
   -- Symbol i of a buffer of bits.

@@ -12,7 +12,7 @@ use mir.Syntax.{w8}
 use mir.Val.{SFits, toZ, ofZ}
 use Rattle.bits.specs.Tests.{agree, each}
 use Rattle.bits.specs.TestLaws.{either}
-use Rattle.cells_spec.specs.Levels.{level, Level, minus-three, minus-one, plus-three, plus-one, ordinal}
+use Rattle.cells_spec.specs.Levels.{level, Level, minus-three, minus-one, plus-three, plus-one, ordinal, rails}
 use Rattle.cells_spec.specs.Qam16Inverse.{levelAt, firstBit, secondBit}
 
 -- What holds of the four levels holds of each.
@@ -37,6 +37,11 @@ pub ordinal-lt : {l : ℤ} → Level l → natAbs (l +ℤ pos 3) / 2 < 4
 ordinal-lt = on-levels (λ l. natAbs (l +ℤ pos 3) / 2 < 4) (lit< tt) (lit< tt) (lit< tt) (lit< tt)
 
 pub ruleset by-level = (level-fits, level-nonneg, level-small, ordinal-lt)
+
+-- The byte of two levels, from their ordinals.
+pub rails-is : (i q a b : ℤ) (m n : ℕ) → m ≡ ordinal a → n ≡ ordinal b → a ≡ i → b ≡ q → 4 * m + n ≡ rails i q
+unfolding rails
+rails-is i q a b m n em en ea eb = rw (em, en, ea, eb)
 
 -- ---- the two tables, as the code reads them
 

@@ -1,7 +1,7 @@
 -- Definitions first; the laws about each stand in the file below it.
 pub mod Levels
-pub mod Profile
-pub mod ProfileLaws
+pub mod Modulation
+pub mod ModulationLaws
 pub mod Cells
 pub mod CellLaws
 pub mod Highest
@@ -12,7 +12,11 @@ pub mod Qam16
 pub mod Qam16Inverse
 pub mod LevelLaws
 pub mod Qam16Laws
+pub mod Qpsk
+pub mod QpskLaws
 pub mod Profiles
+pub mod ProfileLaws
 pub mod BenchValues
 pub mod Qam16Bytes
 pub mod Qam16Tables
+pub mod QpskBytes

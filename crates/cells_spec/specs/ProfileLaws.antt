@@ -1,41 +1,42 @@
--- Laws of a profile: its sizes, and a symbol and its cell give each other back.
+-- What the code knows where it has told the profiles apart.
 -- Assumes nothing.
-use mathlib.Core.Path.{_≡_, refl, sym, subst, _∙_}
-use mathlib.Core.Bool.{false}
-use Prim.Native.Nat.{ℕ, _*_, _/_, _^_, _<_}
+use mathlib.Core.Path.{_≡_, ap, subst}
+use mathlib.Core.List.{List}
+use Prim.Native.Nat.{ℕ, _*_}
 use native.Mathlib.Omega.{arith}
-use lib.Dec.{lit<}
-use Rattle.bits.specs.LeastLaws.{least-pair}
-use Rattle.bits.specs.DigitLaws.{factor-pos}
-use Rattle.cells_spec.specs.Profile.{Profile, symbolOf, cellsPerBuffer}
+use Rattle.profile.specs.declared.Profile.{Profile}
+use Rattle.profile.specs.declared.Profile.the-variants.{Qam16, Qpsk}
+use Rattle.cells_spec.specs.Modulation.{cellsPerBuffer}
+use Rattle.cells_spec.specs.Cells.{payloadRule, Legal}
+use Rattle.cells_spec.specs.Profiles.{qam16, qpsk, modulation}
 
-module _ (p : Profile) where
-  -- ---- sizes
+module _ (f : Profile) where
+  module _ (e : f ≡ Qam16) where
+    pub is-qam16 : modulation f ≡ qam16
+    unfolding modulation
+    is-qam16 = ap modulation e
 
-  pub width-pos : 0 < p .bits
-  width-pos = factor-pos (p .bits) (172032 / p .bits) 172032 (p .whole) (lit< tt)
+    -- A byte of bits is two bytes of cells.
+    pub fits-qam16 : (bits cells : ℕ) → bits ≡ 21504 → cells ≡ cellsPerBuffer (modulation f) * 2 → cells ≡ bits * 2
+    unfolding cellsPerBuffer qam16
+    fits-qam16 bits cells eb ec = let h : cells ≡ 43008 = rw is-qam16 at ec in omega arith
 
-  pub buffer-whole : cellsPerBuffer p * p .bits ≡ 172032
-  unfolding cellsPerBuffer
-  buffer-whole = omega (arith, p .whole)
+    pub legal-qam16 : (cells : List ℕ) → Legal (payloadRule (modulation f)) cells → Legal (payloadRule qam16) cells
+    legal-qam16 cells = subst (λ p. Legal (payloadRule p) cells) is-qam16
 
-  pub cells-pos : 0 < cellsPerBuffer p
-  cells-pos = factor-pos (cellsPerBuffer p) (p .bits) 172032 buffer-whole (lit< tt)
+  module _ (e : f ≡ Qpsk) where
+    pub is-qpsk : modulation f ≡ qpsk
+    unfolding modulation
+    is-qpsk = ap modulation e
 
-  -- ---- a symbol and its cell
+    -- A byte of bits is four bytes of cells.
+    pub fits-qpsk : (bits cells : ℕ) → bits ≡ 21504 → cells ≡ cellsPerBuffer (modulation f) * 2 → cells ≡ bits * 4
+    unfolding cellsPerBuffer qpsk
+    fits-qpsk bits cells eb ec = let h : cells ≡ 86016 = rw is-qpsk at ec in omega arith
 
-  -- The only symbol whose cell it is.
-  pub symbol-is : (s x y : ℕ) → s < 2 ^ p .bits → p .cell s 0 ≡ x → p .cell s 1 ≡ y → symbolOf p x y ≡ s
-  unfolding symbolOf
-  symbol-is s x y l ex ey =
-      least-pair (2 ^ p .bits) (λ t. p .cell t 0) (λ t. p .cell t 1) x y s l ex ey (λ t lt tx ty. p .cell-only t s lt l (tx ∙ sym ex) (ty ∙ sym ey))
+    pub legal-qpsk : (cells : List ℕ) → Legal (payloadRule (modulation f)) cells → Legal (payloadRule qpsk) cells
+    legal-qpsk cells = subst (λ p. Legal (payloadRule p) cells) is-qpsk
 
-  pub symbol-back : (s : ℕ) → s < 2 ^ p .bits → symbolOf p (p .cell s 0) (p .cell s 1) ≡ s
-  symbol-back s l = symbol-is s (p .cell s 0) (p .cell s 1) l refl refl
+pub ruleset by-profile = (is-qam16, is-qpsk)
 
-  module _ (x y : ℕ) (lx : p .illegal x ≡ false) (ly : p .illegal y ≡ false) where
-    -- The symbol of a legal cell.
-    pub cell-back : (symbolOf p x y < 2 ^ p .bits) × (p .cell (symbolOf p x y) 0 ≡ x) × (p .cell (symbolOf p x y) 1 ≡ y)
-    cell-back =
-        let (s, l, ex, ey) = p .cell-reached x y lx ly in
-        subst (λ t. (t < 2 ^ p .bits) × (p .cell t 0 ≡ x) × (p .cell t 1 ≡ y)) (sym (symbol-is s x y l ex ey)) (l, ex, ey)
+pub ruleset profile-fits = (fits-qam16, legal-qam16, fits-qpsk, legal-qpsk)

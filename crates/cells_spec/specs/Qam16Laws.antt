@@ -20,18 +20,13 @@ use Rattle.cells_spec.specs.Qam16Inverse.{levelAt, firstBit, secondBit, 
 
 -- ---- as the code has it
 
-pub rails-is : (i q : ℤ) (m n a b c d : ℕ) → m ≡ ordinal i → n ≡ ordinal q → i ≡ level a b → q ≡ level c d
-    → 4 * m + n ≡ rails (level a b) (level c d)
-unfolding rails
-rails-is i q m n a b c d em en ei eq = rw (em, en, ei, eq)
-
-pub half-x : (b h r : ℕ) → h ≡ 0 → r ≡ rails (level (b / 128 % 2) (b / 32 % 2)) (level (b / 8 % 2) (b / 2 % 2)) → r ≡ cellByte b h
+pub half-x : (b h r : ℕ) (i q : ℤ) → h ≡ 0 → i ≡ level (b / 128 % 2) (b / 32 % 2) → q ≡ level (b / 8 % 2) (b / 2 % 2) → r ≡ rails i q → r ≡ cellByte b h
 unfolding cellByte xOf bitOf
-half-x b h r z e = simp (eq-eqb h 0 z) e
+half-x b h r i q z ei eq e = simp (eq-eqb h 0 z) (e ∙ ap₂ rails ei eq)
 
-pub half-y : (b h r : ℕ) → (h ≡ 0 → ⊥) → r ≡ rails (level (b / 64 % 2) (b / 16 % 2)) (level (b / 4 % 2) (b % 2)) → r ≡ cellByte b h
+pub half-y : (b h r : ℕ) (i q : ℤ) → (h ≡ 0 → ⊥) → i ≡ level (b / 64 % 2) (b / 16 % 2) → q ≡ level (b / 4 % 2) (b % 2) → r ≡ rails i q → r ≡ cellByte b h
 unfolding cellByte yOf bitOf
-half-y b h r z e = simp (ne-eqb h 0 z, div-one) e
+half-y b h r i q z ei eq e = simp (ne-eqb h 0 z, div-one) (e ∙ ap₂ rails ei eq)
 
 pub ruleset halves = (half-x, half-y)
 
@@ -117,6 +112,9 @@ y-back x y l =
     ∙ rails-back y l
 
 -- ---- the facts of the profile
+
+pub low : (v : ℕ) → illegal v ≡ false → v < 16
+low = leb-false 16
 
 pub cell-legal : (b h : ℕ) → illegal (cellByte b h) ≡ false
 cell-legal b h = lt-leb 16 (cellByte b h) (cellByte-lt b h)

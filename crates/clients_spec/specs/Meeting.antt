@@ -11,7 +11,7 @@ use Rattle.pair_spec.specs.History.{depth}
 use Rattle.pair_spec.specs.Calls.{receive}
 use Rattle.pair_spec.specs.Promise.{Promise}
 use Rattle.interleaver_spec.specs.Calls.{PairBuffers}
-use Rattle.cells_spec.specs.Profile.{buffersIn}
+use Rattle.cells_spec.specs.Modulation.{buffersIn}
 use Rattle.cells_spec.specs.Profiles.{qam16}
 use Rattle.line_spec.specs.Sides.{Side}
 use Rattle.line_spec.specs.Line.{lineBit}

@@ -12,7 +12,7 @@ use Rattle.pair_spec.specs.Calls.{EncodeBuffers, ReceiveBuffers, state, Encodin
 use Rattle.pair_spec.specs.Calls.{payloads}
 use Rattle.pair_spec.specs.Rows.{RowBits}
 use Rattle.pair_spec.specs.Promise.{Limit}
-use Rattle.cells_spec.specs.Profile.{pairsIn}
+use Rattle.cells_spec.specs.Modulation.{pairsIn}
 use Rattle.cells_spec.specs.Profiles.{qam16}
 use Rattle.line_spec.specs.Sides.{Side}
 use Rattle.line_spec.specs.Line.{lineBit}

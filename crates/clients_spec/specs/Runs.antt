@@ -9,7 +9,7 @@ use Rattle.calls.specs.Sequences.{At, Part, Kind, Run, accepted}
 use Rattle.pair_spec.specs.Rows.{RowBits}
 use Rattle.pair_spec.specs.Calls.{encodeBuffers, encodeCall, receiveBuffers, receiveCall, State, state, start, Encoding, Receiving}
 use Rattle.pair_spec.specs.Promise.{Limit}
-use Rattle.cells_spec.specs.Profile.{pairsIn}
+use Rattle.cells_spec.specs.Modulation.{pairsIn}
 use Rattle.cells_spec.specs.Profiles.{qam16}
 use Rattle.cells_spec.specs.Cells.{overheadRule, Legal}
 use Rattle.line_spec.specs.Sides.{Side}

@@ -1,13 +1,17 @@
-// The calls `frame` and `unframe`, by sub-frame: 01, "Super-frame". Over `frame_core`, by the definitions of `frame_spec`.
+// The calls `frame` and `unframe`, by sub-frame and for either profile: 01, "Super-frame", and 02, E1. Over `frame_core`, by the
+// definitions of `frame_spec`.
 use calls::Answer;
 use calls::Refusal;
 use cells_core::legal::first_illegal;
+use cells_core::legal::first_illegal_payload;
 use frame_core::comparing;
 use frame_core::layout;
+use frame_core::legal;
 use frame_core::placing;
+use profile::Profile;
 ghost use mathlib.Core.Path.{_≡_};
 ghost use Rattle.calls.specs.Calls.{after, verdict};
-ghost use Rattle.cells_spec.specs.Profiles.{qam16};
+ghost use Rattle.cells_spec.specs.Profiles.{modulation};
 ghost use Rattle.frame_spec.specs.Calls.{subFrameTests, frameCall, unframeCall};
 
 // The bytes of the overhead list: 6,144 cells.
@@ -45,13 +49,19 @@ fn judge(number: u32, overhead: &[u8], frame: &[u8], payload: &[u8]) -> Answer
 }
 
 // A sub-frame, of its payload and its part of the overhead list.
-pub fn frame(number: u32, payload: &[u8], overhead: &[u8], frame: &mut [u8]) -> Answer
-    ensures { λ r. ⌜ after r (now (frame .exit)) ≡ frameCall qam16 number (now (payload .entry)) (now (overhead .entry)) (now (frame .entry)) ⌝ }
+pub fn frame(
+    profile: Profile,
+    number: u32,
+    payload: &[u8],
+    overhead: &[u8],
+    frame: &mut [u8],
+) -> Answer
+    ensures { λ r. ⌜ after r (now (frame .exit)) ≡ frameCall (modulation profile) number (now (payload .entry)) (now (overhead .entry)) (now (frame .entry)) ⌝ }
 {
     if let Answer::Refused(r) = judge(number, overhead, frame, payload) {
         return Answer::Refused(r);
     }
-    let to = first_illegal(payload);
+    let to = first_illegal_payload(profile, payload);
     if to < payload.len() {
         return Answer::Refused(Refusal::OffGrid(to));
     }
@@ -65,13 +75,19 @@ pub fn frame(number: u32, payload: &[u8], overhead: &[u8], frame: &mut [u8]) -> 
 }
 
 // The payload of a sub-frame, and the number of its overhead cells that differ from the overhead list.
-pub fn unframe(number: u32, frame: &[u8], overhead: &[u8], payload: &mut [u8]) -> Answer
-    ensures { λ r. ⌜ after r (now (payload .exit)) ≡ unframeCall qam16 number (now (frame .entry)) (now (overhead .entry)) (now (payload .entry)) ⌝ }
+pub fn unframe(
+    profile: Profile,
+    number: u32,
+    frame: &[u8],
+    overhead: &[u8],
+    payload: &mut [u8],
+) -> Answer
+    ensures { λ r. ⌜ after r (now (payload .exit)) ≡ unframeCall (modulation profile) number (now (frame .entry)) (now (overhead .entry)) (now (payload .entry)) ⌝ }
 {
     if let Answer::Refused(r) = judge(number, overhead, frame, payload) {
         return Answer::Refused(r);
     }
-    let to = first_illegal(frame);
+    let to = legal::first_illegal(profile, number, frame);
     if to < frame.len() {
         return Answer::Refused(Refusal::OffGrid(to));
     }

@@ -1,4 +1,5 @@
-// Workers on a sub-frame and its own parts. Over `frame_spec`; the calls are in `frame`.
+// Workers on a sub-frame and its own parts. Over `frame_spec` and `cells_core`; the calls are in `frame`.
 pub mod comparing;
 pub mod layout;
+pub mod legal;
 pub mod placing;

@@ -15,7 +15,7 @@ use Rattle.calls.specs.Answers.{TurnedBack}
 use Rattle.calls.specs.Calls.{after, Test, verdict}
 use Rattle.calls.specs.CallLaws.{test-refuses, test-passes, is-off-grid, on-grid, none-left, tests, first-passed, call-done, Passed}
 use Rattle.calls.specs.CallLaws.{passed-all, told, call-keeps}
-use Rattle.cells_spec.specs.Profile.{Profile}
+use Rattle.cells_spec.specs.Modulation.{Modulation}
 use Rattle.cells_spec.specs.Cells.{overheadRule, payloadRule, firstIllegal, Legal}
 use Rattle.cells_spec.specs.CellLaws.{none-illegal}
 use Rattle.cells_spec.specs.CallLaws.{is-legal}
@@ -87,7 +87,7 @@ module _ (number : ℕ) (overhead frame payload : List ℕ) (a : Answer) (v : �
 
 pub ruleset judging = (judged-fits, judged-overhead, judged-frame, judged-payload)
 
-module _ (p : Profile) (number v : ℕ) (a : Answer) (ea : a ≡ Done v) (overhead frame payload own : List ℕ) (eo : own ≡ ownOverhead number overhead)
+module _ (p : Modulation) (number v : ℕ) (a : Answer) (ea : a ≡ Done v) (overhead frame payload own : List ℕ) (eo : own ≡ ownOverhead number overhead)
     (is : a ≡ verdict (subFrameTests number overhead frame payload)) (to : ℕ) where
   pub frame-done : to ≡ firstIllegal (payloadRule p) payload → length payload ≤ to → (d : List ℕ) → d ≡ framed number payload own
       → after (Done 0) d ≡ frameCall p number payload overhead frame
@@ -102,19 +102,19 @@ module _ (p : Profile) (number v : ℕ) (a : Answer) (ea : a ≡ Done v) (overhe
 
 -- ---- refused calls leave the buffer as it was
 
-pub frame-keeps : (p : Profile) (number : ℕ) (payload overhead frame : List ℕ)
+pub frame-keeps : (p : Modulation) (number : ℕ) (payload overhead frame : List ℕ)
     → TurnedBack (frameCall p number payload overhead frame .answer)
     → frameCall p number payload overhead frame .written ≡ frame
 frame-keeps p number payload overhead frame = call-keeps _ _ _ refl
 
-pub unframe-keeps : (p : Profile) (number : ℕ) (frame overhead payload : List ℕ)
+pub unframe-keeps : (p : Modulation) (number : ℕ) (frame overhead payload : List ℕ)
     → TurnedBack (unframeCall p number frame overhead payload .answer)
     → unframeCall p number frame overhead payload .written ≡ payload
 unframe-keeps p number frame overhead payload = call-keeps _ _ _ refl
 
 -- ---- calls that are accepted
 
-module _ (p : Profile) (number : ℕ) (overhead frame payload : List ℕ) (ln : number ≤ 47) (lo : length overhead ≡ 12288) (lf : length frame ≡ 7424)
+module _ (p : Modulation) (number : ℕ) (overhead frame payload : List ℕ) (ln : number ≤ 47) (lo : length overhead ≡ 12288) (lf : length frame ≡ 7424)
     (lp : length payload ≡ payloadCells number * 2) (own : Legal overheadRule (ownOverhead number overhead)) where
   tests-pass : Done 0 ≡ verdict (subFrameTests number overhead frame payload)
   unfolding subFrameTests
@@ -136,7 +136,7 @@ module _ (p : Profile) (number : ℕ) (overhead frame payload : List ℕ) (ln : 
 
 -- ---- each call undoes the other
 
-module _ (p : Profile) (number : ℕ) (overhead frame payload : List ℕ) (ln : number ≤ 47) (lo : length overhead ≡ 12288) (lf : length frame ≡ 7424)
+module _ (p : Modulation) (number : ℕ) (overhead frame payload : List ℕ) (ln : number ≤ 47) (lo : length overhead ≡ 12288) (lf : length frame ≡ 7424)
     (lp : length payload ≡ payloadCells number * 2) (own : Legal overheadRule (ownOverhead number overhead)) where
   -- Unframing, lent what framing left and the same list, is accepted and gives the payload and 0, whatever stood in the buffers.
   pub unframe-after-frame : (out : List ℕ) → length out ≡ payloadCells number * 2 → Legal (payloadRule p) payload
@@ -160,7 +160,7 @@ module _ (p : Profile) (number : ℕ) (overhead frame payload : List ℕ) (ln : 
 -- ---- overhead errors never touch payload
 
 -- Legal (frameRule p number) frames that agree on the payload cells, unframed with legal lists of any content, leave one payload.
-pub unframe-payload : (p : Profile) (number : ℕ) (f g list other out out′ : List ℕ) → number ≤ 47 → length f ≡ 7424 → length g ≡ 7424
+pub unframe-payload : (p : Modulation) (number : ℕ) (f g list other out out′ : List ℕ) → number ≤ 47 → length f ≡ 7424 → length g ≡ 7424
     → length list ≡ 12288 → length other ≡ 12288
     → length out ≡ payloadCells number * 2 → length out′ ≡ payloadCells number * 2 → Legal (frameRule p number) f
     → Legal (frameRule p number) g → Legal overheadRule list → Legal overheadRule other

@@ -8,7 +8,7 @@ use lib.ListN.{length}
 use Rattle.calls.specs.declared.Answer.the-variants.{Done}
 use Rattle.calls.specs.declared.Refusal.the-variants.{Misfit}
 use Rattle.calls.specs.Calls.{After, after, Test, refuse, misfit, noSubFrame, offGrid, call}
-use Rattle.cells_spec.specs.Profile.{Profile}
+use Rattle.cells_spec.specs.Modulation.{Modulation}
 use Rattle.cells_spec.specs.Cells.{overheadRule, payloadRule, firstIllegal}
 use Rattle.cells_spec.specs.Calls.{illegalIn}
 use Rattle.frame_spec.specs.Frames.{payloadCells, overheadStart, ownOverhead, framed, frameRule, unframed, differing}
@@ -34,13 +34,13 @@ subFrameTests number overhead frame payload =
     misfit overhead 12288 ∷ misfit frame 7424 ∷ payloadMisfit number payload ∷ noSubFrame number ∷ overheadIllegal number overhead ∷ []
 
 -- Framing reads the payload and writes the frame.
-abbrev pub frameCall : Profile → ℕ → List ℕ → List ℕ → List ℕ → After (List ℕ)
+abbrev pub frameCall : Modulation → ℕ → List ℕ → List ℕ → List ℕ → After (List ℕ)
 frameCall p number payload overhead frame =
     call (subFrameTests number overhead frame payload ++ illegalIn (payloadRule p) payload ∷ []) frame
     (after (Done 0) (framed number payload (ownOverhead number overhead)))
 
 -- Unframing reads the frame and writes the payload; it gives the number of overhead cells that differ.
-abbrev pub unframeCall : Profile → ℕ → List ℕ → List ℕ → List ℕ → After (List ℕ)
+abbrev pub unframeCall : Modulation → ℕ → List ℕ → List ℕ → List ℕ → After (List ℕ)
 unframeCall p number frame overhead payload =
     call (subFrameTests number overhead frame payload ++ illegalIn (frameRule p number) frame ∷ []) payload
     (after (Done (differing number frame (ownOverhead number overhead))) (unframed number frame))

@@ -13,7 +13,7 @@ use lib.Seq.{ext-getD, getD-take, getD-drop}
 use Rattle.bits.specs.ListLaws.{length-tabulate, getD-tabulate}
 use Rattle.bits.specs.CountLaws.{count-none, count-zero, count-mono, differs-same, differs-eq, differs-le}
 use Rattle.bits.specs.TestLaws.{either, cond-yes, cond-no}
-use Rattle.cells_spec.specs.Profile.{Profile}
+use Rattle.cells_spec.specs.Modulation.{Modulation}
 use Rattle.cells_spec.specs.Cells.{overheadRule, payloadRule, Legal}
 use Rattle.frame_spec.specs.Frames.{isOverhead, overheadBefore, payloadBefore, overheadCells, payloadCells, overheadStart}
 use Rattle.frame_spec.specs.Frames.{ownOverhead, frameByte, frameAt, framed, cellRule, frameRule, payloadCell, payloadAt, unframed}
@@ -206,13 +206,13 @@ legal-cells : (rule : ℕ → ℕ → Bool) (a : List ℕ) (n : ℕ) → length 
 legal-cells rule a n la all =
     record { legal = λ j l. let e : j ≡ j / 2 * 2 + j % 2 = omega arith in ap (λ k. rule (j / 2) (getD a k 0)) e ∙ all (j / 2) (j % 2) (omega arith) (omega arith) }
 
-module _ (p : Profile) (s : ℕ) where
+module _ (p : Modulation) (s : ℕ) where
   -- The rule of a frame at its overhead and payload cells.
-  rule-overhead : (m v : ℕ) → isOverhead s m ≡ true → cellRule p s m v ≡ leb 16 v
+  pub rule-overhead : (m v : ℕ) → isOverhead s m ≡ true → cellRule p s m v ≡ leb 16 v
   unfolding cellRule
   rule-overhead m v e = simp e
 
-  rule-payload : (m v : ℕ) → isOverhead s m ≡ false → cellRule p s m v ≡ p .illegal v
+  pub rule-payload : (m v : ℕ) → isOverhead s m ≡ false → cellRule p s m v ≡ p .illegal v
   unfolding cellRule
   rule-payload m v e = simp e
 
@@ -230,6 +230,18 @@ module _ (p : Profile) (s : ℕ) where
           rule-overhead m _ t ∙ ap (leb 16) (framed-overhead s payload own m h lm lh t) ∙ ho .legal (overheadBefore s m * 2 + h) (omega (arith, overhead-index-lt s m lm t))
       at m h lm lh false t =
           rule-payload m _ t ∙ ap (p .illegal) (framed-payload s payload own m h lm lh t) ∙ hp .legal (payloadBefore s m * 2 + h) (omega (arith, payload-index-lt s m lm t))
+
+  -- A frame whose bytes are all legal overhead, and whose payload is legal, is legal.
+  pub parts-legal : (frame : List ℕ) → length frame ≡ 7424 → Legal overheadRule frame → Legal (payloadRule p) (unframed s frame)
+      → Legal (frameRule p s) frame
+  unfolding frameRule overheadRule payloadRule
+  parts-legal frame lf ho hp = legal-cells (cellRule p s) frame 3712 lf (λ m h lm lh. at m h lm lh (isOverhead s m) refl)
+    where
+      at : (m h : ℕ) → m < 3712 → h < 2 → (t : Bool) → isOverhead s m ≡ t → cellRule p s m (getD frame (m * 2 + h) 0) ≡ false
+      at m h lm lh true t = rule-overhead m _ t ∙ ho .legal (m * 2 + h) (omega arith)
+      at m h lm lh false t =
+          rule-payload m _ t ∙ ap (p .illegal) (sym (unframed-at s frame m h lm lh t))
+          ∙ hp .legal (payloadBefore s m * 2 + h) (omega (arith, payload-index-lt s m lm t, unframed-length s frame))
 
   -- The bytes of a legal frame's payload cells are legal.
   pub payload-cell-legal : (frame : List ℕ) → length frame ≡ 7424 → Legal (frameRule p s) frame → (m h : ℕ) → m < 3712 → h < 2

@@ -10,7 +10,7 @@ use lib.ListN.{getD, take, drop}
 use Rattle.bits.specs.Lists.{tabulate}
 use Rattle.bits.specs.Count.{count, differs}
 use Rattle.bits.specs.Least.{least}
-use Rattle.cells_spec.specs.Profile.{Profile}
+use Rattle.cells_spec.specs.Modulation.{Modulation}
 
 -- ---- overhead and payload cells
 
@@ -58,11 +58,11 @@ framed s payload own = tabulate 7424 (frameAt s payload own)
 -- ---- legal cells
 
 -- A frame is judged cell by cell: an illegal byte of cell m of sub-frame s, by the rule of overhead or by the profile's rule of payload, ..
-unfoldable pub cellRule : Profile → ℕ → ℕ → ℕ → Bool
+unfoldable pub cellRule : Modulation → ℕ → ℕ → ℕ → Bool
 cellRule p s m v = cond (isOverhead s m) (leb 16 v) (p .illegal v)
 
 -- .. and of its byte j.
-unfoldable pub frameRule : Profile → ℕ → ℕ → ℕ → Bool
+unfoldable pub frameRule : Modulation → ℕ → ℕ → ℕ → Bool
 frameRule p s j v = cellRule p s (j / 2) v
 
 -- ---- unframing

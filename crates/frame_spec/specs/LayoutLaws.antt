@@ -9,8 +9,8 @@ use native.Mathlib.Decide.{ℕ-discrete, decLt}
 use borrow.Author.Tests.{eq-eqb, ne-eqb, lt-ltb, le-ltb}
 use Rattle.bits.specs.Count.{count}
 use Rattle.bits.specs.TestLaws.{cond-yes, cond-no}
-use Rattle.cells_spec.specs.Profile.{Profile, cellsPerBuffer, buffersIn}
-use Rattle.cells_spec.specs.ProfileLaws.{buffer-whole}
+use Rattle.cells_spec.specs.Modulation.{Modulation, cellsPerBuffer, buffersIn}
+use Rattle.cells_spec.specs.ModulationLaws.{buffer-whole}
 use Rattle.frame_spec.specs.Frames.{isOverhead, overheadBefore, payloadBefore, overheadCells, payloadCells, overheadStart}
 use Rattle.frame_spec.specs.Frames.{payloadStart}
 use Rattle.frame_spec.specs.Layout.{edge, gap, payloadPosition}
@@ -227,7 +227,7 @@ pub payload-all : payloadStart 48 ≡ 172032
 payload-all = payloadStart-closed 47
 
 -- "eight buffers" in 16-QAM: the buffers of a super-frame fill its payload cells, in any profile.
-pub buffers-fill : (p : Profile) → payloadStart 48 ≡ buffersIn p 1 * cellsPerBuffer p
+pub buffers-fill : (p : Modulation) → payloadStart 48 ≡ buffersIn p 1 * cellsPerBuffer p
 unfolding buffersIn
 buffers-fill p = omega (arith, payload-all, buffer-whole p)
 

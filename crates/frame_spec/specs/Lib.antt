@@ -10,4 +10,4 @@ pub mod PilotLaws
 pub mod Calls
 pub mod CallLaws
 pub mod ResultLaws
-pub mod Qam16Flat
+pub mod LegalLaws

@@ -9,7 +9,7 @@ use lib.ListN.{length}
 use Rattle.calls.specs.Results.{result, resultOf}
 use Rattle.calls.specs.Calls.{misfit, noSubFrame, offGrid}
 use Rattle.calls.specs.ResultLaws.{results, call-result}
-use Rattle.cells_spec.specs.Profile.{Profile}
+use Rattle.cells_spec.specs.Modulation.{Modulation}
 use Rattle.cells_spec.specs.Cells.{overheadRule, payloadRule, firstIllegal}
 use Rattle.cells_spec.specs.Calls.{illegalIn}
 use Rattle.frame_spec.specs.Frames.{ownOverhead, frameRule, differing}
@@ -17,7 +17,7 @@ use Rattle.frame_spec.specs.Calls.{payloadFits, payloadMisfit, overheadI
 
 -- 1 where a lent buffer is not of its length, 4 where there is no such frame, 5 with its index where a byte of the sub-frame's
 -- overhead cells is illegal, and then where one of the payload is; otherwise 0.
-pub frame-result : (p : Profile) (number : ℕ) (payload overhead frame : List ℕ)
+pub frame-result : (p : Modulation) (number : ℕ) (payload overhead frame : List ℕ)
     → resultOf 0 (frameCall p number payload overhead frame .answer)
     ≡ cond (not (eqb (length overhead) 12288) || not (eqb (length frame) 7424) || not (payloadFits number payload)) (result 1 0 0)
     (cond (ltb 47 number) (result 4 0 0)
@@ -28,7 +28,7 @@ unfolding misfit payloadMisfit noSubFrame overheadIllegal illegalIn offGrid subF
 frame-result p number payload overhead frame = call-result 0 _ _ _ ∙ simp results
 
 -- The same with the frame's bytes for the payload's; and the number of overhead cells that differ.
-pub unframe-result : (p : Profile) (number : ℕ) (frame overhead payload : List ℕ)
+pub unframe-result : (p : Modulation) (number : ℕ) (frame overhead payload : List ℕ)
     → resultOf 0 (unframeCall p number frame overhead payload .answer)
     ≡ cond (not (eqb (length overhead) 12288) || not (eqb (length frame) 7424) || not (payloadFits number payload)) (result 1 0 0)
     (cond (ltb 47 number) (result 4 0 0)

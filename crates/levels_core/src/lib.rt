@@ -1,8 +1,9 @@
-// Workers: the levels of a bit pair, by a table, and its inverse (01: "A bit pair gives the level: 00 is −3"). Over `cells_spec`;
-// `mapping_core` makes cells of levels.
+// Workers: the levels of a bit pair, by a table, and its inverse (01: "A bit pair gives the level: 00 is −3"), and the level of a bit (02,
+// E1: "0 is level −1"). Over `cells_spec`; `mapping_core` makes cells of levels.
 ghost use mathlib.Core.Path.{_≡_};
 ghost use Prim.Native.Nat.{_/_, _%_, _<_};
 ghost use Rattle.cells_spec.specs.Levels.{Level, level, ordinal};
+ghost use Rattle.cells_spec.specs.Qpsk.{bitLevel};
 ghost use Rattle.cells_spec.specs.Qam16Inverse.{levelAt, firstBit, secondBit};
 
 // The level of each bit pair: of 00, 01, 10, 11.
@@ -17,6 +18,16 @@ pub fn level(a: u8, b: u8) -> i8
     ensures { λ r. ⌜ (r ≡ level a b) × Level r ⌝ }
 {
     LEVELS[(a * 2 + b) as usize]
+}
+
+// The level of a bit.
+pub fn bit_level(b: u8) -> i8
+    ensures { λ r. ⌜ (r ≡ bitLevel b) × Level r ⌝ }
+{
+    if b == 0 {
+        return -1;
+    }
+    1
 }
 
 // (l + 3) / 2 of a level l.

@@ -13,7 +13,7 @@ use Rattle.pair_spec.specs.Rows.{RowBits}
 use Rattle.interleaver_spec.specs.Interleaving.{pairsBit, interleaved}
 use Rattle.interleaver_spec.specs.InterleavingLaws.{pairsBit-lt, pairsBit-row, pairsBit-bitRow, pairsBit-block, pairsBit-column}
 use Rattle.interleaver_spec.specs.InterleavingLaws.{length-interleaved}
-use Rattle.cells_spec.specs.Profile.{Profile, cellsPerBuffer, rowsIn}
+use Rattle.cells_spec.specs.Modulation.{Modulation, cellsPerBuffer, rowsIn}
 use Rattle.cells_spec.specs.Cells.{overheadRule, payloadRule, Legal, toCells}
 use Rattle.cells_spec.specs.CellLaws.{toCells-legal, buffer-cells}
 use Rattle.line_spec.specs.Sides.{Side, side0, side1}
@@ -49,7 +49,7 @@ pairs-with W R C r c lC lr lc b =
     row : 42 * (R / 42) + R % 42 ≡ R
     row = omega arith
 
-module _ (p : Profile) (n : ℕ) (W : Side → RowBits) (overhead : List ℕ) (olong : length overhead ≡ 12288)
+module _ (p : Modulation) (n : ℕ) (W : Side → RowBits) (overhead : List ℕ) (olong : length overhead ≡ 12288)
     (olegal : Legal overheadRule overhead) where
   cells : ℕ → List ℕ
   cells b = toCells p (interleaved (pairsWith (W side0) b) (pairsWith (W side1) b))

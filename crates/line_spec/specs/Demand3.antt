@@ -7,14 +7,14 @@ use Rattle.calls.specs.Sequences.{At, Run, accepted}
 use Rattle.pair_spec.specs.History.{depth}
 use Rattle.pair_spec.specs.Calls.{encodeBuffers, receiveBuffers, Encoding, encode, Encodings, Receiving, receive, Receivings, start}
 use Rattle.pair_spec.specs.Promise.{Promise}
-use Rattle.cells_spec.specs.Profile.{Profile, buffersIn, rowsIn}
+use Rattle.cells_spec.specs.Modulation.{Modulation, buffersIn, rowsIn}
 use Rattle.line_spec.specs.Sides.{Side}
 use Rattle.line_spec.specs.Line.{lineBit}
 use Rattle.line_spec.specs.Outward.{Outward, interleaving, mapping, framing, frames}
 use Rattle.line_spec.specs.Inward.{Inward, unframing, demapping, parting}
 
 -- What goes out, by itself.
-pub record Goes (p : Profile) (o : Outward p) : Type 0 where
+pub record Goes (p : Modulation) (o : Outward p) : Type 0 where
   -- "each is made for every buffer or sub-frame and accepted"
   pub interleaved : (b : ℕ) → b < buffersIn p (o .superframes) → Accepted (interleaving p o b .answer)
   pub mapped : (b : ℕ) → b < buffersIn p (o .superframes) → Accepted (mapping p o b .answer)
@@ -29,7 +29,7 @@ pub record Goes (p : Profile) (o : Outward p) : Type 0 where
       → encode c .written ≡ encodeBuffers (c .coded) (c .history)
 
 -- What comes in.
-pub record Comes (p : Profile) (o : Outward p) (i : Inward p o) : Type 0 where
+pub record Comes (p : Modulation) (o : Outward p) (i : Inward p o) : Type 0 where
   pub unframed : (f : ℕ) → f < 48 * o .superframes → Accepted (unframing p (o .superframes) (i .received) f .answer)
   pub demapped : (b : ℕ) → b < buffersIn p (o .superframes) → Accepted (demapping p (o .superframes) (i .received) b .answer)
   pub parted : (b : ℕ) → b < buffersIn p (o .superframes) → Accepted (parting p (o .superframes) (i .received) b .answer)
@@ -41,6 +41,6 @@ pub record Comes (p : Profile) (o : Outward p) (i : Inward p o) : Type 0 where
       → receive c .written ≡ receiveBuffers (c .payload) (c .marks) (c .history)
 
 -- "This is a single claim about the four lists together, and not one for each call."
-pub record Demand3 (p : Profile) (o : Outward p) (i : Inward p o) : Type 0 where
+pub record Demand3 (p : Modulation) (o : Outward p) (i : Inward p o) : Type 0 where
   pub goes : Goes p o
   pub comes : Comes p o i

@@ -14,8 +14,8 @@ use Rattle.pair_spec.specs.RowLaws.{word-at, backPlace, backPlace-lt}
 use Rattle.pair_spec.specs.RowLaws.{all-checked}
 use Rattle.pair_spec.specs.Calls.{Receiving, receive, Receivings}
 use Rattle.pair_spec.specs.Promise.{Limit, markOf, NotLost}
-use Rattle.cells_spec.specs.Profile.{Profile, buffersIn, pairsIn, rowsIn}
-use Rattle.cells_spec.specs.ProfileLaws.{width-pos}
+use Rattle.cells_spec.specs.Modulation.{Modulation, buffersIn, pairsIn, rowsIn}
+use Rattle.cells_spec.specs.ModulationLaws.{width-pos}
 use Rattle.line_spec.specs.Sides.{Side}
 use Rattle.line_spec.specs.Line.{lineBit}
 use Rattle.line_spec.specs.Outward.{Outward}
@@ -29,14 +29,14 @@ use Rattle.line_spec.specs.WrongLaws.{errors-front, errors-own, errors-m
 use Rattle.line_spec.specs.Witness.{comes-in-withRefused, exact, taken-row}
 
 -- Sent bits are bits.
-sent-bit : (p : Profile) (o : Outward p) (e : Side) (R C r c : ℕ) → R < rowsIn p (o .superframes) → C < 8 → r < 16 → c < 16
+sent-bit : (p : Modulation) (o : Outward p) (e : Side) (R C r c : ℕ) → R < rowsIn p (o .superframes) → C < 8 → r < 16 → c < 16
     → o .sent e R C r c < 2
 sent-bit p o e R C r c lR lC lr lc =
     subst (λ x. x < 2) (word-at (o .sent e) R C r c lr lc)
     (o .formulas e .words .code R r (omega (arith, length-payloads (o .calls e), o .filled e)) lr .bits (backPlace C r c)
     (backPlace-lt C r c lC lr lc))
 
-module _ (p : Profile) (o : Outward p) (w : Side → WordErrors (rowsIn p (o .superframes))) where
+module _ (p : Modulation) (o : Outward p) (w : Side → WordErrors (rowsIn p (o .superframes))) where
   -- Over every line with these errors: the mark is their number, ..
   module _ (i : Inward p o) (errors : (e : Side) → Errors (o .sent e) (lineBit p (i .received .frames) e) (rowsIn p (o .superframes)) (w e)) where
     pub errors-marked : (e : Side) (c : Receiving) → At (accepted Receivings (i .calls e)) (w e .R / 2) c
@@ -108,7 +108,7 @@ first-errors n R r j lR lr lj =
     }
 
 -- Of every outward run, for every word (R, r) and every number of wrong bits up to three in it, for each encoder its own.
-pub word-marked : (p : Profile) (o : Outward p) (R r : ℕ) → R < rowsIn p (o .superframes) → r < 16 → (j : Side → ℕ) → ((e : Side) → j e ≤ 3)
+pub word-marked : (p : Modulation) (o : Outward p) (R r : ℕ) → R < rowsIn p (o .superframes) → r < 16 → (j : Side → ℕ) → ((e : Side) → j e ≤ 3)
     → LentIn → LentBack → (i : Inward p o) × Marked p o R r j i
 unfolding first-errors
 word-marked p o R r lR lr j lj lent room =
@@ -123,11 +123,11 @@ word-marked p o R r lR lr j lj lent room =
     )
 
 -- Of every outward run that is not empty, word (20, 0), the first that has a front half: marked 1, marked 2, and lost.
-pub row-20 : (p : Profile) (n : ℕ) → 0 < n → 20 < rowsIn p n
+pub row-20 : (p : Modulation) (n : ℕ) → 0 < n → 20 < rowsIn p n
 unfolding buffersIn
 row-20 p n some = omega (arith, place-lt (p .bits) (width-pos p) 0 0 n some (width-pos p))
 
-module _ (p : Profile) (o : Outward p) (some : 0 < o .superframes) (lent : LentIn) (room : LentBack) where
+module _ (p : Modulation) (o : Outward p) (some : 0 < o .superframes) (lent : LentIn) (room : LentBack) where
   word-20-0 : (j : ℕ) → j ≤ 3 → (i : Inward p o) × Marked p o 20 0 (λ e. j) i
   word-20-0 j lj = word-marked p o 20 0 (row-20 p (o .superframes) some) (omega arith) (λ e. j) (λ e. lj) lent room
 

@@ -9,9 +9,9 @@ use lib.ListN.{length, getD}
 use Rattle.bits.specs.Lists.{tabulate}
 use Rattle.bits.specs.ListLaws.{length-tabulate, getD-tabulate}
 use Rattle.bits.specs.DigitLaws.{digit-lt}
-use Rattle.cells_spec.specs.Profile.{Profile, cellsPerBuffer, buffersIn}
+use Rattle.cells_spec.specs.Modulation.{Modulation, cellsPerBuffer, buffersIn}
 use Rattle.cells_spec.specs.Cells.{overheadRule, payloadRule, Legal}
-use Rattle.cells_spec.specs.ProfileLaws.{cells-pos}
+use Rattle.cells_spec.specs.ModulationLaws.{cells-pos}
 use Rattle.frame_spec.specs.Frames.{isOverhead, payloadBefore, payloadCells, payloadStart, ownOverhead, framed, frameRule, subFrameOf}
 use Rattle.frame_spec.specs.Frames.{cellOf}
 use Rattle.frame_spec.specs.FrameLaws.{own-length, own-legal, framed-length, framed-payload, framed-legal}
@@ -19,7 +19,7 @@ use Rattle.frame_spec.specs.PlaceLaws.{payload-index-lt, PayloadCellAt, located
 use Rattle.line_spec.specs.Line.{lineByte}
 use Rattle.line_spec.specs.LineLaws.{OnLine, buffer-lt, cell-lt, cell-buffer, cell-place}
 
-module _ (p : Profile) (cells : ℕ → List ℕ) where
+module _ (p : Modulation) (cells : ℕ → List ℕ) where
   -- Byte h of payload cell x of super-frame q, the payload of sub-frame f of the line, and its frame.
   unfoldable pub payloadByteOf : ℕ → ℕ → ℕ → ℕ
   payloadByteOf q x h = getD (cells (buffersIn p q + x / cellsPerBuffer p)) (x % cellsPerBuffer p * 2 + h) 0

@@ -12,7 +12,7 @@ use Rattle.calls.specs.Answers.{TurnedBack}
 use Rattle.word_spec.specs.Marks.{markMeaning}
 use Rattle.pair_spec.specs.Calls.{Encoding, encode, Encodings}
 use Rattle.pair_spec.specs.StateLaws.{refused-encoding}
-use Rattle.cells_spec.specs.Profile.{cellsPerBuffer, pairsIn, rowsIn}
+use Rattle.cells_spec.specs.Modulation.{cellsPerBuffer, pairsIn, rowsIn}
 use Rattle.cells_spec.specs.Profiles.{qam16, qam16-sizes}
 use Rattle.cells_spec.specs.Cells.{overheadRule, Legal}
 use Rattle.frame_spec.specs.Frames.{payloadCells}

@@ -11,7 +11,7 @@ use Rattle.calls.specs.Calls.{After}
 use Rattle.pair_spec.specs.Calls.{Receiving, Receivings, State, start}
 use Rattle.pair_spec.specs.Promise.{Limit}
 use Rattle.interleaver_spec.specs.Calls.{Deinterleaved, deinterleaveCall}
-use Rattle.cells_spec.specs.Profile.{Profile, cellsPerBuffer, pairsIn}
+use Rattle.cells_spec.specs.Modulation.{Modulation, cellsPerBuffer, pairsIn}
 use Rattle.cells_spec.specs.Cells.{overheadRule, Legal}
 use Rattle.cells_spec.specs.Calls.{demapCall}
 use Rattle.frame_spec.specs.Frames.{payloadCells, payloadStart, frameRule, subFrameOf}
@@ -31,7 +31,7 @@ pub record LentIn : Type 0 where
   pub pairs-long : (e : Side) (b : ℕ) → length (pairs e b) ≡ 10752
 
 -- What came off a line of n super-frames, legal but otherwise of any kind; the overhead list that unframing is lent, and the buffers.
-pub record ReceivedLine (p : Profile) (n : ℕ) : Type 0 where
+pub record ReceivedLine (p : Modulation) (n : ℕ) : Type 0 where
   pub frames : List (List ℕ)
   pub many : length frames ≡ 48 * n
   pub long : (f : ℕ) → f < 48 * n → length (getD frames f []) ≡ 7424
@@ -42,7 +42,7 @@ pub record ReceivedLine (p : Profile) (n : ℕ) : Type 0 where
   pub lent : LentIn
 
 -- The calls, "each is made for every buffer or sub-frame".
-module _ (p : Profile) (n : ℕ) (h : ReceivedLine p n) where
+module _ (p : Modulation) (n : ℕ) (h : ReceivedLine p n) where
   unfoldable pub unframing : ℕ → After (List ℕ)
   unframing f = unframeCall p (f % 48) (getD (h .frames) f []) (h .overhead) (h .lent .payload f)
 
@@ -69,7 +69,7 @@ module _ (p : Profile) (n : ℕ) (h : ReceivedLine p n) where
   receivedPair e P = tabulate 512 (λ i. getD (pairsBack e (P / 21)) (512 * (P % 21) + i) 0)
 
 -- The two lists of receiving calls on it.
-pub record Inward (p : Profile) (o : Outward p) : Type 0 where
+pub record Inward (p : Modulation) (o : Outward p) : Type 0 where
   pub received : ReceivedLine p (o .superframes)
   pub calls : Side → List Receiving
   pub last : Side → State

@@ -24,7 +24,7 @@ use Rattle.interleaver_spec.specs.Interleaving.{pairsBit, apart}
 use Rattle.interleaver_spec.specs.InterleavingLaws.{pairsBit-lt, bit-apart}
 use Rattle.interleaver_spec.specs.Calls.{Deinterleaved, afterDeinterleave}
 use Rattle.interleaver_spec.specs.CallLaws.{part-done}
-use Rattle.cells_spec.specs.Profile.{Profile, cellsPerBuffer, buffersIn, pairsIn, rowsIn}
+use Rattle.cells_spec.specs.Modulation.{Modulation, cellsPerBuffer, buffersIn, pairsIn, rowsIn}
 use Rattle.cells_spec.specs.Cells.{payloadRule, Legal, toBits}
 use Rattle.cells_spec.specs.CellLaws.{buffer-bits}
 use Rattle.cells_spec.specs.CallLaws.{demap-accepts}
@@ -40,7 +40,7 @@ use Rattle.line_spec.specs.Inward.{Inward}
 use Rattle.line_spec.specs.Demand3.{Comes}
 use Rattle.line_spec.specs.LineLaws.{cut-bit, OnLine, buffer-lt, cell-lt, line-bit}
 
-module _ (p : Profile) (n : ℕ) (h : ReceivedLine p n) where
+module _ (p : Modulation) (n : ℕ) (h : ReceivedLine p n) where
   -- ---- the calls, and the cells that they give
 
   pub unframing-is : (f : ℕ) → f < 48 * n
@@ -163,7 +163,7 @@ pub length-payloads : (cs : List Encoding) → length (payloads cs) ≡ length (
 unfolding payloads
 length-payloads cs = length-map (accepted Encodings cs) (λ (c : Encoding). c .payload)
 
-module _ (p : Profile) (o : Outward p) (i : Inward p o) where
+module _ (p : Modulation) (o : Outward p) (i : Inward p o) where
   pub takes : (e : Side) → Takes (lineBit p (i .received .frames) e) (i .calls e)
   takes e =
       record {

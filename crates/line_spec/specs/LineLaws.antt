@@ -15,9 +15,9 @@ use Rattle.interleaver_spec.specs.Interleaving.{pairsBit, pairsOf, interleaved}
 use Rattle.interleaver_spec.specs.PositionLaws.{outputFor}
 use Rattle.interleaver_spec.specs.InterleavingLaws.{pairsBit-lt, outputOf-lt, output-for, length-interleaved, interleaved-below}
 use Rattle.interleaver_spec.specs.InterleavingLaws.{bit-interleaved-for}
-use Rattle.cells_spec.specs.Profile.{Profile, symbolOf, cellsPerBuffer, buffersIn}
+use Rattle.cells_spec.specs.Modulation.{Modulation, symbolOf, cellsPerBuffer, buffersIn}
 use Rattle.cells_spec.specs.Cells.{toCells, toBits}
-use Rattle.cells_spec.specs.ProfileLaws.{width-pos, buffer-whole, cells-pos}
+use Rattle.cells_spec.specs.ModulationLaws.{width-pos, buffer-whole, cells-pos}
 use Rattle.cells_spec.specs.CellLaws.{toBits-bit, buffer-bits, buffer-back}
 use Rattle.line_spec.specs.Sides.{Side, side0, side1, encoder}
 use Rattle.line_spec.specs.Line.{outputPosition, payloadCellOf, lineByte, lineBit}
@@ -112,7 +112,7 @@ module _ (R C r c : ℕ) (lC : C < 8) (lr : r < 16) (lc : c < 16) where
 
 -- ---- the bits of a line by the cells of its buffers
 
-module _ (p : Profile) where
+module _ (p : Modulation) where
   -- The cells of buffer b, as they lie on a line.
   pub record OnLine (frames : List (List ℕ)) (b : ℕ) (cells : List ℕ) : Type 0 where
     pub size : length cells ≡ cellsPerBuffer p * 2

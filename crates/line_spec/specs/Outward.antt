@@ -12,7 +12,7 @@ use Rattle.pair_spec.specs.Rows.{RowBits}
 use Rattle.pair_spec.specs.Sent.{Sent}
 use Rattle.pair_spec.specs.Calls.{Encoding, encode, Encodings, State, start, payloads}
 use Rattle.interleaver_spec.specs.Calls.{interleaveCall}
-use Rattle.cells_spec.specs.Profile.{Profile, cellsPerBuffer, buffersIn, pairsIn}
+use Rattle.cells_spec.specs.Modulation.{Modulation, cellsPerBuffer, buffersIn, pairsIn}
 use Rattle.cells_spec.specs.Cells.{overheadRule, Legal}
 use Rattle.cells_spec.specs.Calls.{mapCall}
 use Rattle.frame_spec.specs.Frames.{payloadCells, payloadStart}
@@ -21,7 +21,7 @@ use Rattle.line_spec.specs.Sides.{Side, side0, side1}
 
 -- Output buffers lent to the line calls, of any content and the stated length: bits and cells for each buffer b, a frame for each
 -- sub-frame f of the line.
-pub record LentOut (p : Profile) : Type 0 where
+pub record LentOut (p : Modulation) : Type 0 where
   pub bits : ℕ → List ℕ
   pub cells : ℕ → List ℕ
   pub frame : ℕ → List ℕ
@@ -30,7 +30,7 @@ pub record LentOut (p : Profile) : Type 0 where
   pub frame-long : (f : ℕ) → length (frame f) ≡ 7424
 
 -- "Payloads are free. The two encoding lists have equally many accepted calls, filling whole super-frames, none at all included."
-pub record Outward (p : Profile) : Type 0 where
+pub record Outward (p : Modulation) : Type 0 where
   pub superframes : ℕ
   pub calls : Side → List Encoding
   pub last : Side → State
@@ -53,7 +53,7 @@ unfoldable pub pairsOfBuffer : List (List ℕ) → ℕ → List ℕ
 pairsOfBuffer pairs b = tabulate 10752 (λ i. getD (getD pairs (21 * b + i / 512) []) (i % 512) 0)
 
 -- The calls, "each is made for every buffer or sub-frame".
-module _ (p : Profile) (o : Outward p) where
+module _ (p : Modulation) (o : Outward p) where
   unfoldable pub interleaving : ℕ → After (List ℕ)
   interleaving b =
       interleaveCall (pairsOfBuffer (codedPairs (o .calls side0)) b) (pairsOfBuffer (codedPairs (o .calls side1)) b) (o .lent .bits b)

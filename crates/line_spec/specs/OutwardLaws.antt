@@ -18,7 +18,7 @@ use Rattle.pair_spec.specs.PromiseLaws.{coded-sent}
 use Rattle.interleaver_spec.specs.Interleaving.{interleaved}
 use Rattle.interleaver_spec.specs.InterleavingLaws.{length-interleaved}
 use Rattle.interleaver_spec.specs.CallLaws.{join-done}
-use Rattle.cells_spec.specs.Profile.{Profile, cellsPerBuffer, rowsIn}
+use Rattle.cells_spec.specs.Modulation.{Modulation, cellsPerBuffer, rowsIn}
 use Rattle.cells_spec.specs.Cells.{payloadRule, Legal, toCells}
 use Rattle.cells_spec.specs.CellLaws.{toCells-legal, buffer-cells}
 use Rattle.cells_spec.specs.Calls.{mapCall}
@@ -44,7 +44,7 @@ length-pairs : (pairs : List (List ℕ)) (b : ℕ) → length (pairsOfBuffer pai
 unfolding pairsOfBuffer
 length-pairs pairs b = length-tabulate 10752 (λ i. getD (getD pairs (21 * b + i / 512) []) (i % 512) 0)
 
-module _ (p : Profile) (o : Outward p) where
+module _ (p : Modulation) (o : Outward p) where
   -- ---- the calls
 
   -- The pairs of buffer b, of either encoder, and the bits that they give.

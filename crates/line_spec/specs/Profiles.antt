@@ -4,7 +4,7 @@ use mathlib.Core.Path.{_≡_}
 use mathlib.Core.List.{List}
 use Prim.Native.Nat.{ℕ, _+_, _*_, _/_, _%_}
 use Rattle.bits.specs.Bits.{bitOf}
-use Rattle.cells_spec.specs.Profile.{symbolOf, cellsPerBuffer}
+use Rattle.cells_spec.specs.Modulation.{symbolOf, cellsPerBuffer}
 use Rattle.cells_spec.specs.Profiles.{qam16}
 use Rattle.line_spec.specs.Sides.{Side}
 use Rattle.line_spec.specs.Line.{outputPosition, payloadCellOf, lineByte, lineBit}

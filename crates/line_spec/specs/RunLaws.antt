@@ -14,7 +14,7 @@ use Rattle.pair_spec.specs.Calls.{State, start, Encoding, encode, Encodings, Re
 use Rattle.pair_spec.specs.CallLaws.{EncodeFits, encode-accepted, encode-accepts, ReceiveFits, receive-accepts}
 use Rattle.pair_spec.specs.StateLaws.{Ready, ready-fresh, encode-ready, refused-receiving, receive-ready}
 use Rattle.pair_spec.specs.PromiseLaws.{encoder-lent}
-use Rattle.cells_spec.specs.Profile.{Profile, pairsIn}
+use Rattle.cells_spec.specs.Modulation.{Modulation, pairsIn}
 use Rattle.line_spec.specs.Sides.{Side}
 use Rattle.line_spec.specs.Outward.{Outward}
 use Rattle.line_spec.specs.Inward.{ReceivedLine, receivedPair}
@@ -29,7 +29,7 @@ use Rattle.line_spec.specs.Runs.{Given, encodingOf, encodings, LentBack,
 pub empty-receiving-refused : TurnedBack (receive emptyReceiving .answer)
 empty-receiving-refused = refused-receiving emptyReceiving (λ e. omega arith)
 
-module _ (p : Profile) (g : Given p) (e : Side) where
+module _ (p : Modulation) (g : Given p) (e : Side) where
   fits : (P : ℕ) (s : State) → P < pairsIn p (g .superframes) → Ready P s → EncodeFits (encodingOf p g e P s)
   fits P s l r =
       record {
@@ -75,7 +75,7 @@ module _ (p : Profile) (g : Given p) (e : Side) where
 -- ---- receiving
 
 -- The pair numbers of what goes out are below 4,294,967,295.
-pub pairs-within : (p : Profile) (o : Outward p) (e : Side) → pairsIn p (o .superframes) ≤ 4294967295
+pub pairs-within : (p : Modulation) (o : Outward p) (e : Side) → pairsIn p (o .superframes) ≤ 4294967295
 pairs-within p o e = go (decLt 4294967295 (pairsIn p (o .superframes)))
   where
     go : Dec (4294967295 < pairsIn p (o .superframes)) → pairsIn p (o .superframes) ≤ 4294967295
@@ -85,7 +85,7 @@ pairs-within p o e = go (decLt 4294967295 (pairsIn p (o .superframes)))
         absurd (encode-accepted (f .0) (is-accepted Encodings (o .calls e) (f .1)) .0 .pair number)
     go (no l) = omega arith
 
-module _ (p : Profile) (n : ℕ) (h : ReceivedLine p n) (room : LentBack) (small : pairsIn p n ≤ 4294967295) (e : Side) where
+module _ (p : Modulation) (n : ℕ) (h : ReceivedLine p n) (room : LentBack) (small : pairsIn p n ≤ 4294967295) (e : Side) where
   fits-back : (P : ℕ) (s : State) → P < pairsIn p n → Ready P s → ReceiveFits (receivingOf p n h room e P s)
   fits-back P s l r =
       record {

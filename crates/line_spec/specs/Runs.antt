@@ -14,7 +14,7 @@ use Rattle.pair_spec.specs.Rows.{RowBits, wordOf}
 use Rattle.pair_spec.specs.History.{depth}
 use Rattle.pair_spec.specs.Calls.{State, start, Encoding, Encodings, Receiving, Receivings, receive, payloads}
 use Rattle.pair_spec.specs.Promise.{wrongBits, markOf, NotLost, AsSent}
-use Rattle.cells_spec.specs.Profile.{Profile, pairsIn, rowsIn}
+use Rattle.cells_spec.specs.Modulation.{Modulation, pairsIn, rowsIn}
 use Rattle.cells_spec.specs.Cells.{overheadRule, Legal}
 use Rattle.line_spec.specs.Sides.{Side}
 use Rattle.line_spec.specs.Line.{lineBit}
@@ -26,7 +26,7 @@ use Rattle.line_spec.specs.CallLists.{oneByOne}
 
 -- Any payloads of 444 bytes that fill super-frames within the 32-bit pair number, any legal overhead list, and lent buffers of any
 -- content and the stated length.
-pub record Given (p : Profile) : Type 0 where
+pub record Given (p : Modulation) : Type 0 where
   pub superframes : ℕ
   pub within : pairsIn p superframes ≤ 4294967295
   pub payloads : Side → List (List ℕ)
@@ -40,11 +40,11 @@ pub record Given (p : Profile) : Type 0 where
   pub lent : LentOut p
 
 -- Encoding call P, lent the state that the one before left.
-abbrev pub encodingOf : (p : Profile) → Given p → Side → ℕ → State → Encoding
+abbrev pub encodingOf : (p : Modulation) → Given p → Side → ℕ → State → Encoding
 encodingOf p g e P s = record { payload = getD (g .payloads e) P []; coded = g .coded e P; history = s .history; pair = s .pair }
 
 -- The calls of an encoder, with no refused one among them.
-unfoldable pub encodings : (p : Profile) → Given p → Side → List Encoding
+unfoldable pub encodings : (p : Modulation) → Given p → Side → List Encoding
 encodings p g e = oneByOne Encodings (encodingOf p g e) (pairsIn p (g .superframes)) 0 start
 
 -- Buffers lent to receiving calls.
@@ -54,7 +54,7 @@ pub record LentBack : Type 0 where
   pub payload-long : (e : Side) (P : ℕ) → length (payload e P) ≡ 444
   pub marks-long : (e : Side) (P : ℕ) → length (marks e P) ≡ 32
 
-module _ (p : Profile) (n : ℕ) (h : ReceivedLine p n) (room : LentBack) where
+module _ (p : Modulation) (n : ℕ) (h : ReceivedLine p n) (room : LentBack) where
   -- Receiving call P on received pair P, and the calls of a receiver that takes the first m pairs.
   abbrev pub receivingOf : Side → ℕ → State → Receiving
   receivingOf e P s =
@@ -73,7 +73,7 @@ emptyReceiving = record { coded = []; payload = []; marks = []; history = []; pa
 -- ---- a line that alters nothing
 
 -- Of every pair taken, every mark is 0 and all payload comes back.
-pub record AllBack (p : Profile) (o : Outward p) (i : Inward p o) : Type 0 where
+pub record AllBack (p : Modulation) (o : Outward p) (i : Inward p o) : Type 0 where
   pub marks : (e : Side) (P : ℕ) (c : Receiving) → At (accepted Receivings (i .calls e)) P c → (w : ℕ) → w < 32
       → getD (receive c .written .marks) w 0 ≡ 0
   pub payload : (e : Side) (P : ℕ) (c : Receiving) → At (accepted Receivings (i .calls e)) P c → (j : ℕ) → j < 3552
@@ -97,7 +97,7 @@ pub record Errors (S W : RowBits) (n : ℕ) (w : WordErrors n) : Type 0 where
   pub right : (Q D s d : ℕ) → Q < n → D < 8 → s < 16 → d < 16 → (Q ≡ w .R → s ≡ w .r → ⊥) → W Q D s d ≡ S Q D s d
 
 -- A line with just these errors in a word of each encoder, and receivers that take all its pairs.
-pub record Erring (p : Profile) (o : Outward p) (w : Side → WordErrors (rowsIn p (o .superframes))) (i : Inward p o) : Type 0 where
+pub record Erring (p : Modulation) (o : Outward p) (w : Side → WordErrors (rowsIn p (o .superframes))) (i : Inward p o) : Type 0 where
   pub errors : (e : Side) → Errors (o .sent e) (lineBit p (i .received .frames) e) (rowsIn p (o .superframes)) (w e)
   pub all : (e : Side) → length (accepted Receivings (i .calls e)) ≡ pairsIn p (o .superframes)
   -- The mark of that word is the number of its errors: 1, 2, or 3 for lost.
@@ -113,7 +113,7 @@ unfoldable pub firstPlaces : ℕ → ℕ → ℕ
 firstPlaces j k = cond (ltb k j) 1 0
 
 -- Receivers that take all pairs of a line on which word (R, r) of encoder e has j e wrong bits, and mark it so: 1, 2, or 3 for lost.
-pub record Marked (p : Profile) (o : Outward p) (R r : ℕ) (j : Side → ℕ) (i : Inward p o) : Type 0 where
+pub record Marked (p : Modulation) (o : Outward p) (R r : ℕ) (j : Side → ℕ) (i : Inward p o) : Type 0 where
   pub all : (e : Side) → length (accepted Receivings (i .calls e)) ≡ pairsIn p (o .superframes)
   pub wrong : (e : Side) → wrongBits (o .sent e) (lineBit p (i .received .frames) e) R r ≡ j e
   pub mark : (e : Side) (c : Receiving) → At (accepted Receivings (i .calls e)) (R / 2) c → markOf (receive c) R r ≡ j e

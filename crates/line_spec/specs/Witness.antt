@@ -23,7 +23,7 @@ use Rattle.pair_spec.specs.CallLaws.{encode-accepted, encode-separate, receive-
 use Rattle.pair_spec.specs.StateLaws.{receive-payload-length, payload-bytes}
 use Rattle.pair_spec.specs.Promise.{wrongBits, Limit, markOf, NotLost}
 use Rattle.pair_spec.specs.PromiseLaws.{mark-exact}
-use Rattle.cells_spec.specs.Profile.{Profile, pairsIn, rowsIn}
+use Rattle.cells_spec.specs.Modulation.{Modulation, pairsIn, rowsIn}
 use Rattle.cells_spec.specs.Cells.{overheadRule, Legal}
 use Rattle.line_spec.specs.Sides.{Side}
 use Rattle.line_spec.specs.Line.{lineBit}
@@ -42,7 +42,7 @@ use Rattle.line_spec.specs.WrongLaws.{same-words, none-wrong}
 -- ---- what goes out
 
 -- For all payloads, and whatever refused calls stand before, between and after, there is a run of what goes out.
-pub goes-out : (p : Profile) (g : Given p) (calls : Side → List Encoding) → ((e : Side) → Among Encodings (encodings p g e) (calls e))
+pub goes-out : (p : Modulation) (g : Given p) (calls : Side → List Encoding) → ((e : Side) → Among Encodings (encodings p g e) (calls e))
     → (o : Outward p) × (o .superframes ≡ g .superframes) × (o .calls ≡ calls) × ((e : Side) → payloads (o .calls e) ≡ g .payloads e)
 unfolding payloads
 goes-out p g calls among = (
@@ -72,7 +72,7 @@ goes-out p g calls among = (
 -- For all that goes out, for every m up to the pairs of the line, for every line within the limit in the first m pairs, and whatever
 -- refused calls stand before, between and after, there are receiving calls that take just the first m pairs; m may be another for each
 -- encoder.
-pub comes-in : (p : Profile) (o : Outward p) (h : ReceivedLine p (o .superframes)) (m : Side → ℕ)
+pub comes-in : (p : Modulation) (o : Outward p) (h : ReceivedLine p (o .superframes)) (m : Side → ℕ)
     → ((e : Side) → m e ≤ pairsIn p (o .superframes))
     → ((e : Side) → Limit (o .sent e) (lineBit p (h .frames) e) (m e)) → (room : LentBack)
     → (calls : Side → List Receiving) → ((e : Side) → Among Receivings (receivings p (o .superframes) h room e (m e)) (calls e))
@@ -99,7 +99,7 @@ comes-in p o h m most limit room calls among = (
     many e = ap length (taken e) ∙ length-receivings p (o .superframes) h room (pairs-within p o e) e (m e) (most e)
 
 -- And with any refused call before each of them and after the last.
-pub comes-in-withRefused : (p : Profile) (o : Outward p) (h : ReceivedLine p (o .superframes)) (m : Side → ℕ)
+pub comes-in-withRefused : (p : Modulation) (o : Outward p) (h : ReceivedLine p (o .superframes)) (m : Side → ℕ)
     → ((e : Side) → m e ≤ pairsIn p (o .superframes))
     → ((e : Side) → Limit (o .sent e) (lineBit p (h .frames) e) (m e)) → LentBack → (y : Receiving) → TurnedBack (receive y .answer)
     → (i : Inward p o) × (i .received ≡ h) × ((e : Side) → i .calls e ≡ withRefused Receivings y (accepted Receivings (i .calls e)))
@@ -119,7 +119,7 @@ comes-in-withRefused p o h m most limit room y bad =
 -- ---- a line that alters nothing
 
 -- The frames of what goes out are a line.
-pub unaltered : (p : Profile) (o : Outward p) (overhead : List ℕ) → length overhead ≡ 12288 → Legal overheadRule overhead → LentIn
+pub unaltered : (p : Modulation) (o : Outward p) (overhead : List ℕ) → length overhead ≡ 12288 → Legal overheadRule overhead → LentIn
     → (h : ReceivedLine p (o .superframes)) × (h .frames ≡ frames p o)
 unaltered p o overhead long legal lent = (
   record {
@@ -135,7 +135,7 @@ unaltered p o overhead long legal lent = (
   refl,
 )
 
-module _ (p : Profile) (o : Outward p) (h : ReceivedLine p (o .superframes)) (same : h .frames ≡ frames p o) where
+module _ (p : Modulation) (o : Outward p) (h : ReceivedLine p (o .superframes)) (same : h .frames ≡ frames p o) where
   pub unaltered-bits : (e : Side) (R C r c : ℕ) → R < rowsIn p (o .superframes) → C < 8 → r < 16 → c < 16
       → lineBit p (h .frames) e R C r c ≡ o .sent e R C r c
   unaltered-bits e R C r c lR lC lr lc = ap (λ (f : List (List ℕ)). lineBit p f e R C r c) same ∙ goes p o .holds e R C r c lR lC lr lc
@@ -149,14 +149,14 @@ module _ (p : Profile) (o : Outward p) (h : ReceivedLine p (o .superframes)) (sa
   unaltered-limit e m l = record { three = λ R r lR lr _. omega (arith, unaltered-none-wrong e R r (omega arith) lr) }
 
 -- So for every m up to the pairs of the line there are receivers that take just the first m.
-pub first-pairs : (p : Profile) (o : Outward p) (m : Side → ℕ) → ((e : Side) → m e ≤ pairsIn p (o .superframes)) → LentIn → LentBack
+pub first-pairs : (p : Modulation) (o : Outward p) (m : Side → ℕ) → ((e : Side) → m e ≤ pairsIn p (o .superframes)) → LentIn → LentBack
     → (i : Inward p o) × ((e : Side) → length (accepted Receivings (i .calls e)) ≡ m e)
 first-pairs p o m most lent room =
     let h = unaltered p o (o .overhead) (o .overhead-long) (o .overhead-legal) lent in
     let back = comes-in-withRefused p o (h .0) m most (λ e. unaltered-limit p o (h .0) (h .1) e (m e) (most e)) room emptyReceiving empty-receiving-refused in
     (back .0, back .3)
 
-module _ (p : Profile) (o : Outward p) (i : Inward p o) where
+module _ (p : Modulation) (o : Outward p) (i : Inward p o) where
   -- Where the front half of a word was delivered right, its mark is the number of its wrong bits.
   pub exact : (e : Side) (R r : ℕ) (c : Receiving) → r < 16 → At (accepted Receivings (i .calls e)) (R / 2) c
       → ((k : ℕ) → k < 128 → wordOf (lineBit p (i .received .frames) e) R r k ≡ wordOf (o .sent e) R r k)
@@ -221,7 +221,7 @@ module _ (p : Profile) (o : Outward p) (i : Inward p o) where
               rows e = length-payloads (o .calls e) ∙ o .filled e
 
 -- Where the payload is bytes, it comes back whole.
-pub payload-whole : (p : Profile) (o : Outward p) (i : Inward p o) → AllBack p o i → (e : Side) (P : ℕ) (c : Receiving)
+pub payload-whole : (p : Modulation) (o : Outward p) (i : Inward p o) → AllBack p o i → (e : Side) (P : ℕ) (c : Receiving)
     → At (accepted Receivings (i .calls e)) P c
     → ((j : ℕ) → getD (getD (payloads (o .calls e)) P []) j 0 < 256) → receive c .written .payload ≡ getD (payloads (o .calls e)) P []
 unfolding payloads
@@ -244,7 +244,7 @@ payload-whole p o i back e P c a bytes =
 
 -- So for all payloads there are runs, there and back, that take all pairs and bring all payload back, with any refused call before, between
 -- and after.
-pub there-and-back : (p : Profile) (g : Given p) → LentIn → LentBack → (x : Encoding) → TurnedBack (encode x .answer) → (y : Receiving)
+pub there-and-back : (p : Modulation) (g : Given p) → LentIn → LentBack → (x : Encoding) → TurnedBack (encode x .answer) → (y : Receiving)
     → TurnedBack (receive y .answer)
     → (o : Outward p) × (i : Inward p o) × ((e : Side) → o .calls e ≡ withRefused Encodings x (encodings p g e)) × ((e : Side) → payloads (o .calls e) ≡ g .payloads e)
     × ((e : Side) → length (accepted Receivings (i .calls e)) ≡ pairsIn p (o .superframes)) × AllBack p o i

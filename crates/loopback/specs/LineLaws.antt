@@ -13,9 +13,9 @@ use Rattle.bits.specs.PartLaws.{part-length, endToEnd-length, endToEnd-at, each
 use Rattle.calls.specs.declared.Answer.{Answer}
 use Rattle.calls.specs.Answers.{valueOr}
 use Rattle.interleaver_spec.specs.Calls.{Deinterleaved, afterDeinterleave}
-use Rattle.cells_spec.specs.Profile.{Profile, cellsPerBuffer}
+use Rattle.cells_spec.specs.Modulation.{Modulation, cellsPerBuffer}
 use Rattle.cells_spec.specs.Profiles.{qam16}
-use Rattle.cells_spec.specs.ProfileLaws.{buffer-whole}
+use Rattle.cells_spec.specs.ModulationLaws.{buffer-whole}
 use Rattle.cells_spec.specs.Cells.{overheadRule, Legal}
 use Rattle.cells_spec.specs.CellLaws.{none-illegal}
 use Rattle.frame_spec.specs.Frames.{payloadCells, payloadStart, ownOverhead, frameRule}
@@ -34,7 +34,7 @@ use Rattle.loopback.specs.Line.{damagedLine, pairsOff, Taken, lineIn, al
 -- ---- legal
 
 -- The frames of a super-frame are legal.
-module _ (p : Profile) (pairs0 pairs1 list : List ℕ) (ll : length list ≡ 12288) (hl : Legal overheadRule list) where
+module _ (p : Modulation) (pairs0 pairs1 list : List ℕ) (ll : length list ≡ 12288) (hl : Legal overheadRule list) where
   cells-long : length (payloadOfPairs p pairs0 pairs1) ≡ 344064
   unfolding payloadOfPairs
   cells-long = endToEnd-length (p .bits) (cellsPerBuffer p * 2) _ ∙ omega (arith, buffer-whole p)

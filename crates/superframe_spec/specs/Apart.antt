@@ -12,7 +12,7 @@ use Rattle.calls.specs.declared.Answer.the-variants.{Done}
 use Rattle.calls.specs.Calls.{call}
 use Rattle.interleaver_spec.specs.Interleaving.{apart}
 use Rattle.interleaver_spec.specs.Calls.{pairBuffers, Deinterleaved, afterDeinterleave}
-use Rattle.cells_spec.specs.Profile.{Profile, cellsPerBuffer}
+use Rattle.cells_spec.specs.Modulation.{Modulation, cellsPerBuffer}
 use Rattle.cells_spec.specs.Cells.{overheadRule, toBits}
 use Rattle.cells_spec.specs.Calls.{illegalIn}
 use Rattle.frame_spec.specs.Frames.{payloadStart, ownOverhead, frameRule, unframed, differing, subFrameOf}
@@ -25,10 +25,10 @@ unfoldable pub takenCells : List ℕ → List ℕ
 takenCells line = tabulate 344064 (λ j. takenByte line (j / 2) (j % 2))
 
 -- Buffer b of them gives 21 pairs of encoder e; and the pairs of all buffers.
-unfoldable pub bufferPairs : Profile → List ℕ → ℕ → ℕ → List ℕ
+unfoldable pub bufferPairs : Modulation → List ℕ → ℕ → ℕ → List ℕ
 bufferPairs p cells e b = apart (toBits p (partOf (cellsPerBuffer p * 2) cells b)) e
 
-unfoldable pub takenPairs : Profile → List ℕ → ℕ → List ℕ
+unfoldable pub takenPairs : Modulation → List ℕ → ℕ → List ℕ
 takenPairs p cells e = endToEnd (p .bits) 10752 (bufferPairs p cells e)
 
 -- "the number of overhead cells that differ from the lent list", in all sub-frames.
@@ -39,16 +39,16 @@ unfoldable pub differingAll : List ℕ → List ℕ → ℕ
 differingAll line overhead = count 48 (differingIn line overhead)
 
 -- A byte of the frames is judged by the rule of its place in its sub-frame.
-unfoldable pub lineRule : Profile → ℕ → ℕ → Bool
+unfoldable pub lineRule : Modulation → ℕ → ℕ → Bool
 lineRule p j v = frameRule p (j / 7424) (j % 7424) v
 
 -- What taking a super-frame apart gives: the number of differing overhead cells, and the pairs.
-abbrev pub takenApart : Profile → List ℕ → List ℕ → Deinterleaved
+abbrev pub takenApart : Modulation → List ℕ → List ℕ → Deinterleaved
 takenApart p line overhead =
     afterDeinterleave (Done (differingAll line overhead)) (takenPairs p (takenCells line) 0) (takenPairs p (takenCells line) 1)
 
 -- The step: No. 5, "an illegal byte in cells that the call reads", "overhead list first". The index counts in the whole overhead list, or
 -- in the 48 frames as they stand end to end.
-abbrev pub takeApart : Profile → List ℕ → List ℕ → List ℕ → List ℕ → Deinterleaved
+abbrev pub takeApart : Modulation → List ℕ → List ℕ → List ℕ → List ℕ → Deinterleaved
 takeApart p line overhead pairs0 pairs1 =
     call (illegalIn overheadRule overhead ∷ illegalIn (lineRule p) line ∷ []) (pairBuffers pairs0 pairs1) (takenApart p line overhead)

@@ -32,7 +32,7 @@ use Rattle.interleaver_spec.specs.Interleaving.{apart}
 use Rattle.interleaver_spec.specs.InterleavingLaws.{length-apart}
 use Rattle.interleaver_spec.specs.Calls.{Deinterleaved, afterDeinterleave, deinterleaveCall}
 use Rattle.interleaver_spec.specs.CallLaws.{deinterleave-pairs0, deinterleave-pairs1}
-use Rattle.cells_spec.specs.Profile.{Profile, cellsPerBuffer}
+use Rattle.cells_spec.specs.Modulation.{Modulation, cellsPerBuffer}
 use Rattle.cells_spec.specs.Profiles.{qam16}
 use Rattle.cells_spec.specs.Cells.{overheadRule, payloadRule, firstIllegal, Legal, toBits}
 use Rattle.cells_spec.specs.CellLaws.{buffer-bits}
@@ -51,7 +51,7 @@ use Rattle.superframe_spec.specs.SuperframeLaws.{part-legal, payload-wit
 
 -- ---- a sub-frame
 
-module _ (p : Profile) (s : ℕ) (ls : s < 48) (line : List ℕ) (ll : length line ≡ 356352) where
+module _ (p : Modulation) (s : ℕ) (ls : s < 48) (line : List ℕ) (ll : length line ≡ 356352) where
   frame-long : length (partOf 7424 line s) ≡ 7424
   frame-long = partOf-length 7424 48 s ls line ll
 
@@ -176,7 +176,7 @@ pub ruleset unframing-all =
     (unframing-none, unframing-more, unframing-within, unframing-lent, unframing-done, differing-fits, differing-done)
 
 -- The payload is legal.
-module _ (p : Profile) (line : List ℕ) (ll : length line ≡ 356352) (hl : Legal (lineRule p) line) where
+module _ (p : Modulation) (line : List ℕ) (ll : length line ≡ 356352) (hl : Legal (lineRule p) line) where
   taken-byte-legal : (x h : ℕ) → x < 172032 → h < 2 → p .illegal (takenByte line x h) ≡ false
   unfolding takenByte payloadRule
   taken-byte-legal x h lx lh =
@@ -199,7 +199,7 @@ module _ (p : Profile) (line : List ℕ) (ll : length line ≡ 356352) (hl : Leg
 -- ---- the pairs of a buffer
 
 -- Buffer b of n.
-module _ (p : Profile) (b f g : ℕ) (ef : f ≡ b * (cellsPerBuffer p * 2)) (eg : g ≡ f + cellsPerBuffer p * 2) (lb : b < p .bits) (cells : List ℕ)
+module _ (p : Modulation) (b f g : ℕ) (ef : f ≡ b * (cellsPerBuffer p * 2)) (eg : g ≡ f + cellsPerBuffer p * 2) (lb : b < p .bits) (cells : List ℕ)
     (lc : length cells ≡ p .bits * (cellsPerBuffer p * 2)) (hc : Legal (payloadRule p) cells) where
   own-cells : part f (g - f) cells ≡ partOf (cellsPerBuffer p * 2) cells b
   own-cells = let size : g - f ≡ cellsPerBuffer p * 2 = omega arith in ap₂ (λ x y. part x y cells) ef size
@@ -215,7 +215,7 @@ module _ (p : Profile) (b f g : ℕ) (ef : f ≡ b * (cellsPerBuffer p * 2)) (eg
       ∙ demap-accepts p (partOf (cellsPerBuffer p * 2) cells b) bits own-long l
       (part-legal p (b * (cellsPerBuffer p * 2)) (cellsPerBuffer p * 2) cells (part-within (cellsPerBuffer p * 2) (p .bits) b lb cells lc) hc))
 
-module _ (p : Profile) (b : ℕ) (lb : b < p .bits) (cells : List ℕ) (lc : length cells ≡ p .bits * (cellsPerBuffer p * 2)) (r : Answer) (x y s pairs0 pairs1 : List ℕ)
+module _ (p : Modulation) (b : ℕ) (lb : b < p .bits) (cells : List ℕ) (lc : length cells ≡ p .bits * (cellsPerBuffer p * 2)) (r : Answer) (x y s pairs0 pairs1 : List ℕ)
     (is : afterDeinterleave r x y ≡ deinterleaveCall s pairs0 pairs1) (es : s ≡ toBits p (partOf (cellsPerBuffer p * 2) cells b)) (l0 : length pairs0 ≡ 10752)
     (l1 : length pairs1 ≡ 10752) where
   bits-long : length s ≡ 21504
@@ -232,19 +232,19 @@ module _ (p : Profile) (b : ℕ) (lb : b < p .bits) (cells : List ℕ) (lc : len
 
 pub ruleset part-blocks = (demapped-bits, parted-pairs0, parted-pairs1)
 
-pub parted-block : (p : Profile) (cells : List ℕ) (e b : ℕ) (ys : List ℕ) → ys ≡ bufferPairs p cells e b
+pub parted-block : (p : Modulation) (cells : List ℕ) (e b : ℕ) (ys : List ℕ) → ys ≡ bufferPairs p cells e b
     → ys ≡ tabulate 10752 (λ i. byteOfEach 10752 (bufferPairs p cells e) (b * 10752 + i))
 unfolding bufferPairs
 parted-block p cells e b ys is = each-block (bufferPairs p cells e) 10752 b ys (lit< tt) (ap length is ∙ length-apart (toBits p (partOf (cellsPerBuffer p * 2) cells b)) e) is
 
-pub pairs-are : (p : Profile) (cells : List ℕ) (e : ℕ) (d : List ℕ)
+pub pairs-are : (p : Modulation) (cells : List ℕ) (e : ℕ) (d : List ℕ)
     → d ≡ tabulate (p .bits * 10752) (byteOfEach 10752 (bufferPairs p cells e)) → d ≡ takenPairs p cells e
 unfolding takenPairs endToEnd
 pairs-are p cells e d is = is
 
 pub ruleset parting-all = (parted-block, pairs-are)
 
-pub taken-is : (p : Profile) (line overhead cells x y : List ℕ) (n : ℕ) → n ≡ differingAll line overhead → cells ≡ takenCells line
+pub taken-is : (p : Modulation) (line overhead cells x y : List ℕ) (n : ℕ) → n ≡ differingAll line overhead → cells ≡ takenCells line
     → x ≡ takenPairs p cells 0
     → y ≡ takenPairs p cells 1 → afterDeinterleave (Done n) x y ≡ takenApart p line overhead
 taken-is p line overhead cells x y n en ec ex ey = rw (en, ex, ey, ec)
@@ -261,7 +261,7 @@ line-flat line at e =
 pub line-legal : (line : List ℕ) (at : ℕ) → at ≡ firstIllegal overheadRule line → length line ≤ at → Legal (lineRule qam16) line
 line-legal line at e l = demap-legal (lineRule qam16) line at (line-flat line at e) l
 
-pub apart-done : (p : Profile) (line overhead pairs0 pairs1 : List ℕ) (list : ℕ) → list ≡ firstIllegal overheadRule overhead
+pub apart-done : (p : Modulation) (line overhead pairs0 pairs1 : List ℕ) (list : ℕ) → list ≡ firstIllegal overheadRule overhead
     → length overhead ≤ list
     → (at : ℕ) → at ≡ firstIllegal (lineRule p) line → length line ≤ at → (x : Deinterleaved) → x ≡ takenApart p line overhead
     → x ≡ takeApart p line overhead pairs0 pairs1

@@ -22,9 +22,9 @@ use Rattle.pair_spec.specs.Stream.{pairReceiver, historyAt, payloadsOf, marksOf
 use Rattle.pair_spec.specs.StreamRunLaws.{stream-payload, stream-marks, stream-history}
 use Rattle.interleaver_spec.specs.Interleaving.{apart}
 use Rattle.interleaver_spec.specs.Calls.{afterDeinterleave}
-use Rattle.cells_spec.specs.Profile.{Profile, cellsPerBuffer, buffersIn}
+use Rattle.cells_spec.specs.Modulation.{Modulation, cellsPerBuffer, buffersIn}
 use Rattle.cells_spec.specs.Cells.{overheadRule, Legal, toBits}
-use Rattle.cells_spec.specs.ProfileLaws.{buffer-whole, cells-pos, width-pos}
+use Rattle.cells_spec.specs.ModulationLaws.{buffer-whole, cells-pos, width-pos}
 use Rattle.cells_spec.specs.CellLaws.{none-illegal}
 use Rattle.frame_spec.specs.Frames.{payloadStart, ownOverhead, frameRule, unframed, differing, subFrameOf}
 use Rattle.frame_spec.specs.PlaceLaws.{located}
@@ -38,7 +38,7 @@ use Rattle.superframe_spec.specs.Apart.{takeApart}
 use Rattle.superframe_spec.specs.ApartLaws.{taken-is, apart-done}
 use Rattle.superframe_spec.specs.LineLaws.{pairsPerSuperframe}
 
-module _ (p : Profile) (n : ℕ) (h : ReceivedLine p n) where
+module _ (p : Modulation) (n : ℕ) (h : ReceivedLine p n) where
   -- The frames of super-frame q, end to end, and the pairs received of an encoder.
   unfoldable pub receivedLine : ℕ → List ℕ
   receivedLine q = endToEnd 48 7424 (λ s. getD (h .frames) (48 * q + s) [])
@@ -209,7 +209,7 @@ module _ (p : Profile) (n : ℕ) (h : ReceivedLine p n) where
         stream-history cs (receivedPair p n h e) in-order run (pairsPerSuperframe p) n (λ r. receivedPairs r e) (pair-of e) q k lq lk c a
 
 -- Demand 3's receivers are such lists.
-module _ (p : Profile) (o : Outward p) (i : Inward p o) (e : Side) (q k : ℕ) (lq : q < o .superframes) (lk : k < pairsPerSuperframe p) (c : Receiving)
+module _ (p : Modulation) (o : Outward p) (i : Inward p o) (e : Side) (q k : ℕ) (lq : q < o .superframes) (lk : k < pairsPerSuperframe p) (c : Receiving)
     (a : At (accepted Receivings (i .calls e)) (pairsPerSuperframe p * q + k) c) where
   pub inward-payload : receive c .written .payload
       ≡ partOf 444 (payloadsOf (pairsPerSuperframe p) (historyBefore pairReceiver (pairsPerSuperframe p) (λ r. receivedPairs p (o .superframes) (i .received) r e) q) (pairsPerSuperframe p * q) (receivedPairs p (o .superframes) (i .received) q e)) k

@@ -16,9 +16,9 @@ use Rattle.pair_spec.specs.Calls.{payloads}
 use Rattle.pair_spec.specs.Stream.{pairEncoder, codedOf, historyBefore}
 use Rattle.pair_spec.specs.StreamRunLaws.{stream-coded}
 use Rattle.interleaver_spec.specs.Interleaving.{interleaved}
-use Rattle.cells_spec.specs.Profile.{Profile, cellsPerBuffer, buffersIn, pairsIn}
+use Rattle.cells_spec.specs.Modulation.{Modulation, cellsPerBuffer, buffersIn, pairsIn}
 use Rattle.cells_spec.specs.Cells.{toCells}
-use Rattle.cells_spec.specs.ProfileLaws.{buffer-whole, cells-pos}
+use Rattle.cells_spec.specs.ModulationLaws.{buffer-whole, cells-pos}
 use Rattle.frame_spec.specs.Frames.{payloadCells, payloadStart, ownOverhead, framed}
 use Rattle.frame_spec.specs.FrameLaws.{framed-length}
 use Rattle.line_spec.specs.Sides.{Side, side0, side1}
@@ -29,19 +29,19 @@ use Rattle.superframe_spec.specs.Superframe.{bufferCells, payloadOfPairs
 use Rattle.superframe_spec.specs.SuperframeLaws.{payload-within}
 
 -- The pairs of an encoder in a super-frame.
-abbrev pub pairsPerSuperframe : Profile → ℕ
+abbrev pub pairsPerSuperframe : Modulation → ℕ
 pairsPerSuperframe p = pairsIn p 1
 
 -- The coded pairs of super-frame q, end to end.
-unfoldable pub codedPairsIn : (p : Profile) → Outward p → ℕ → Side → List ℕ
+unfoldable pub codedPairsIn : (p : Modulation) → Outward p → ℕ → Side → List ℕ
 codedPairsIn p o q e = endToEnd (pairsPerSuperframe p) 512 (λ P. getD (codedPairs (o .calls e)) (pairsPerSuperframe p * q + P) [])
 
 -- Pair k of super-frame q of n.
-pair-lt : (p : Profile) (q k n : ℕ) → q < n → k < pairsPerSuperframe p → pairsPerSuperframe p * q + k < pairsIn p n
+pair-lt : (p : Modulation) (q k n : ℕ) → q < n → k < pairsPerSuperframe p → pairsPerSuperframe p * q + k < pairsIn p n
 unfolding buffersIn
 pair-lt p q k n lq lk = omega (arith, suc-mul q (p .bits), mul-le-mul-right (p .bits) lq)
 
-module _ (p : Profile) (o : Outward p) (q : ℕ) where
+module _ (p : Modulation) (o : Outward p) (q : ℕ) where
   -- Those of a buffer.
   buffer-pairs : (e : Side) (b : ℕ) → b < p .bits
       → partOf 10752 (codedPairsIn p o q e) b ≡ pairsOfBuffer (codedPairs (o .calls e)) (buffersIn p q + b)
@@ -130,7 +130,7 @@ module _ (p : Profile) (o : Outward p) (q : ℕ) where
 -- ---- from the payloads
 
 -- S gives the payload of each super-frame of each encoder, its pairs of 444 bytes.
-module _ (p : Profile) (o : Outward p) (S : Side → ℕ → List ℕ)
+module _ (p : Modulation) (o : Outward p) (S : Side → ℕ → List ℕ)
     (given : (e : Side) (q k : ℕ) → q < o .superframes → k < pairsPerSuperframe p → getD (payloads (o .calls e)) (pairsPerSuperframe p * q + k) [] ≡ partOf 444 (S e q) k) where
   -- The coded pairs of super-frame q, from its payload: the stream of pairs that is encoded from fresh.
   abbrev pub codedIn : ℕ → Side → List ℕ

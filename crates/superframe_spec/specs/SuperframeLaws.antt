@@ -19,9 +19,9 @@ use Rattle.interleaver_spec.specs.Interleaving.{interleaved}
 use Rattle.interleaver_spec.specs.InterleavingLaws.{length-interleaved}
 use Rattle.interleaver_spec.specs.Calls.{interleaveCall}
 use Rattle.interleaver_spec.specs.CallLaws.{interleave-bits}
-use Rattle.cells_spec.specs.Profile.{Profile, cellsPerBuffer}
+use Rattle.cells_spec.specs.Modulation.{Modulation, cellsPerBuffer}
 use Rattle.cells_spec.specs.Cells.{overheadRule, payloadRule, Legal}
-use Rattle.cells_spec.specs.ProfileLaws.{cells-pos}
+use Rattle.cells_spec.specs.ModulationLaws.{cells-pos}
 use Rattle.cells_spec.specs.CellLaws.{toCells-legal, buffer-cells}
 use Rattle.cells_spec.specs.Calls.{mapCall}
 use Rattle.cells_spec.specs.CallLaws.{map-accepts}
@@ -33,7 +33,7 @@ use Rattle.frame_spec.specs.CallLaws.{frame-accepts}
 use Rattle.superframe_spec.specs.Superframe.{bufferCells, payloadOfPairs, subFrame, framesEndToEnd, superframe}
 
 -- A part of legal payload is legal.
-pub part-legal : (p : Profile) (a n : ℕ) (s : List ℕ) → a + n ≤ length s → Legal (payloadRule p) s → Legal (payloadRule p) (part a n s)
+pub part-legal : (p : Modulation) (a n : ℕ) (s : List ℕ) → a + n ≤ length s → Legal (payloadRule p) s → Legal (payloadRule p) (part a n s)
 unfolding payloadRule
 part-legal p a n s l h =
     record { legal = λ k lk. let i : k < n = omega (arith, part-length a n s l) in ap (p .illegal) (part-at a n s l k i) ∙ h .legal (a + k) (omega arith) }
@@ -56,7 +56,7 @@ module _ (n b a e : ℕ) (ea : a ≡ b * 10752) (ee : e ≡ a + 10752) (lb : b <
       ∙ interleave-bits (part a (e - a) pairs0) (part a (e - a) pairs1) bits (pairs-long pairs0 l0) (pairs-long pairs1 l1) l
       ∙ ap₂ (λ x y. interleaved (part x y pairs0) (part x y pairs1)) ea own-pairs
 
-module _ (p : Profile) where
+module _ (p : Modulation) where
   pub mapped-cells : (b : ℕ) (pairs0 pairs1 : List ℕ) (r : Answer) (d s cells : List ℕ) → after r d ≡ mapCall p s cells
       → s ≡ interleaved (partOf 10752 pairs0 b) (partOf 10752 pairs1 b) → length cells ≡ cellsPerBuffer p * 2
       → d ≡ bufferCells p pairs0 pairs1 b
@@ -130,7 +130,7 @@ module _ (s a e : ℕ) (ls : s < 48) (ea : a ≡ payloadStart s * 2) (ee : e ≡
   own-part : e - a ≡ payloadCells s * 2
   own-part = omega (arith, next-start s)
 
-  pub sub-frame-is : (p : Profile) (r : Answer) (d cells overhead lent : List ℕ)
+  pub sub-frame-is : (p : Modulation) (r : Answer) (d cells overhead lent : List ℕ)
       → after r d ≡ frameCall p s (part a (e - a) cells) overhead lent → length cells ≡ 344064 → Legal (payloadRule p) cells
       → length overhead ≡ 12288 → Legal overheadRule overhead → length lent ≡ 7424 → d ≡ subFrame cells overhead s
   unfolding subFrame
@@ -163,7 +163,7 @@ pub ruleset frame-blocks = (frame-block, frames-are)
 
 -- ---- the super-frame
 
-pub superframe-is : (p : Profile) (pairs0 pairs1 overhead cells d : List ℕ) → cells ≡ payloadOfPairs p pairs0 pairs1
+pub superframe-is : (p : Modulation) (pairs0 pairs1 overhead cells d : List ℕ) → cells ≡ payloadOfPairs p pairs0 pairs1
     → d ≡ framesEndToEnd cells overhead → d ≡ superframe p pairs0 pairs1 overhead
 unfolding superframe
 superframe-is p pairs0 pairs1 overhead cells d e f = f ∙ ap (λ c. framesEndToEnd c overhead) e

@@ -1,25 +1,22 @@
 -- `cells::cells_to_bits` meets its contract: the tests in their order, and what it does.
 -- Assumes nothing.
-use borrow.Author.Needs.{needs}
-use Rattle.cells_spec.specs.Profile.{cellsPerBuffer}
-use Rattle.cells_spec.specs.Cells.{overheadRule, payloadRule}
-use Rattle.cells_spec.specs.Profiles.{qam16}
-use Rattle.calls.specs.CallLaws.{cases}
+use Rattle.calls.specs.CallLaws.{cases, misfit-of, fits-of}
 use Rattle.cells_spec.specs.CallLaws.{legality, demap-legal, demap-done}
+use borrow.Author.Needs.{needs}
 use Rattle.cells.proofs.cells_to_bits.Statement.{statement}
 use Rattle.cells.proofs.cells_to_bits.Tie as tie
 
-ruleset kit = (needs, cases, legality, demap-legal, demap-done)
+ruleset kit = (needs, cases, misfit-of, legality, demap-legal, demap-done)
 
 pub cells-to-bits-spec : {M : Type 1} → statement M
-unfolding qam16 cellsPerBuffer payloadRule overheadRule
 cells-to-bits-spec =
     tie.close
     (tie.spec
+    (λ c κs. search kit)  -- cell-bytes-requires
     (λ c. search kit)  -- returns
     (λ c. search kit)  -- returns-2
-    (λ c κs. search needs)  -- first-illegal-requires
+    (λ c κs. search kit)  -- first-illegal-payload-requires
     (λ c. search kit)  -- returns-3
-    (λ c κs. search kit)  -- demap-requires
-    (λ c. search needs)  -- same-length
-    (λ c. search kit))  -- returns-4
+    (λ c κs. (search needs, search (needs, fits-of), search (needs, demap-legal)))  -- demap-requires
+    (λ c. search kit)  -- same-length
+    (λ c. search (needs, demap-done)))  -- returns-4

@@ -4,11 +4,10 @@ use borrow.Author.Needs.{needs}
 use Rattle.calls.specs.CallLaws.{cases}
 use Rattle.cells_spec.specs.CallLaws.{legality}
 use Rattle.frame_spec.specs.CallLaws.{judging, frame-done}
-use Rattle.frame_spec.specs.Qam16Flat.{flat}
 use Rattle.frame.proofs.frame.Statement.{statement}
 use Rattle.frame.proofs.frame.Tie as tie
 
-ruleset kit = (needs, cases, legality, judging, flat)
+ruleset kit = (needs, cases, legality, judging)
 
 pub frame-spec : {M : Type 1} → statement M
 frame-spec =
@@ -25,4 +24,4 @@ frame-spec =
     (λ c κs. search kit)  -- own-overhead-requires
     (λ c κs. search kit)  -- place-requires
     (λ c. search needs)  -- same-length-3
-    (λ c. search (needs, flat, frame-done)))  -- returns-3
+    (λ c. search (needs, frame-done)))  -- returns-3

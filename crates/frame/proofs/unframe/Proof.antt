@@ -4,11 +4,10 @@ use borrow.Author.Needs.{needs}
 use Rattle.calls.specs.CallLaws.{cases}
 use Rattle.cells_spec.specs.CallLaws.{legality}
 use Rattle.frame_spec.specs.CallLaws.{judging, unframe-done}
-use Rattle.frame_spec.specs.Qam16Flat.{flat}
 use Rattle.frame.proofs.unframe.Statement.{statement}
 use Rattle.frame.proofs.unframe.Tie as tie
 
-ruleset kit = (needs, cases, legality, judging, flat)
+ruleset kit = (needs, cases, legality, judging)
 
 pub unframe-spec : {M : Type 1} → statement M
 unframe-spec =
@@ -19,11 +18,11 @@ unframe-spec =
     (λ c. search needs)  -- same-length
     (λ c. search kit)  -- returns
     (λ c. search needs)  -- enum-told
-    (λ c κs. search needs)  -- first-illegal-requires
+    (λ c κs. search kit)  -- first-illegal-requires
     (λ c. search needs)  -- same-length-2
     (λ c. search kit)  -- returns-2
     (λ c κs. search kit)  -- extract-requires
     (λ c κs. search kit)  -- own-overhead-requires
     (λ c κs. search kit)  -- differing-requires
     (λ c. search needs)  -- same-length-3
-    (λ c. search (needs, flat, unframe-done)))  -- returns-3
+    (λ c. search (needs, unframe-done)))  -- returns-3

@@ -1,7 +1,7 @@
 -- `superframe_buffers_core::buffer` meets its contract.
 -- Assumes nothing.
 use borrow.Author.Needs.{needs}
-use Rattle.cells_spec.specs.Profile.{cellsPerBuffer}
+use Rattle.cells_spec.specs.Modulation.{cellsPerBuffer}
 use Rattle.cells_spec.specs.Profiles.{qam16}
 use Rattle.superframe_spec.specs.SuperframeLaws.{buffering}
 use Rattle.superframe_buffers_core.proofs.buffer.Statement.{statement}

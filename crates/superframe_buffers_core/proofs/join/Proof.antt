@@ -3,7 +3,7 @@
 use Prim.Native.Nat.{_-_}
 use Rattle.bits.specs.Filling.{Blocks, by-blocks}
 use borrow.Author.Needs.{needs}
-use Rattle.cells_spec.specs.Profile.{cellsPerBuffer}
+use Rattle.cells_spec.specs.Modulation.{cellsPerBuffer}
 use Rattle.cells_spec.specs.Profiles.{qam16}
 use Rattle.bits.specs.Parts.{byteOfEach}
 use Rattle.superframe_spec.specs.Superframe.{bufferCells}

@@ -3,7 +3,7 @@
 use Prim.Native.Nat.{_-_}
 use Rattle.bits.specs.Filling.{Blocks, by-blocks}
 use Rattle.bits.specs.Parts.{byteOfEach}
-use Rattle.cells_spec.specs.Profile.{cellsPerBuffer}
+use Rattle.cells_spec.specs.Modulation.{cellsPerBuffer}
 use Rattle.cells_spec.specs.Profiles.{qam16}
 use Rattle.superframe_spec.specs.Apart.{bufferPairs}
 use Rattle.superframe_spec.specs.ApartLaws.{parting-all}

@@ -1,6 +1,6 @@
 -- `superframe_buffers_core::part_buffer` meets its contract.
 -- Assumes nothing.
-use Rattle.cells_spec.specs.Profile.{cellsPerBuffer}
+use Rattle.cells_spec.specs.Modulation.{cellsPerBuffer}
 use Rattle.cells_spec.specs.Profiles.{qam16}
 use Rattle.superframe_spec.specs.ApartLaws.{part-blocks}
 use borrow.Author.Needs.{needs}

@@ -10,7 +10,7 @@ use Rattle.cells_core.proofs.legal.highest.Tie as tie
 ruleset kit = (needs, by-highest)
 
 abbrev Inv-loop : tie.InvT-loop
-Inv-loop cells top₀ k₀ k-end top k = Highest cells k top
+Inv-loop cells top₀ k₀ k-end top k = Highest (λ v. v) cells k top
 
 abbrev μ-loop : tie.MeasureT-loop
 μ-loop cells top₀ k₀ k-end top k = length cells - k

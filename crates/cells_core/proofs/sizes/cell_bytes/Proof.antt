@@ -1,0 +1,20 @@
+-- `cells_core::sizes::cell_bytes` meets its contract, profile by profile.
+-- Assumes nothing.
+use Rattle.cells_spec.specs.Modulation.{cellsPerBuffer}
+use Rattle.cells_spec.specs.Profiles.{qam16, qpsk}
+use Rattle.cells_spec.specs.ProfileLaws.{by-profile}
+use borrow.Author.Needs.{needs}
+use Rattle.cells_core.proofs.sizes.cell_bytes.Statement.{statement}
+use Rattle.cells_core.proofs.sizes.cell_bytes.Tie as tie
+
+ruleset kit = (needs, by-profile)
+
+pub cell-bytes-spec : {M : Type 1} → statement M
+unfolding qam16 qpsk cellsPerBuffer
+cell-bytes-spec =
+    tie.close
+    (tie.spec
+    (λ c. search kit)  -- enum-told
+    (λ c. search kit)  -- enum-told-2
+    (λ c. search kit)  -- returns
+    (λ c. search kit))  -- returns-2
