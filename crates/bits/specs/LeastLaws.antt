@@ -38,6 +38,32 @@ least-past (suc n) p h k l = step (p zero) refl (least-past n (λ i. p (suc i)))
     step false e r g zero li = e
     step false e r g (suc i) li = r (le-of-suc-le-suc g) i (le-of-suc-le-suc li)
 
+-- Where it is below n it passes, and none below it does.
+pub least-passes : (n : ℕ) (p : ℕ → Bool) → least n p < n → p (least n p) ≡ true
+unfolding least
+least-passes zero p h = absurd (not-suc-le-zero h)
+least-passes (suc n) p h = step (p zero) refl (least-passes n (λ i. p (suc i))) h
+  where
+    m : ℕ
+    m = least n (λ i. p (suc i))
+
+    step : (b : Bool) → p zero ≡ b → (m < n → p (suc m) ≡ true) → cond b 0 (suc m) < suc n → p (cond b 0 (suc m)) ≡ true
+    step true e r g = e
+    step false e r g = r (le-of-suc-le-suc g)
+
+pub least-before : (n : ℕ) (p : ℕ → Bool) (k : ℕ) → k < least n p → p k ≡ false
+unfolding least
+least-before zero p k l = absurd (not-suc-le-zero l)
+least-before (suc n) p k l = step (p zero) refl (least-before n (λ i. p (suc i))) k l
+  where
+    m : ℕ
+    m = least n (λ i. p (suc i))
+
+    step : (b : Bool) → p zero ≡ b → ((j : ℕ) → j < m → p (suc j) ≡ false) → (i : ℕ) → i < cond b 0 (suc m) → p i ≡ false
+    step true e r i li = absurd (not-suc-le-zero li)
+    step false e r zero li = e
+    step false e r (suc i) li = r i (le-of-suc-le-suc li)
+
 -- The only number below n that passes.
 pub least-only : (n : ℕ) (p : ℕ → Bool) (k : ℕ) → k < n → p k ≡ true → ((j : ℕ) → j < n → p j ≡ true → j ≡ k) → least n p ≡ k
 least-only n p k l e only = least-is n p k l e (λ j lj. fails j lj (p j) refl)

@@ -7,22 +7,19 @@ use Prim.Native.Nat.{ℕ, _+_, _-_, _*_, _/_, _%_, _<_, _≤_}
 use native.Mathlib.Omega.{arith}
 use native.Mathlib.Numerals.{add-one}
 use borrow.Rule.Slice.PartMut.{putMid}
-use lib.Dec.{lit<, leb}
+use lib.Dec.{lit<}
 use lib.ListN.{length, getD}
 use mir.Syntax.{w32}
 use mir.Val.{Fits}
 use Rattle.bits.specs.Count.{count}
 use Rattle.bits.specs.CountLaws.{count-mono}
 use Rattle.bits.specs.DigitLaws.{group-of, place-of}
-use Rattle.bits.specs.Filling.{Filling, fill-none, fill-part, fill-done}
+use Rattle.bits.specs.Filling.{Filling, fill-none, fill-part, fill-done, Blocks, blocks-none, blocks-next, blocks-done}
 use Rattle.bits.specs.Folding.{Counting, count-done}
-use Rattle.bits.specs.LeastLaws.{least-ext}
 use Rattle.bits.specs.Lists.{tabulate}
 use Rattle.bits.specs.ListLaws.{length-tabulate, getD-tabulate, is-tabulate}
 use Rattle.bits.specs.Parts.{part, partOf, byteOfEach, endToEnd}
 use Rattle.bits.specs.PartLaws.{partOf-length, partOf-at, part-long, part-within, each-block}
-use Rattle.bits.specs.Seeking.{first}
-use Rattle.bits.specs.TestLaws.{either}
 use Rattle.calls.specs.declared.Answer.{Answer}
 use Rattle.calls.specs.declared.Answer.the-variants.{Done}
 use Rattle.calls.specs.Answers.{valueOr}
@@ -33,12 +30,11 @@ use Rattle.interleaver_spec.specs.InterleavingLaws.{length-apart}
 use Rattle.interleaver_spec.specs.Calls.{Deinterleaved, afterDeinterleave, deinterleaveCall}
 use Rattle.interleaver_spec.specs.CallLaws.{deinterleave-pairs0, deinterleave-pairs1}
 use Rattle.cells_spec.specs.Modulation.{Modulation, cellsPerBuffer}
-use Rattle.cells_spec.specs.Profiles.{qam16}
 use Rattle.cells_spec.specs.Cells.{overheadRule, payloadRule, firstIllegal, Legal, toBits}
 use Rattle.cells_spec.specs.CellLaws.{buffer-bits}
 use Rattle.cells_spec.specs.Calls.{demapCall}
-use Rattle.cells_spec.specs.CallLaws.{legality, demap-accepts, demap-legal}
-use Rattle.frame_spec.specs.Frames.{isOverhead, overheadCells, payloadCells, overheadStart, payloadStart, ownOverhead, cellRule, frameRule}
+use Rattle.cells_spec.specs.CallLaws.{legality, demap-accepts}
+use Rattle.frame_spec.specs.Frames.{overheadCells, payloadCells, overheadStart, payloadStart, ownOverhead, frameRule}
 use Rattle.frame_spec.specs.Frames.{unframed, subFrameOf, cellOf}
 use Rattle.frame_spec.specs.FrameLaws.{unframed-length, unframed-legal, differing-le, own-legal}
 use Rattle.frame_spec.specs.LayoutLaws.{own-within, payload-all}
@@ -47,12 +43,12 @@ use Rattle.frame_spec.specs.Calls.{unframeCall}
 use Rattle.frame_spec.specs.CallLaws.{unframe-accepts}
 use Rattle.superframe_spec.specs.Apart.{takenByte, takenCells, bufferPairs, takenPairs, differingIn, differingAll, lineRule}
 use Rattle.superframe_spec.specs.Apart.{takenApart, takeApart}
-use Rattle.superframe_spec.specs.SuperframeLaws.{part-legal, payload-within}
+use Rattle.superframe_spec.specs.SuperframeLaws.{part-legal, payload-size, payload-within}
 
 -- ---- a sub-frame
 
 module _ (p : Modulation) (s : ℕ) (ls : s < 48) (line : List ℕ) (ll : length line ≡ 356352) where
-  frame-long : length (partOf 7424 line s) ≡ 7424
+  pub frame-long : length (partOf 7424 line s) ≡ 7424
   frame-long = partOf-length 7424 48 s ls line ll
 
   -- The frames of a legal line are legal.
@@ -198,14 +194,14 @@ module _ (p : Modulation) (line : List ℕ) (ll : length line ≡ 356352) (hl : 
 
 -- ---- the pairs of a buffer
 
--- Buffer b of n.
-module _ (p : Modulation) (b f g : ℕ) (ef : f ≡ b * (cellsPerBuffer p * 2)) (eg : g ≡ f + cellsPerBuffer p * 2) (lb : b < p .bits) (cells : List ℕ)
-    (lc : length cells ≡ p .bits * (cellsPerBuffer p * 2)) (hc : Legal (payloadRule p) cells) where
+-- Buffer b, which stands from f to g; the code has c for the bytes of its cells.
+module _ (p : Modulation) (b f g c : ℕ) (ef : f ≡ b * c) (eg : g ≡ f + c) (ec : c ≡ cellsPerBuffer p * 2) (lb : b < p .bits) (cells : List ℕ)
+    (lc : length cells ≡ 344064) (hc : Legal (payloadRule p) cells) where
   own-cells : part f (g - f) cells ≡ partOf (cellsPerBuffer p * 2) cells b
-  own-cells = let size : g - f ≡ cellsPerBuffer p * 2 = omega arith in ap₂ (λ x y. part x y cells) ef size
+  own-cells = let size : g - f ≡ c = omega arith in ap₂ (λ x y. part x y cells) (ef ∙ ap (λ x. b * x) ec) (size ∙ ec)
 
   own-long : length (partOf (cellsPerBuffer p * 2) cells b) ≡ cellsPerBuffer p * 2
-  own-long = partOf-length (cellsPerBuffer p * 2) (p .bits) b lb cells lc
+  own-long = partOf-length (cellsPerBuffer p * 2) (p .bits) b lb cells (payload-size p (length cells) lc)
 
   pub demapped-bits : (r : Answer) (s bits : List ℕ) → after r s ≡ demapCall p (part f (g - f) cells) bits → length bits ≡ 21504
       → s ≡ toBits p (partOf (cellsPerBuffer p * 2) cells b)
@@ -213,14 +209,16 @@ module _ (p : Modulation) (b f g : ℕ) (ef : f ≡ b * (cellsPerBuffer p * 2)) 
       ap (λ (x : After (List ℕ)). x .written)
       (is ∙ ap (λ x. demapCall p x bits) own-cells
       ∙ demap-accepts p (partOf (cellsPerBuffer p * 2) cells b) bits own-long l
-      (part-legal p (b * (cellsPerBuffer p * 2)) (cellsPerBuffer p * 2) cells (part-within (cellsPerBuffer p * 2) (p .bits) b lb cells lc) hc))
+      (part-legal p (b * (cellsPerBuffer p * 2)) (cellsPerBuffer p * 2) cells
+      (part-within (cellsPerBuffer p * 2) (p .bits) b lb cells (payload-size p (length cells) lc)) hc))
 
-module _ (p : Modulation) (b : ℕ) (lb : b < p .bits) (cells : List ℕ) (lc : length cells ≡ p .bits * (cellsPerBuffer p * 2)) (r : Answer) (x y s pairs0 pairs1 : List ℕ)
+module _ (p : Modulation) (b : ℕ) (lb : b < p .bits) (cells : List ℕ) (lc : length cells ≡ 344064) (r : Answer) (x y s pairs0 pairs1 : List ℕ)
     (is : afterDeinterleave r x y ≡ deinterleaveCall s pairs0 pairs1) (es : s ≡ toBits p (partOf (cellsPerBuffer p * 2) cells b)) (l0 : length pairs0 ≡ 10752)
     (l1 : length pairs1 ≡ 10752) where
   bits-long : length s ≡ 21504
   bits-long =
-      ap length es ∙ buffer-bits p (partOf (cellsPerBuffer p * 2) cells b) (partOf-length (cellsPerBuffer p * 2) (p .bits) b lb cells lc)
+      ap length es
+      ∙ buffer-bits p (partOf (cellsPerBuffer p * 2) cells b) (partOf-length (cellsPerBuffer p * 2) (p .bits) b lb cells (payload-size p (length cells) lc))
 
   pub parted-pairs0 : x ≡ bufferPairs p cells 0 b
   unfolding bufferPairs
@@ -232,17 +230,44 @@ module _ (p : Modulation) (b : ℕ) (lb : b < p .bits) (cells : List ℕ) (lc : 
 
 pub ruleset part-blocks = (demapped-bits, parted-pairs0, parted-pairs1)
 
-pub parted-block : (p : Modulation) (cells : List ℕ) (e b : ℕ) (ys : List ℕ) → ys ≡ bufferPairs p cells e b
-    → ys ≡ tabulate 10752 (λ i. byteOfEach 10752 (bufferPairs p cells e) (b * 10752 + i))
-unfolding bufferPairs
-parted-block p cells e b ys is = each-block (bufferPairs p cells e) 10752 b ys (lit< tt) (ap length is ∙ length-apart (toBits p (partOf (cellsPerBuffer p * 2) cells b)) e) is
+-- The invariant of the loop over the n buffers: the pairs of encoder e of the first b.
+pub record Parting (p : Modulation) (cells : List ℕ) (e n b : ℕ) (pairs : List ℕ) : Type 0 where
+  pub number : n ≡ p .bits
+  pub blocks : Blocks (byteOfEach 10752 (bufferPairs p cells e)) 10752 (p .bits) b pairs
 
-pub pairs-are : (p : Modulation) (cells : List ℕ) (e : ℕ) (d : List ℕ)
-    → d ≡ tabulate (p .bits * 10752) (byteOfEach 10752 (bufferPairs p cells e)) → d ≡ takenPairs p cells e
-unfolding takenPairs endToEnd
-pairs-are p cells e d is = is
+pub parting-none : (p : Modulation) (cells : List ℕ) (e n : ℕ) (d : List ℕ) → n ≡ p .bits → length d ≡ p .bits * 10752 → Parting p cells e n 0 d
+parting-none p cells e n d en ld = record { number = en; blocks = blocks-none _ 10752 (p .bits) d ld }
 
-pub ruleset parting-all = (parted-block, pairs-are)
+module _ {p : Modulation} {cells : List ℕ} {e n b : ℕ} {d : List ℕ} (j : Parting p cells e n b d) where
+  pub parting-same : (m : ℕ) → m ≡ p .bits * 10752 → length d ≡ m
+  parting-same m em = j .blocks .filled .long ∙ sym em
+
+  module _ (lb : b < n) where
+    pub parting-below : b < p .bits
+    parting-below = omega (arith, j .number)
+
+    pub parting-inside : (m : ℕ) → m ≡ length d → b * 10752 + 10752 ≤ m
+    parting-inside m em = omega (arith, j .number, j .blocks .filled .long)
+
+    -- The part from f to g is lent, which is that of buffer b.
+    module _ (f g : ℕ) (ef : f ≡ b * 10752) (eg : g ≡ f + 10752) where
+      pub parting-lent : length (part f (g - f) d) ≡ 10752
+      parting-lent = part-long f g 10752 d eg (omega (arith, parting-inside (length d) refl))
+
+      pub parting-more : (ys : List ℕ) → ys ≡ bufferPairs p cells e b → Parting p cells e n (b + 1) (putMid f (g - f) d ys)
+      unfolding bufferPairs
+      parting-more ys is =
+          record {
+            number = j .number;
+            blocks = blocks-next f g ys (j .blocks) parting-below ef eg
+                (each-block (bufferPairs p cells e) 10752 b ys (lit< tt) (ap length is ∙ length-apart (toBits p (partOf (cellsPerBuffer p * 2) cells b)) e) is);
+          }
+
+  pub parting-done : n ≤ b → d ≡ takenPairs p cells e
+  unfolding takenPairs endToEnd
+  parting-done l = blocks-done (p .bits * 10752) (j .blocks) (omega (arith, j .number)) refl
+
+pub ruleset parting = (parting-none, parting-same, parting-below, parting-inside, parting-lent, parting-more, parting-done)
 
 pub taken-is : (p : Modulation) (line overhead cells x y : List ℕ) (n : ℕ) → n ≡ differingAll line overhead → cells ≡ takenCells line
     → x ≡ takenPairs p cells 0
@@ -250,16 +275,6 @@ pub taken-is : (p : Modulation) (line overhead cells x y : List ℕ) (n : ℕ) �
 taken-is p line overhead cells x y n en ec ex ey = rw (en, ex, ey, ec)
 
 -- ---- the step
-
--- 16-QAM: one search serves.
-pub line-flat : (line : List ℕ) (at : ℕ) → at ≡ firstIllegal overheadRule line → at ≡ firstIllegal (lineRule qam16) line
-unfolding firstIllegal first lineRule frameRule cellRule overheadRule qam16
-line-flat line at e =
-    e ∙ least-ext (length line) (λ j. leb 16 (getD line j 0)) (λ j. lineRule qam16 j (getD line j 0))
-    (λ j l. either (λ b. leb 16 (getD line j 0) ≡ b) (isOverhead (j / 7424) (j % 7424 / 2)) _ _ refl refl)
-
-pub line-legal : (line : List ℕ) (at : ℕ) → at ≡ firstIllegal overheadRule line → length line ≤ at → Legal (lineRule qam16) line
-line-legal line at e l = demap-legal (lineRule qam16) line at (line-flat line at e) l
 
 pub apart-done : (p : Modulation) (line overhead pairs0 pairs1 : List ℕ) (list : ℕ) → list ≡ firstIllegal overheadRule overhead
     → length overhead ≤ list

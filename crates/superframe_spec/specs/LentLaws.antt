@@ -4,10 +4,11 @@ use mathlib.Core.Path.{_≡_}
 use mathlib.Core.List.{List}
 use Prim.Native.Nat.{ℕ}
 use lib.ListN.{length}
+use Rattle.cells_spec.specs.Modulation.{Modulation}
 use Rattle.superframe_spec.specs.Lent.{CellsToFrames, FramesToCells, CellsToPairs}
 
-pub frames-lent : {m : ℕ} {cells overhead all : List ℕ} (n : ℕ) (part : List ℕ) → CellsToFrames m cells overhead all → length part ≡ n
-    → CellsToFrames n cells overhead part
+pub frames-lent : {p : Modulation} {m : ℕ} {cells overhead all : List ℕ} (n : ℕ) (part : List ℕ) → CellsToFrames p m cells overhead all → length part ≡ n
+    → CellsToFrames p n cells overhead part
 frames-lent n part lent l =
     record {
       cells-long = lent .cells-long;
@@ -17,8 +18,8 @@ frames-lent n part lent l =
       frames-long = l;
     }
 
-pub cells-lent : {m : ℕ} {frames overhead all : List ℕ} (n : ℕ) (part : List ℕ) → FramesToCells m frames overhead all → length part ≡ n
-    → FramesToCells n frames overhead part
+pub cells-lent : {p : Modulation} {m : ℕ} {frames overhead all : List ℕ} (n : ℕ) (part : List ℕ) → FramesToCells p m frames overhead all → length part ≡ n
+    → FramesToCells p n frames overhead part
 cells-lent n part lent l =
     record {
       frames-long = lent .frames-long;
@@ -28,7 +29,7 @@ cells-lent n part lent l =
       cells-long = l;
     }
 
-pub pairs-lent : {m : ℕ} {cells all0 all1 : List ℕ} (n : ℕ) (part0 part1 : List ℕ) → CellsToPairs m cells all0 all1 → length part0 ≡ n
-    → length part1 ≡ n → CellsToPairs n cells part0 part1
+pub pairs-lent : {p : Modulation} {m : ℕ} {cells all0 all1 : List ℕ} (n : ℕ) (part0 part1 : List ℕ) → CellsToPairs p m cells all0 all1 → length part0 ≡ n
+    → length part1 ≡ n → CellsToPairs p n cells part0 part1
 pairs-lent n part0 part1 lent l0 l1 =
     record { cells-long = lent .cells-long; cells-legal = lent .cells-legal; pairs0-long = l0; pairs1-long = l1 }

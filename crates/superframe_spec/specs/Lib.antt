@@ -4,5 +4,6 @@ pub mod Apart
 pub mod ApartLaws
 pub mod Lent
 pub mod LentLaws
+pub mod LegalLaws
 pub mod LineLaws
 pub mod BackLaws

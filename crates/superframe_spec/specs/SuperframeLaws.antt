@@ -1,15 +1,20 @@
 -- Laws of a super-frame: each buffer and each sub-frame is its block of the whole, and what the calls give for it.
 -- Assumes nothing.
-use mathlib.Core.Path.{_≡_, refl, ap, ap₂, _∙_}
+use mathlib.Core.Path.{_≡_, refl, sym, ap, ap₂, _∙_}
 use mathlib.Core.List.{List}
 use mathlib.Core.Logic.{_≢_}
 use Prim.Native.Nat.{ℕ, zero, suc, _+_, _-_, _*_, _/_, _%_, _<_, _≤_}
+use native.Mathlib.Nat.{suc-mul, mul-le-mul-right}
 use native.Mathlib.Omega.{arith}
 use native.Mathlib.Numerals.{add-one}
+use borrow.Rule.Slice.PartMut.{putMid}
 use lib.Dec.{lit<}
 use lib.ListN.{length}
+use mir.Syntax.{w64}
+use mir.Val.{Fits}
 use Rattle.bits.specs.DigitLaws.{digit-lt}
 use Rattle.bits.specs.Count.{count}
+use Rattle.bits.specs.Filling.{Blocks, blocks-none, blocks-next, blocks-done}
 use Rattle.bits.specs.Lists.{tabulate}
 use Rattle.bits.specs.Parts.{part, partOf, byteOfEach, endToEnd}
 use Rattle.bits.specs.PartLaws.{part-length, part-at, part-long, endToEnd-length, endToEnd-at, each-block}
@@ -21,7 +26,7 @@ use Rattle.interleaver_spec.specs.Calls.{interleaveCall}
 use Rattle.interleaver_spec.specs.CallLaws.{interleave-bits}
 use Rattle.cells_spec.specs.Modulation.{Modulation, cellsPerBuffer}
 use Rattle.cells_spec.specs.Cells.{overheadRule, payloadRule, Legal}
-use Rattle.cells_spec.specs.ModulationLaws.{cells-pos}
+use Rattle.cells_spec.specs.ModulationLaws.{buffer-whole, cells-pos}
 use Rattle.cells_spec.specs.CellLaws.{toCells-legal, buffer-cells}
 use Rattle.cells_spec.specs.Calls.{mapCall}
 use Rattle.cells_spec.specs.CallLaws.{map-accepts}
@@ -37,6 +42,30 @@ pub part-legal : (p : Modulation) (a n : ℕ) (s : List ℕ) → a + n ≤ lengt
 unfolding payloadRule
 part-legal p a n s l h =
     record { legal = λ k lk. let i : k < n = omega (arith, part-length a n s l) in ap (p .illegal) (part-at a n s l k i) ∙ h .legal (a + k) (omega arith) }
+
+-- ---- the sizes of buffers
+
+-- All buffers of a super-frame are its payload.
+pub payload-size : (p : Modulation) (n : ℕ) → n ≡ 344064 → n ≡ p .bits * (cellsPerBuffer p * 2)
+payload-size p n e = omega (arith, buffer-whole p)
+
+-- The code has c for the bytes of a buffer's cells: where buffer b starts and ends.
+module _ (p : Modulation) (b c : ℕ) (ec : c ≡ cellsPerBuffer p * 2) (lb : b < p .bits) where
+  buffer-end : b * c + c ≤ 344064
+  buffer-end =
+      let whole : p .bits * c ≡ 344064 = ap (λ x. p .bits * x) ec ∙ sym (payload-size p 344064 refl) in
+      omega (arith, suc-mul b c, mul-le-mul-right {m = suc b} {n = p .bits} c lb)
+
+  pub buffer-fits : Fits w64 (b * c)
+  buffer-fits = record { fits = omega (arith, buffer-end) }
+
+  pub buffer-end-fits : Fits w64 (b * c + c)
+  buffer-end-fits = record { fits = omega (arith, buffer-end) }
+
+  pub buffer-inside : (n : ℕ) → n ≡ 344064 → b * c + c ≤ n
+  buffer-inside n en = omega (arith, buffer-end)
+
+pub ruleset buffer-sizes = (buffer-fits, buffer-end-fits, buffer-inside)
 
 -- ---- the cells of a buffer
 
@@ -73,17 +102,6 @@ module _ (p : Modulation) where
   unfolding bufferCells
   buffer-long pairs0 pairs1 b = buffer-cells p _ (length-interleaved (partOf 10752 pairs0 b) (partOf 10752 pairs1 b))
 
-  pub buffer-block : (pairs0 pairs1 : List ℕ) (b : ℕ) (ys : List ℕ) → ys ≡ bufferCells p pairs0 pairs1 b
-      → ys ≡ tabulate (cellsPerBuffer p * 2) (λ i. byteOfEach (cellsPerBuffer p * 2) (bufferCells p pairs0 pairs1) (b * (cellsPerBuffer p * 2) + i))
-  buffer-block pairs0 pairs1 b ys e =
-      each-block (bufferCells p pairs0 pairs1) (cellsPerBuffer p * 2) b ys size-pos (ap length e ∙ buffer-long pairs0 pairs1 b) e
-
-  pub buffers-are : (pairs0 pairs1 d : List ℕ)
-      → d ≡ tabulate (p .bits * (cellsPerBuffer p * 2)) (byteOfEach (cellsPerBuffer p * 2) (bufferCells p pairs0 pairs1))
-      → d ≡ payloadOfPairs p pairs0 pairs1
-  unfolding payloadOfPairs endToEnd
-  buffers-are pairs0 pairs1 d e = e
-
   -- The payload is legal.
   pub payload-legal : (pairs0 pairs1 d : List ℕ) → d ≡ payloadOfPairs p pairs0 pairs1 → Legal (payloadRule p) d
   unfolding payloadOfPairs bufferCells payloadRule
@@ -99,7 +117,56 @@ module _ (p : Modulation) where
 
 pub ruleset buffering = (joined-bits, mapped-cells)
 
-pub ruleset buffer-blocks = (buffer-block, buffers-are)
+-- The invariant of the loop over the n buffers: the cells of the first b.
+pub record Joining (p : Modulation) (pairs0 pairs1 : List ℕ) (n c b : ℕ) (cells : List ℕ) : Type 0 where
+  pub number : n ≡ p .bits
+  pub size : c ≡ cellsPerBuffer p * 2
+  pub blocks : Blocks (byteOfEach (cellsPerBuffer p * 2) (bufferCells p pairs0 pairs1)) (cellsPerBuffer p * 2) (p .bits) b cells
+
+pub joining-none : (p : Modulation) (pairs0 pairs1 : List ℕ) (n c : ℕ) (d : List ℕ) → n ≡ p .bits → c ≡ cellsPerBuffer p * 2 → length d ≡ 344064
+    → Joining p pairs0 pairs1 n c 0 d
+joining-none p pairs0 pairs1 n c d en ec ld =
+    record { number = en; size = ec; blocks = blocks-none _ (cellsPerBuffer p * 2) (p .bits) d (payload-size p (length d) ld) }
+
+module _ {p : Modulation} {pairs0 pairs1 : List ℕ} {n c b : ℕ} {d : List ℕ} (j : Joining p pairs0 pairs1 n c b d) where
+  joining-long : length d ≡ 344064
+  joining-long = j .blocks .filled .long ∙ sym (payload-size p 344064 refl)
+
+  pub joining-same : (m : ℕ) → m ≡ 344064 → length d ≡ m
+  joining-same m e = joining-long ∙ sym e
+
+  module _ (lb : b < n) where
+    pub joining-below : b < p .bits
+    joining-below = omega (arith, j .number)
+
+    pub joining-fits : Fits w64 (b * c)
+    joining-fits = buffer-fits p b c (j .size) joining-below
+
+    pub joining-end-fits : Fits w64 (b * c + c)
+    joining-end-fits = buffer-end-fits p b c (j .size) joining-below
+
+    pub joining-inside : (m : ℕ) → m ≡ length d → b * c + c ≤ m
+    joining-inside m em = buffer-inside p b c (j .size) joining-below m (em ∙ joining-long)
+
+    -- The part from f to g is lent, which is that of buffer b.
+    module _ (f g : ℕ) (ef : f ≡ b * c) (eg : g ≡ f + c) where
+      pub joining-lent : length (part f (g - f) d) ≡ cellsPerBuffer p * 2
+      joining-lent = part-long f g c d eg (omega (arith, joining-inside (length d) refl)) ∙ j .size
+
+      pub joining-more : (ys : List ℕ) → ys ≡ bufferCells p pairs0 pairs1 b → Joining p pairs0 pairs1 n c (b + 1) (putMid f (g - f) d ys)
+      joining-more ys e =
+          record {
+            number = j .number;
+            size = j .size;
+            blocks = blocks-next f g ys (j .blocks) joining-below (ef ∙ ap (λ x. b * x) (j .size)) (eg ∙ ap (λ x. f + x) (j .size))
+                (each-block (bufferCells p pairs0 pairs1) (cellsPerBuffer p * 2) b ys (size-pos p) (ap length e ∙ buffer-long p pairs0 pairs1 b) e);
+          }
+
+  pub joining-done : n ≤ b → d ≡ payloadOfPairs p pairs0 pairs1
+  unfolding payloadOfPairs endToEnd
+  joining-done l = blocks-done (p .bits * (cellsPerBuffer p * 2)) (j .blocks) (omega (arith, j .number)) refl
+
+pub ruleset joining = (joining-none, joining-same, joining-below, joining-fits, joining-end-fits, joining-inside, joining-lent, joining-more, joining-done)
 
 -- ---- a sub-frame
 

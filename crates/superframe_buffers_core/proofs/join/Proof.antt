@@ -1,31 +1,28 @@
 -- `superframe_buffers_core::join` meets its contract: one buffer a turn.
 -- Assumes nothing.
 use Prim.Native.Nat.{_-_}
-use Rattle.bits.specs.Filling.{Blocks, by-blocks}
+use Rattle.cells_spec.specs.Profiles.{modulation}
+use Rattle.superframe_spec.specs.SuperframeLaws.{Joining, joining}
 use borrow.Author.Needs.{needs}
-use Rattle.cells_spec.specs.Modulation.{cellsPerBuffer}
-use Rattle.cells_spec.specs.Profiles.{qam16}
-use Rattle.bits.specs.Parts.{byteOfEach}
-use Rattle.superframe_spec.specs.Superframe.{bufferCells}
-use Rattle.superframe_spec.specs.SuperframeLaws.{buffer-blocks}
 use Rattle.superframe_buffers_core.proofs.join.Statement.{statement}
 use Rattle.superframe_buffers_core.proofs.join.Tie as tie
 
-ruleset kit = (needs, by-blocks, buffer-blocks)
+ruleset kit = (needs, joining)
 
 abbrev Inv-loop : tie.InvT-loop
-Inv-loop pairs0 pairs1 cells₀ b₀ cells b = Blocks (byteOfEach 43008 (bufferCells qam16 pairs0 pairs1)) 43008 8 b cells
+Inv-loop profile pairs0 pairs1 cells₀ n c b₀ cells b = Joining (modulation profile) pairs0 pairs1 n c b cells
 
 abbrev μ-loop : tie.MeasureT-loop
-μ-loop pairs0 pairs1 cells₀ b₀ cells b = 8 - b
+μ-loop profile pairs0 pairs1 cells₀ n c b₀ cells b = n - b
 
 pub join-spec : {M : Type 1} → statement M
-unfolding qam16 cellsPerBuffer
 join-spec =
     tie.close
     (tie.spec
     Inv-loop
     μ-loop
+    (λ c κs. search kit)  -- buffers-requires
+    (λ c κs. search kit)  -- cell-bytes-requires
     (λ c. search kit)  -- loop-holds
     (λ c. search kit)  -- mul-f
     (λ c. search kit)  -- add-g

@@ -1,19 +1,18 @@
 -- `superframe_buffers_core::part_buffer` meets its contract.
 -- Assumes nothing.
-use Rattle.cells_spec.specs.Modulation.{cellsPerBuffer}
-use Rattle.cells_spec.specs.Profiles.{qam16}
+use Rattle.superframe_spec.specs.SuperframeLaws.{buffer-sizes}
 use Rattle.superframe_spec.specs.ApartLaws.{part-blocks}
 use borrow.Author.Needs.{needs}
 use Rattle.superframe_buffers_core.proofs.part_buffer.Statement.{statement}
 use Rattle.superframe_buffers_core.proofs.part_buffer.Tie as tie
 
-ruleset kit = (needs, part-blocks)
+ruleset kit = (needs, part-blocks, buffer-sizes)
 
 pub part-buffer-spec : {M : Type 1} → statement M
-unfolding qam16 cellsPerBuffer
 part-buffer-spec =
     tie.close
     (tie.spec
+    (λ c κs. search kit)  -- cell-bytes-requires
     (λ c. search kit)  -- mul-a
     (λ c. search kit)  -- add-e
     (λ c. search kit)  -- sub-cells-to-bits

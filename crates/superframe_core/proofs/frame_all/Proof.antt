@@ -13,10 +13,10 @@ use Rattle.superframe_core.proofs.frame_all.Tie as tie
 ruleset kit = (needs, by-blocks, frame-blocks)
 
 abbrev Inv-loop : tie.InvT-loop
-Inv-loop cells overhead line₀ s₀ line s = Blocks (byteOfEach 7424 (subFrame cells overhead)) 7424 48 s line
+Inv-loop profile cells overhead line₀ s₀ line s = Blocks (byteOfEach 7424 (subFrame cells overhead)) 7424 48 s line
 
 abbrev μ-loop : tie.MeasureT-loop
-μ-loop cells overhead line₀ s₀ line s = 48 - s
+μ-loop profile cells overhead line₀ s₀ line s = 48 - s
 
 pub frame-all-spec : {M : Type 1} → statement M
 frame-all-spec =

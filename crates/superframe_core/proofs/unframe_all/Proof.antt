@@ -13,11 +13,11 @@ use Rattle.superframe_core.proofs.unframe_all.Tie as tie
 ruleset kit = (needs, counting, start-order, unframing-all)
 
 abbrev Inv-loop : tie.InvT-loop
-Inv-loop line overhead cells₀ n₀ s₀ cells n s =
+Inv-loop profile line overhead cells₀ n₀ s₀ cells n s =
     Unframing line s cells × Counting (differingIn line overhead) 48 s n
 
 abbrev μ-loop : tie.MeasureT-loop
-μ-loop line overhead cells₀ n₀ s₀ cells n s = 48 - s
+μ-loop profile line overhead cells₀ n₀ s₀ cells n s = 48 - s
 
 pub unframe-all-spec : {M : Type 1} → statement M
 unframe-all-spec =
