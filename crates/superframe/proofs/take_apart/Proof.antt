@@ -17,7 +17,7 @@ take-apart-spec =
     (λ c. search kit)  -- returns
     (λ c κs. search kit)  -- first-illegal-requires-2
     (λ c. search kit)  -- returns-2
-    (λ c κs. (record { frames-legal = search (needs, demap-legal); overhead-legal = search (needs, demap-legal) }, search needs))  -- take-requires
+    (λ c κs. (record { frames-legal = demap-legal _ _ _ (c .before .before .before .first-illegal2 .ensures) (c .before .before .if2 .left); overhead-legal = search (needs, demap-legal) }, search needs))  -- take-requires
     (λ c. search kit)  -- same-length
     (λ c. search kit)  -- same-length-2
     (λ c. search kit))  -- returns-3
