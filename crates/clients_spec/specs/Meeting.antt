@@ -11,8 +11,7 @@ use Rattle.pair_spec.specs.History.{depth}
 use Rattle.pair_spec.specs.Calls.{receive}
 use Rattle.pair_spec.specs.Promise.{Promise}
 use Rattle.interleaver_spec.specs.Calls.{PairBuffers}
-use Rattle.cells_spec.specs.Modulation.{buffersIn}
-use Rattle.cells_spec.specs.Profiles.{qam16}
+use Rattle.cells_spec.specs.Modulation.{Modulation, buffersIn}
 use Rattle.line_spec.specs.Sides.{Side}
 use Rattle.line_spec.specs.Line.{lineBit}
 use Rattle.line_spec.specs.Outward.{codedPairs, interleaving, mapping, framing}
@@ -28,8 +27,8 @@ use Rattle.clients_spec.specs.RunLaws.{coded-as-left, outward, sentBits,
 -- ---- what is claimed
 
 -- Word (R, r) of an accepted call of a receiver: the promise, about the buffers that the exported call left.
-pub record WordAsPromised (s : Sends) (t : Receives (s .superframes) (sentBits s)) (e : Side) (c : ReceiveCall) (R r : ℕ) : Type 0 where
-  pub promise : Promise depth (sentBits s e) (lineBit qam16 (t .received .frames) e) (c .lent) (receive (c .lent)) R r
+pub record WordAsPromised (p : Modulation) (s : Sends p) (t : Receives p (s .superframes) (sentBits p s)) (e : Side) (c : ReceiveCall) (R r : ℕ) : Type 0 where
+  pub promise : Promise depth (sentBits p s e) (lineBit p (t .received .frames) e) (c .lent) (receive (c .lent)) R r
   pub payload : c .payload ≡ receive (c .lent) .written .payload
   pub marks : c .marks ≡ receive (c .lent) .written .marks
   pub history : c .history ≡ receive (c .lent) .written .history
@@ -39,24 +38,24 @@ pub record WordAsPromised (s : Sends) (t : Receives (s .superframes) (sentBits s
 abbrev Leaves : {B : Type 0} → Outcome → B → After B → Type 0
 Leaves o left x = exported o left ≡ inNumbers 0 x → (o .refusal ≡ 0) × (left ≡ x .written)
 
-pub record Meets (s : Sends) (t : Receives (s .superframes) (sentBits s)) : Type 0 where
-  pub demand3 : Demand3 qam16 (outward s) (inward s t)
+pub record Meets (p : Modulation) (s : Sends p) (t : Receives p (s .superframes) (sentBits p s)) : Type 0 where
+  pub demand3 : Demand3 p (outward p s) (inward p s t)
   -- The coded pairs that go into the line are those that the exported calls left.
-  pub coded : (e : Side) → codedPairs (outward s .calls e) ≡ map (λ (c : EncodeCall). c .coded) (accepted EncodeCalls (s .calls e))
+  pub coded : (e : Side) → codedPairs (outward p s .calls e) ≡ map (λ (c : EncodeCall). c .coded) (accepted EncodeCalls (s .calls e))
   -- The calls of the line, for every buffer b and sub-frame f.
-  pub interleaved : (b : ℕ) → b < buffersIn qam16 (s .superframes) → (o : Outcome) (left : List ℕ)
-      → Leaves o left (interleaving qam16 (outward s) b)
-  pub mapped : (b : ℕ) → b < buffersIn qam16 (s .superframes) → (o : Outcome) (left : List ℕ) → Leaves o left (mapping qam16 (outward s) b)
-  pub framed : (f : ℕ) → f < 48 * s .superframes → (o : Outcome) (left : List ℕ) → Leaves o left (framing qam16 (outward s) f)
+  pub interleaved : (b : ℕ) → b < buffersIn p (s .superframes) → (o : Outcome) (left : List ℕ)
+      → Leaves o left (interleaving p (outward p s) b)
+  pub mapped : (b : ℕ) → b < buffersIn p (s .superframes) → (o : Outcome) (left : List ℕ) → Leaves o left (mapping p (outward p s) b)
+  pub framed : (f : ℕ) → f < 48 * s .superframes → (o : Outcome) (left : List ℕ) → Leaves o left (framing p (outward p s) f)
   pub unframed : (f : ℕ) → f < 48 * s .superframes → (o : Outcome) (left : List ℕ)
-      → Leaves o left (unframing qam16 (s .superframes) (t .received) f)
-  pub demapped : (b : ℕ) → b < buffersIn qam16 (s .superframes) → (o : Outcome) (left : List ℕ)
-      → Leaves o left (demapping qam16 (s .superframes) (t .received) b)
-  pub parted : (b : ℕ) → b < buffersIn qam16 (s .superframes) → (o : Outcome) (left : PairBuffers)
-      → Leaves o left (parting qam16 (s .superframes) (t .received) b)
+      → Leaves o left (unframing p (s .superframes) (t .received) f)
+  pub demapped : (b : ℕ) → b < buffersIn p (s .superframes) → (o : Outcome) (left : List ℕ)
+      → Leaves o left (demapping p (s .superframes) (t .received) b)
+  pub parted : (b : ℕ) → b < buffersIn p (s .superframes) → (o : Outcome) (left : PairBuffers)
+      → Leaves o left (parting p (s .superframes) (t .received) b)
   -- Each word of each accepted receiving call.
   pub words : (e : Side) (P : ℕ) (c : ReceiveCall) → At (accepted ReceiveCalls (t .calls e)) P c → (R r : ℕ) → R / 2 ≡ P → r < 16
-      → WordAsPromised s t e c R r
+      → WordAsPromised p s t e c R r
 
 -- ---- that it holds
 
@@ -64,18 +63,18 @@ seen : {B : Type 0} {o : Outcome} {left : B} (x : After B) → Accepted (x .answ
 unfolding inNumbers
 seen {B} x ok e = (ap (λ (y : Exported B). y .outcome .refusal) e ∙ ok, ap (λ (y : Exported B). y .written) e)
 
-pub meets : (s : Sends) (t : Receives (s .superframes) (sentBits s)) → Meets s t
+pub meets : (p : Modulation) (s : Sends p) (t : Receives p (s .superframes) (sentBits p s)) → Meets p s t
 unfolding outward inward
-meets s t =
+meets p s t =
     record {
       demand3 = whole;
-      coded = coded-as-left s;
-      interleaved = λ b l o left. seen (interleaving qam16 (outward s) b) (whole .goes .interleaved b l);
-      mapped = λ b l o left. seen (mapping qam16 (outward s) b) (whole .goes .mapped b l);
-      framed = λ f l o left. seen (framing qam16 (outward s) f) (whole .goes .framed f l);
-      unframed = λ f l o left. seen (unframing qam16 (s .superframes) (t .received) f) (whole .comes .unframed f l);
-      demapped = λ b l o left. seen (demapping qam16 (s .superframes) (t .received) b) (whole .comes .demapped b l);
-      parted = λ b l o left. seen (parting qam16 (s .superframes) (t .received) b) (whole .comes .parted b l);
+      coded = coded-as-left p s;
+      interleaved = λ b l o left. seen (interleaving p (outward p s) b) (whole .goes .interleaved b l);
+      mapped = λ b l o left. seen (mapping p (outward p s) b) (whole .goes .mapped b l);
+      framed = λ f l o left. seen (framing p (outward p s) f) (whole .goes .framed f l);
+      unframed = λ f l o left. seen (unframing p (s .superframes) (t .received) f) (whole .comes .unframed f l);
+      demapped = λ b l o left. seen (demapping p (s .superframes) (t .received) b) (whole .comes .demapped b l);
+      parted = λ b l o left. seen (parting p (s .superframes) (t .received) b) (whole .comes .parted b l);
       words = λ e P c a R r is lr.
           record {
             promise =
@@ -87,5 +86,5 @@ meets s t =
           };
     }
   where
-    whole : Demand3 qam16 (outward s) (inward s t)
-    whole = demand3 qam16 (outward s) (inward s t)
+    whole : Demand3 p (outward p s) (inward p s t)
+    whole = demand3 p (outward p s) (inward p s t)

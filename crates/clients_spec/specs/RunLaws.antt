@@ -12,8 +12,7 @@ use Rattle.pair_spec.specs.Calls.{EncodeBuffers, ReceiveBuffers, state, Encodin
 use Rattle.pair_spec.specs.Calls.{payloads}
 use Rattle.pair_spec.specs.Rows.{RowBits}
 use Rattle.pair_spec.specs.Promise.{Limit}
-use Rattle.cells_spec.specs.Modulation.{pairsIn}
-use Rattle.cells_spec.specs.Profiles.{qam16}
+use Rattle.cells_spec.specs.Modulation.{Modulation, pairsIn}
 use Rattle.line_spec.specs.Sides.{Side}
 use Rattle.line_spec.specs.Line.{lineBit}
 use Rattle.line_spec.specs.Outward.{Outward, codedPairs}
@@ -97,8 +96,8 @@ receive-mirrors =
 -- ---- demand 3 of the exported functions
 
 -- What goes out, with the bits of 01's formulas.
-unfoldable pub outward : Sends → Outward qam16
-outward s =
+unfoldable pub outward : (p : Modulation) → Sends p → Outward p
+outward p s =
     record {
       superframes = s .superframes;
       calls = λ e. map lentEncoding (s .calls e);
@@ -114,31 +113,31 @@ outward s =
     }
 
 -- The coded pairs that go into the line are those that the exported calls left.
-pub coded-as-left : (s : Sends) (e : Side)
-    → codedPairs (outward s .calls e) ≡ map (λ (c : EncodeCall). c .coded) (accepted EncodeCalls (s .calls e))
+pub coded-as-left : (p : Modulation) (s : Sends p) (e : Side)
+    → codedPairs (outward p s .calls e) ≡ map (λ (c : EncodeCall). c .coded) (accepted EncodeCalls (s .calls e))
 unfolding codedPairs outward
-coded-as-left s e =
+coded-as-left p s e =
     ap (map (λ (c : Encoding). encode c .written .coded)) (mirror-accepted encode-mirrors (s .calls e))
     ∙ map-map lentEncoding (λ (c : Encoding). encode c .written .coded) (λ (c : EncodeCall). c .coded) (λ c. sym (exported-coded c)) (accepted EncodeCalls (s .calls e))
 
 -- The bits that an encoder sent.
-abbrev pub sentBits : Sends → Side → RowBits
-sentBits s e = outward s .sent e
+abbrev pub sentBits : (p : Modulation) → Sends p → Side → RowBits
+sentBits p s e = outward p s .sent e
 
 -- What comes in.
-unfoldable pub inward : (s : Sends) → Receives (s .superframes) (sentBits s) → Inward qam16 (outward s)
+unfoldable pub inward : (p : Modulation) (s : Sends p) → Receives p (s .superframes) (sentBits p s) → Inward p (outward p s)
 unfolding outward
-inward s t =
+inward p s t =
     record {
       received = t .received;
       calls = λ e. map lentReceiving (t .calls e);
       last = t .last;
       runs = λ e. mirror-run receive-mirrors (t .runs e);
-      some = λ e. subst (λ n. n ≤ pairsIn qam16 (s .superframes)) (sym (taken e)) (t .some e);
+      some = λ e. subst (λ n. n ≤ pairsIn p (s .superframes)) (sym (taken e)) (t .some e);
       in-order = λ e P c a.
           let r = mapped-at lentReceiving (accepted ReceiveCalls (t .calls e)) P c (subst (λ l. At l P c) (mirror-accepted receive-mirrors (t .calls e)) a) in
           ap (λ (d : Receiving). d .coded) (sym (r .2)) ∙ t .in-order e P (r .0) (r .1);
-      limit = λ e. subst (Limit (sentBits s e) (lineBit qam16 (t .received .frames) e)) (sym (taken e)) (t .limit e);
+      limit = λ e. subst (Limit (sentBits p s e) (lineBit p (t .received .frames) e)) (sym (taken e)) (t .limit e);
     }
   where
     taken : (e : Side) → length (accepted Receivings (map lentReceiving (t .calls e))) ≡ length (accepted ReceiveCalls (t .calls e))

@@ -9,8 +9,7 @@ use Rattle.calls.specs.Sequences.{At, Part, Kind, Run, accepted}
 use Rattle.pair_spec.specs.Rows.{RowBits}
 use Rattle.pair_spec.specs.Calls.{encodeBuffers, encodeCall, receiveBuffers, receiveCall, State, state, start, Encoding, Receiving}
 use Rattle.pair_spec.specs.Promise.{Limit}
-use Rattle.cells_spec.specs.Modulation.{pairsIn}
-use Rattle.cells_spec.specs.Profiles.{qam16}
+use Rattle.cells_spec.specs.Modulation.{Modulation, pairsIn}
 use Rattle.cells_spec.specs.Cells.{overheadRule, Legal}
 use Rattle.line_spec.specs.Sides.{Side}
 use Rattle.line_spec.specs.Line.{lineBit}
@@ -65,24 +64,24 @@ ReceiveCalls =
           × Part (c .lent .pair ∷ []) (c .outcome .value ∷ []) (s .pair) (t .pair);
     }
 
--- ---- the four lists, as in `Outward` and `Inward` of crate `line_spec`
+-- ---- the four lists over a profile, as in `Outward` and `Inward` of crate `line_spec`
 
-pub record Sends : Type 0 where
+pub record Sends (p : Modulation) : Type 0 where
   pub superframes : ℕ
   pub calls : Side → List EncodeCall
   pub last : Side → State
   pub runs : (e : Side) → Run EncodeCalls start (calls e) (last e)
-  pub filled : (e : Side) → length (accepted EncodeCalls (calls e)) ≡ pairsIn qam16 superframes
+  pub filled : (e : Side) → length (accepted EncodeCalls (calls e)) ≡ pairsIn p superframes
   pub overhead : List ℕ
   pub overhead-long : length overhead ≡ 12288
   pub overhead-legal : Legal overheadRule overhead
-  pub lent : LentOut qam16
+  pub lent : LentOut p
 
-pub record Receives (superframes : ℕ) (sent : Side → RowBits) : Type 0 where
-  pub received : ReceivedLine qam16 superframes
+pub record Receives (p : Modulation) (superframes : ℕ) (sent : Side → RowBits) : Type 0 where
+  pub received : ReceivedLine p superframes
   pub calls : Side → List ReceiveCall
   pub last : Side → State
   pub runs : (e : Side) → Run ReceiveCalls start (calls e) (last e)
-  pub some : (e : Side) → length (accepted ReceiveCalls (calls e)) ≤ pairsIn qam16 superframes
-  pub in-order : (e : Side) (P : ℕ) (c : ReceiveCall) → At (accepted ReceiveCalls (calls e)) P c → c .lent .coded ≡ receivedPair qam16 superframes received e P
-  pub limit : (e : Side) → Limit (sent e) (lineBit qam16 (received .frames) e) (length (accepted ReceiveCalls (calls e)))
+  pub some : (e : Side) → length (accepted ReceiveCalls (calls e)) ≤ pairsIn p superframes
+  pub in-order : (e : Side) (P : ℕ) (c : ReceiveCall) → At (accepted ReceiveCalls (calls e)) P c → c .lent .coded ≡ receivedPair p superframes received e P
+  pub limit : (e : Side) → Limit (sent e) (lineBit p (received .frames) e) (length (accepted ReceiveCalls (calls e)))

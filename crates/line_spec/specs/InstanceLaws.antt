@@ -3,6 +3,7 @@
 use mathlib.Core.Path.{_≡_, refl, sym, ap, _∙_}
 use mathlib.Core.List.{List, []}
 use Prim.Native.Nat.{ℕ, _*_, _%_, _≤_}
+use native.Mathlib.Nat.{mul-le-mul-right}
 use native.Mathlib.Omega.{arith}
 use lib.Dec.{leb}
 use lib.ListN.{length, replicate, length-replicate, getD-replicate}
@@ -12,8 +13,8 @@ use Rattle.calls.specs.Answers.{TurnedBack}
 use Rattle.word_spec.specs.Marks.{markMeaning}
 use Rattle.pair_spec.specs.Calls.{Encoding, encode, Encodings}
 use Rattle.pair_spec.specs.StateLaws.{refused-encoding}
-use Rattle.cells_spec.specs.Modulation.{cellsPerBuffer, pairsIn, rowsIn}
-use Rattle.cells_spec.specs.Profiles.{qam16, qam16-sizes}
+use Rattle.cells_spec.specs.Modulation.{Modulation, cellsPerBuffer, buffersIn, pairsIn, rowsIn}
+use Rattle.cells_spec.specs.ModulationLaws.{buffer-whole, cells-pos}
 use Rattle.cells_spec.specs.Cells.{overheadRule, Legal}
 use Rattle.frame_spec.specs.Frames.{payloadCells}
 use Rattle.line_spec.specs.Sides.{Side, side0, side1}
@@ -37,14 +38,14 @@ zeros n = replicate n 0
 zeros-long : (n : ℕ) → length (zeros n) ≡ n
 zeros-long n = length-replicate n 0
 
-lent-out : LentOut qam16
-lent-out =
+lent-out : (p : Modulation) → LentOut p
+lent-out p =
     record {
       bits = λ b. zeros 21504;
-      cells = λ b. zeros (cellsPerBuffer qam16 * 2);
+      cells = λ b. zeros (cellsPerBuffer p * 2);
       frame = λ f. zeros 7424;
       bits-long = λ b. zeros-long 21504;
-      cells-long = λ b. zeros-long (cellsPerBuffer qam16 * 2);
+      cells-long = λ b. zeros-long (cellsPerBuffer p * 2);
       frame-long = λ f. zeros-long 7424;
     }
 
@@ -74,20 +75,25 @@ zeros-legal n = record { legal = λ k l. ap (leb 16) (getD-replicate n k 0 0 (om
 
 -- ---- the run
 
-given : Given qam16
-given =
+-- A symbol has no more bits than a buffer.
+few : (p : Modulation) → p .bits ≤ 172032
+few p = omega (arith, buffer-whole p, mul-le-mul-right {m = 1} {n = cellsPerBuffer p} (p .bits) (cells-pos p))
+
+given : (p : Modulation) → Given p
+unfolding buffersIn
+given p =
     record {
       superframes = 1;
-      within = omega (arith, qam16-sizes .2);
-      payloads = λ e. tabulate (pairsIn qam16 1) (λ P. zeros 444);
-      many = λ e. length-tabulate (pairsIn qam16 1) (λ P. zeros 444);
-      long = λ e P l. ap length (getD-tabulate (pairsIn qam16 1) (λ P. zeros 444) P [] l) ∙ zeros-long 444;
+      within = omega (arith, few p);
+      payloads = λ e. tabulate (pairsIn p 1) (λ P. zeros 444);
+      many = λ e. length-tabulate (pairsIn p 1) (λ P. zeros 444);
+      long = λ e P l. ap length (getD-tabulate (pairsIn p 1) (λ P. zeros 444) P [] l) ∙ zeros-long 444;
       coded = λ e P. zeros 512;
       coded-long = λ e P. zeros-long 512;
       overhead = zeros 12288;
       overhead-long = zeros-long 12288;
       overhead-legal = zeros-legal 12288;
-      lent = lent-out;
+      lent = lent-out p;
     }
 
 refused : TurnedBack (encode emptyEncoding .answer)
@@ -108,33 +114,33 @@ unfolding wrongOf
 wrong-three side0 m = refl
 wrong-three side1 m = absurd (omega arith)
 
-pub one-super-frame : (o : Outward qam16) × (i : Inward qam16 o) × OneSuperFrame o i
+pub one-super-frame : (p : Modulation) → (o : Outward p) × (i : Inward p o) × OneSuperFrame p o i
 unfolding given first-errors wrongOf markMeaning
-one-super-frame =
-    let out = goes-out qam16 given (λ e. withRefused Encodings emptyEncoding (encodings qam16 given e))
-    (λ e. among-withRefused Encodings emptyEncoding refused (encodings qam16 given e)) in
+one-super-frame p =
+    let out = goes-out p (given p) (λ e. withRefused Encodings emptyEncoding (encodings p (given p) e))
+    (λ e. among-withRefused Encodings emptyEncoding refused (encodings p (given p) e)) in
     let o = out .0 in
-    let w : Side → WordErrors (rowsIn qam16 (o .superframes)) =
-    λ e. first-errors (rowsIn qam16 (o .superframes)) 20 0 (wrongOf e) (row-20 qam16 (o .superframes) (omega (arith, out .1))) (omega arith)
+    let w : Side → WordErrors (rowsIn p (o .superframes)) =
+    λ e. first-errors (rowsIn p (o .superframes)) 20 0 (wrongOf e) (row-20 p (o .superframes) (omega (arith, out .1))) (omega arith)
     (wrong-most e) in
-    let back = erring qam16 o w lent-in lent-back emptyReceiving empty-receiving-refused in
-    let all : pairsIn qam16 (o .superframes) ≡ 168 = ap (pairsIn qam16) (out .1) ∙ qam16-sizes .2 in (
+    let back = erring p o w lent-in lent-back emptyReceiving empty-receiving-refused in
+    let all : pairsIn p (o .superframes) ≡ pairsIn p 1 = ap (pairsIn p) (out .1) in (
       o,
       back .0,
       record {
         one = out .1;
         sent = λ e. o .filled e ∙ all;
-        zero = λ e. out .3 e ∙ ap (λ n. tabulate n (λ P. replicate 444 0)) (qam16-sizes .2);
+        zero = out .3;
         taken = λ e. back .1 .all e ∙ all;
         refused = (refused, empty-receiving-refused);
         between = λ e.
-            withRefused-accepted Encodings emptyEncoding refused (encodings qam16 given e) (o .calls e) (encodings-accepted qam16 given e)
+            withRefused-accepted Encodings emptyEncoding refused (encodings p (given p) e) (o .calls e) (encodings-accepted p (given p) e)
             (ap (λ (c : Side → List Encoding). c e) (out .2));
         between-back = back .2;
         three = errors-own (w side0) (back .1 .errors side0) ∙ first-count 3 (omega arith);
         lost = λ c a. ap markMeaning (back .1 .marked side0 c a ∙ first-count 3 (omega arith));
         others = λ e R r c lr a off.
             back .1 .as-sent e R r c lr a (λ q u m. off (wrong-three e (sym (first-count (wrongOf e) (wrong-most e)) ∙ m)) q u) .0;
-        demanded = demand3 qam16 o (back .0);
+        demanded = demand3 p o (back .0);
       },
     )
