@@ -6,7 +6,7 @@ use Prim.Native.Nat.{ℕ, _*_}
 use native.Mathlib.Omega.{arith}
 use Rattle.profile.specs.declared.Profile.{Profile}
 use Rattle.profile.specs.declared.Profile.the-variants.{Qam16, Qpsk}
-use Rattle.cells_spec.specs.Modulation.{cellsPerBuffer}
+use Rattle.cells_spec.specs.Modulation.{cellsPerBuffer, buffersIn, pairsIn}
 use Rattle.cells_spec.specs.Cells.{payloadRule, Legal}
 use Rattle.cells_spec.specs.Profiles.{qam16, qpsk, modulation}
 
@@ -24,6 +24,10 @@ module _ (f : Profile) where
     pub legal-qam16 : (cells : List ℕ) → Legal (payloadRule (modulation f)) cells → Legal (payloadRule qam16) cells
     legal-qam16 cells = subst (λ p. Legal (payloadRule p) cells) is-qam16
 
+    pub first-qam16 : (q : ℕ) → q * 168 ≡ pairsIn (modulation f) q
+    unfolding buffersIn qam16
+    first-qam16 q = rw is-qam16 (omega arith)
+
   module _ (e : f ≡ Qpsk) where
     pub is-qpsk : modulation f ≡ qpsk
     unfolding modulation
@@ -37,6 +41,12 @@ module _ (f : Profile) where
     pub legal-qpsk : (cells : List ℕ) → Legal (payloadRule (modulation f)) cells → Legal (payloadRule qpsk) cells
     legal-qpsk cells = subst (λ p. Legal (payloadRule p) cells) is-qpsk
 
+    pub first-qpsk : (q : ℕ) → q * 84 ≡ pairsIn (modulation f) q
+    unfolding buffersIn qpsk
+    first-qpsk q = rw is-qpsk (omega arith)
+
 pub ruleset by-profile = (is-qam16, is-qpsk)
 
 pub ruleset profile-fits = (fits-qam16, legal-qam16, fits-qpsk, legal-qpsk)
+
+pub ruleset first-pairs = (first-qam16, first-qpsk)

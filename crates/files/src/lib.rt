@@ -31,6 +31,13 @@ pub fn open(argument: usize) -> i32 {
     fd
 }
 
+// Whether an argument is this word.
+pub fn is_word(argument: usize, word: &[u8]) -> bool {
+    let mut text = io::buffer();
+    let n = os::arg(argument, &mut text);
+    places::equal(&text[..n], word)
+}
+
 // The length of an open file; 0 where it has none.
 pub fn length(fd: i32) -> usize {
     let end = libc::lseek(fd, 0, libc::SEEK_END);

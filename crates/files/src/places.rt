@@ -4,7 +4,7 @@ use filenames::folder;
 use filestatus::same;
 
 // Whether two texts are the same.
-fn equal(a: &[u8], b: &[u8]) -> bool {
+pub fn equal(a: &[u8], b: &[u8]) -> bool {
     if a.len() != b.len() {
         return false;
     }

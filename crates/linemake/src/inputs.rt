@@ -1,8 +1,10 @@
 // The files that are read. They stay open to the end, so that the line file's descriptor is none of the standard ones, even where
 // the program was started without these.
+use cells_core::sizes::pairs;
 use files::message;
 use files::size;
-ghost use Prim.Native.Nat.{_≤_};
+use profile::Profile;
+ghost use Prim.Native.Nat.{_≤_, _<_};
 
 // The refusal of a file that cannot be opened, read or written, or has the wrong size.
 pub const MISFIT: u32 = 1;
@@ -16,8 +18,11 @@ pub const OVERHEAD: usize = 3;
 
 pub const LINE: usize = 4;
 
-// The bytes of a payload file for a super-frame: 168 pairs of 444.
-const BYTES: usize = 74592;
+// The last argument, where there is one.
+pub const PROFILE: usize = 5;
+
+// The bytes of a pair's payload.
+const PAIR: usize = 444;
 
 // The bytes of the overhead list.
 const LIST: usize = 12288;
@@ -30,6 +35,13 @@ pub struct Inputs {
     pub payload0: i32,
     pub payload1: i32,
     pub overhead: i32,
+}
+
+// The bytes of a payload file for a super-frame.
+fn payload_bytes(profile: Profile) -> usize
+    ensures { λ r. ⌜ 0 < r ⌝ }
+{
+    pairs(profile) * PAIR
 }
 
 // Opens a file where the one before it could be opened.
@@ -53,13 +65,14 @@ pub fn open() -> Inputs {
 }
 
 // Whether the payload files and the list have sizes that fit together, or says which has not.
-fn fit(inputs: Inputs, bytes: usize) -> bool {
-    if bytes < BYTES {
-        message::size(PAYLOAD0, inputs.payload0, bytes, b"at least ", BYTES);
+fn fit(profile: Profile, inputs: Inputs, bytes: usize) -> bool {
+    let unit = payload_bytes(profile);
+    if bytes < unit {
+        message::size(PAYLOAD0, inputs.payload0, bytes, b"at least ", unit);
         return false;
     }
-    if bytes % BYTES != 0 {
-        message::size(PAYLOAD0, inputs.payload0, bytes, b"a multiple of ", BYTES);
+    if bytes % unit != 0 {
+        message::size(PAYLOAD0, inputs.payload0, bytes, b"a multiple of ", unit);
         return false;
     }
     let others = size(inputs.payload1);
@@ -83,17 +96,17 @@ fn fit(inputs: Inputs, bytes: usize) -> bool {
 
 // How many super-frames the payload files hold, with one above the most for any more; none where a file could not be opened or a size
 // misfits, which is said.
-pub fn superframes(inputs: Inputs) -> u32
+pub fn superframes(profile: Profile, inputs: Inputs) -> u32
     ensures { λ r. ⌜ r ≤ 65 ⌝ }
 {
     if inputs.overhead < 0 {
         return 0;
     }
     let bytes = size(inputs.payload0);
-    if !fit(inputs, bytes) {
+    if !fit(profile, inputs, bytes) {
         return 0;
     }
-    let n = bytes / BYTES;
+    let n = bytes / payload_bytes(profile);
     if MOST < n {
         return MOST as u32 + 1;
     }
@@ -101,9 +114,9 @@ pub fn superframes(inputs: Inputs) -> u32
 }
 
 // Says how many super-frames the payload files hold, more than a line file has.
-pub fn say_too_many(inputs: Inputs) {
+pub fn say_too_many(profile: Profile, inputs: Inputs) {
     message::begin(PAYLOAD0);
-    message::number(size(inputs.payload0) / BYTES);
+    message::number(size(inputs.payload0) / payload_bytes(profile));
     message::text(b" super-frames, expected at most ");
     message::number(MOST);
     message::text(b"\n");

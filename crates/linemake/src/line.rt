@@ -7,6 +7,7 @@ use crate::superframes::write_all;
 use calls::Answer;
 use calls::Refusal;
 use files::message;
+use profile::Profile;
 ghost use mathlib.Core.Path.{_≡_};
 ghost use Prim.Native.Nat.{_≤_};
 ghost use lib.ListN.{length};
@@ -22,6 +23,7 @@ pub fn put(out: i32, bytes: &[u8]) -> u32 {
 
 // Reads the overhead list and makes the header: 0, or the refusal.
 fn prepare(
+    profile: Profile,
     inputs: Inputs,
     superframes: u32,
     header: &mut [u8; 16],
@@ -33,7 +35,7 @@ fn prepare(
     }
     let refusal = calls::refusal_of(line_file::write_header(superframes, header));
     if refusal != 0 {
-        inputs::say_too_many(inputs);
+        inputs::say_too_many(profile, inputs);
     }
     refusal
 }
@@ -44,7 +46,14 @@ fn say_illegal(index: usize) {
 }
 
 // Writes header, list and super-frames: 0, or the refusal.
-fn write_parts(inputs: Inputs, superframes: u32, header: &[u8], overhead: &[u8], out: i32) -> u32
+fn write_parts(
+    profile: Profile,
+    inputs: Inputs,
+    superframes: u32,
+    header: &[u8],
+    overhead: &[u8],
+    out: i32,
+) -> u32
     requires { ⌜ (superframes ≤ 65) × (length (now overhead) ≡ 12288) ⌝ }
 {
     let illegal = cells_core::legal::first_illegal(overhead);
@@ -60,11 +69,12 @@ fn write_parts(inputs: Inputs, superframes: u32, header: &[u8], overhead: &[u8],
     if listed != 0 {
         return listed;
     }
-    write_all(inputs, superframes, overhead, out)
+    write_all(profile, inputs, superframes, overhead, out)
 }
 
 // Writes the line file: 0, or the refusal.
 pub fn write(
+    profile: Profile,
     inputs: Inputs,
     superframes: u32,
     header: &mut [u8; 16],
@@ -73,9 +83,9 @@ pub fn write(
 ) -> u32
     requires { ⌜ superframes ≤ 65 ⌝ }
 {
-    let prepared = prepare(inputs, superframes, header, overhead);
+    let prepared = prepare(profile, inputs, superframes, header, overhead);
     if prepared != 0 {
         return prepared;
     }
-    write_parts(inputs, superframes, header, overhead, out)
+    write_parts(profile, inputs, superframes, header, overhead, out)
 }

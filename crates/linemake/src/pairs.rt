@@ -1,13 +1,15 @@
 // Payload read from its file and encoded, super-frame by super-frame.
 use crate::inputs::MISFIT;
+use cells_core::sizes::pairs;
 use files::message;
+use profile::Profile;
 ghost use mathlib.Core.Path.{_≡_};
-ghost use Prim.Native.Nat.{_<_};
+ghost use Prim.Native.Nat.{_*_, _≤_, _<_};
 ghost use lib.ListN.{length};
 
 // Reads the payload of the next super-frame from the file of this argument, and answers whether the file had it.
 fn read_next(argument: usize, file: i32, payload: &mut [u8]) -> bool {
-    if io::read_full(file, payload) == 74592 {
+    if io::read_full(file, payload) == payload.len() {
         return true;
     }
     message::line(argument, b"the file ended early");
@@ -16,32 +18,46 @@ fn read_next(argument: usize, file: i32, payload: &mut [u8]) -> bool {
 
 // The coded pairs of the next super-frame of one encoder, numbered from `first` on; its payload is read into a buffer: 0, or the refusal.
 fn read_and_encode(
+    pairs: usize,
     argument: usize,
     file: i32,
     payload: &mut [u8],
     first: u32,
     history: &mut [u8; 5120],
-    coded: &mut [u8; 86016],
+    coded: &mut [u8],
 ) -> u32
-    requires { ⌜ (length (now payload) ≡ 74592) × (first < 65536) ⌝ }
+    requires { ⌜ (pairs ≤ 168) × (length (now payload) ≡ pairs * 444) × (first < 65536) × (length (now coded) ≡ pairs * 512) ⌝ }
 {
     if !read_next(argument, file, payload) {
         return MISFIT;
     }
-    pair_stream::encode(168, payload, first, history, coded);
+    pair_stream::encode(pairs, payload, first, history, coded);
     0
 }
 
 // The same with a buffer that has room for the frames of a super-frame: the payload takes its front, so that no stack is needed for it.
+// The coded pairs take the front of theirs.
 pub fn encode(
+    profile: Profile,
     argument: usize,
     file: i32,
     space: &mut [u8],
     first: u32,
     history: &mut [u8; 5120],
-    coded: &mut [u8; 86016],
+    coded: &mut [u8],
 ) -> u32
-    requires { ⌜ (length (now space) ≡ 356352) × (first < 65536) ⌝ }
+    requires { ⌜ (length (now space) ≡ 356352) × (first < 65536) × (length (now coded) ≡ 86016) ⌝ }
 {
-    read_and_encode(argument, file, &mut space[0..74592], first, history, coded)
+    let n = pairs(profile);
+    let p = n * 444;
+    let m = n * 512;
+    read_and_encode(
+        n,
+        argument,
+        file,
+        &mut space[0..p],
+        first,
+        history,
+        &mut coded[0..m],
+    )
 }

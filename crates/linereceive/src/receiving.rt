@@ -1,6 +1,5 @@
 // Super-frame after super-frame, both receivers from fresh.
 use crate::inputs;
-use crate::inputs::CAPTURE;
 use crate::inputs::Input;
 use crate::inputs::MISFIT;
 use crate::outputs::Descriptors;
@@ -8,7 +7,10 @@ use crate::outputs::put;
 use crate::say;
 use calls::Answer;
 use calls::Refusal;
+use cells_core::sizes::first_pair;
+use cells_core::sizes::pairs;
 use files::message;
+use profile::Profile;
 ghost use mathlib.Core.Path.{_≡_};
 ghost use Prim.Native.Nat.{_*_, _≤_, _<_};
 ghost use lib.ListN.{length};
@@ -34,40 +36,49 @@ pub fn refused(refusal: u32) -> Received
 
 // Takes the pairs of both encoders off the frames of a super-frame.
 fn take_apart(
+    profile: Profile,
     frames: &[u8; 356352],
     overhead: &[u8],
-    pairs0: &mut [u8; 86016],
-    pairs1: &mut [u8; 86016],
+    pairs0: &mut [u8],
+    pairs1: &mut [u8],
 ) -> Answer
-    requires { ⌜ length (now overhead) ≡ 12288 ⌝ }
+    requires { ⌜ (length (now overhead) ≡ 12288) × (length (now pairs0) ≡ 86016) × (length (now pairs1) ≡ 86016) ⌝ }
 {
-    superframe::take_apart(frames, overhead, pairs0, pairs1)
+    let m = pairs(profile) * 512;
+    superframe::take_apart(
+        profile,
+        frames,
+        overhead,
+        &mut pairs0[0..m],
+        &mut pairs1[0..m],
+    )
 }
 
 // The same of the next super-frame of the capture, which is read into a buffer.
 fn take(
+    profile: Profile,
     capture: Input,
     overhead: &[u8],
     frames: &mut [u8; 356352],
-    pairs0: &mut [u8; 86016],
-    pairs1: &mut [u8; 86016],
+    pairs0: &mut [u8],
+    pairs1: &mut [u8],
 ) -> Answer
-    requires { ⌜ length (now overhead) ≡ 12288 ⌝ }
+    requires { ⌜ (length (now overhead) ≡ 12288) × (length (now pairs0) ≡ 86016) × (length (now pairs1) ≡ 86016) ⌝ }
 {
     if !inputs::read_frames(capture, frames) {
         return Answer::Refused(Refusal::Misfit);
     }
-    take_apart(frames, overhead, pairs0, pairs1)
+    take_apart(profile, frames, overhead, pairs0, pairs1)
 }
 
 // The refusal of super-frame q, and where its illegal byte is in the capture.
-fn judge(taken: Answer, capture: Input, q: u32) -> u32
+fn judge(profile: Profile, taken: Answer, capture: Input, q: u32) -> u32
     requires { ⌜ q < 64 ⌝ }
 {
     let refusal = calls::refusal_of(taken);
     if refusal == 5 {
         let at = calls::index_of(taken) % 356352;
-        say::illegal(CAPTURE, capture.frames as usize + q as usize * 356352 + at);
+        say::illegal_cell(profile, capture.frames as usize + q as usize * 356352 + at);
     }
     refusal
 }
@@ -75,27 +86,28 @@ fn judge(taken: Answer, capture: Input, q: u32) -> u32
 // Receives the pairs of one encoder, numbered from `first` on, and writes payload and marks; the names of the two files are said where a
 // write fails.
 fn receive_and_write(
-    pairs: &[u8; 86016],
+    number: usize,
+    coded: &[u8],
     first: u32,
     history: &mut [u8; 5120],
     payload: &mut [u8],
+    marks: &mut [u8],
     payload_file: i32,
     payload_name: &[u8],
     marks_file: i32,
     marks_name: &[u8],
 ) -> Received
-    requires { ⌜ (first < 65536) × (length (now payload) ≡ 74592) ⌝ }
+    requires { ⌜ (number ≤ 168) × (length (now coded) ≡ number * 512) × (first < 65536) × (length (now payload) ≡ number * 444) × (length (now marks) ≡ number * 32) ⌝ }
     ensures { λ r. ⌜ (r .flips < 4294967296) × (r .lost < 4294967296) ⌝ }
 {
-    let mut marks = [0u8; 5376];
-    pair_stream::receive(168, pairs, first, history, payload, &mut marks);
+    pair_stream::receive(number, coded, first, history, payload, marks);
     if !put(payload_file, payload, payload_name) {
         return refused(MISFIT);
     }
-    if !put(marks_file, &marks, marks_name) {
+    if !put(marks_file, marks, marks_name) {
         return refused(MISFIT);
     }
-    let sums = marks::add_up(&marks);
+    let sums = marks::add_up(marks);
     Received {
         refusal: 0,
         flips: sums.flips as u64,
@@ -106,7 +118,8 @@ fn receive_and_write(
 
 // The same with a buffer that has room for the frames of a super-frame: the payload takes its front, so that no stack is needed for it.
 fn receive(
-    pairs: &[u8; 86016],
+    profile: Profile,
+    coded: &[u8],
     first: u32,
     history: &mut [u8; 5120],
     space: &mut [u8],
@@ -115,14 +128,21 @@ fn receive(
     marks_file: i32,
     marks_name: &[u8],
 ) -> Received
-    requires { ⌜ (first < 65536) × (length (now space) ≡ 356352) ⌝ }
+    requires { ⌜ (length (now coded) ≡ 86016) × (first < 65536) × (length (now space) ≡ 356352) ⌝ }
     ensures { λ r. ⌜ (r .flips < 4294967296) × (r .lost < 4294967296) ⌝ }
 {
+    let n = pairs(profile);
+    let c = n * 512;
+    let p = n * 444;
+    let m = n * 32;
+    let mut marks = [0u8; 5376];
     receive_and_write(
-        pairs,
+        n,
+        &coded[0..c],
         first,
         history,
-        &mut space[0..74592],
+        &mut space[0..p],
+        &mut marks[0..m],
         payload_file,
         payload_name,
         marks_file,
@@ -130,8 +150,22 @@ fn receive(
     )
 }
 
+// What came of both encoders, where the first was not refused.
+fn added(received0: Received, received1: Received) -> Received
+    requires { ⌜ (received0 .flips < 4294967296) × (received0 .lost < 4294967296) × (received1 .flips < 4294967296) × (received1 .lost < 4294967296) ⌝ }
+    ensures { λ r. ⌜ (r .flips < 8589934592) × (r .lost < 8589934592) ⌝ }
+{
+    Received {
+        refusal: received1.refusal,
+        flips: received0.flips + received1.flips,
+        lost: received0.lost + received1.lost,
+        overhead: 0,
+    }
+}
+
 // Receives the pairs of both encoders.
 fn receive_both(
+    profile: Profile,
     pairs0: &[u8; 86016],
     pairs1: &[u8; 86016],
     first: u32,
@@ -144,6 +178,7 @@ fn receive_both(
     ensures { λ r. ⌜ (r .flips < 8589934592) × (r .lost < 8589934592) ⌝ }
 {
     let received0 = receive(
+        profile,
         pairs0,
         first,
         history0,
@@ -157,6 +192,7 @@ fn receive_both(
         return received0;
     }
     let received1 = receive(
+        profile,
         pairs1,
         first,
         history1,
@@ -166,16 +202,12 @@ fn receive_both(
         outputs.marks1,
         b"MARKS1",
     );
-    Received {
-        refusal: received1.refusal,
-        flips: received0.flips + received1.flips,
-        lost: received0.lost + received1.lost,
-        overhead: 0,
-    }
+    added(received0, received1)
 }
 
 // Receives super-frame q.
 fn receive_next(
+    profile: Profile,
     capture: Input,
     q: u32,
     overhead: &[u8],
@@ -189,15 +221,16 @@ fn receive_next(
 {
     let mut pairs0 = [0u8; 86016];
     let mut pairs1 = [0u8; 86016];
-    let taken = take(capture, overhead, space, &mut pairs0, &mut pairs1);
-    let refusal = judge(taken, capture, q);
+    let taken = take(profile, capture, overhead, space, &mut pairs0, &mut pairs1);
+    let refusal = judge(profile, taken, capture, q);
     if refusal != 0 {
         return refused(refusal);
     }
     let mut received = receive_both(
+        profile,
         &pairs0,
         &pairs1,
-        q * 168,
+        first_pair(profile, q),
         history0,
         history1,
         space,
@@ -208,7 +241,12 @@ fn receive_next(
 }
 
 // Receives all super-frames.
-pub fn receive_all(capture: Input, overhead: &[u8], outputs: Descriptors) -> Received
+pub fn receive_all(
+    profile: Profile,
+    capture: Input,
+    overhead: &[u8],
+    outputs: Descriptors,
+) -> Received
     requires { ⌜ (capture .superframes ≤ 64) × (length (now overhead) ≡ 12288) ⌝ }
 {
     let mut history0 = [0u8; 5120];
@@ -220,6 +258,7 @@ pub fn receive_all(capture: Input, overhead: &[u8], outputs: Descriptors) -> Rec
     let n = capture.superframes;
     for q in 0..n {
         let next = receive_next(
+            profile,
             capture,
             q,
             overhead,

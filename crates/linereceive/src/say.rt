@@ -2,6 +2,7 @@
 use crate::inputs::CAPTURE;
 use crate::inputs::LINE;
 use files::message;
+use profile::Profile;
 
 // Two files whose numbers of super-frames differ.
 pub fn unequal(line: u32, capture: u32) {
@@ -16,6 +17,14 @@ pub fn unequal(line: u32, capture: u32) {
 // The illegal byte of a file, by its index in it.
 pub fn illegal(argument: usize, index: usize) {
     message::line_with(argument, b"a byte of 16 or more at index ", index);
+}
+
+// The illegal byte of the capture's frames: of 16 or more, or, in QPSK, a payload cell's that the profile has not.
+pub fn illegal_cell(profile: Profile, index: usize) {
+    match profile {
+        Profile::Qam16 => illegal(CAPTURE, index),
+        Profile::Qpsk => message::line_with(CAPTURE, b"not a cell of the profile at index ", index),
+    }
 }
 
 // Why the header of an open file is refused.

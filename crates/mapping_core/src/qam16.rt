@@ -16,15 +16,9 @@ fn cell_byte(b: u8, h: usize) -> u8
     ensures { λ r. ⌜ r ≡ cellByte b h ⌝ }
 {
     if h == 0 {
-        return rails(
-            level(b / 128 % 2, b / 32 % 2),
-            level(b / 8 % 2, b / 2 % 2),
-        );
+        return rails(level(b / 128 % 2, b / 32 % 2), level(b / 8 % 2, b / 2 % 2));
     }
-    rails(
-        level(b / 64 % 2, b / 16 % 2),
-        level(b / 4 % 2, b % 2),
-    )
+    rails(level(b / 64 % 2, b / 16 % 2), level(b / 4 % 2, b % 2))
 }
 
 // Four bits of a symbol: the pairs of an X level and of a Y level, by their ordinals, woven.

@@ -31,13 +31,7 @@ pub fn make(profile: Profile, pairs0: &[u8], pairs1: &[u8], overhead: &[u8], lin
 }
 
 // The coded pairs of both encoders from legal frames, and the number of overhead cells that differ from the list.
-fn take(
-    profile: Profile,
-    line: &[u8],
-    overhead: &[u8],
-    pairs0: &mut [u8],
-    pairs1: &mut [u8],
-) -> u32
+fn take(profile: Profile, line: &[u8], overhead: &[u8], pairs0: &mut [u8], pairs1: &mut [u8]) -> u32
     requires { ⌜ LegalFrames (modulation profile) (now line) (now overhead) × FramesToPairs (modulation profile) (now line) (now overhead) (now pairs0) (now pairs1) ⌝ }
     ensures { λ r. ⌜ afterDeinterleave (Done r) (now (pairs0 .exit)) (now (pairs1 .exit)) ≡ takenApart (modulation profile) (now (line .entry)) (now (overhead .entry)) ⌝ }
 {

@@ -46,13 +46,7 @@ pub fn frame_all(profile: Profile, cells: &[u8], overhead: &[u8], line: &mut [u8
 }
 
 // The payload of sub-frame s, and the number of its overhead cells that differ.
-fn unframe_next(
-    profile: Profile,
-    s: usize,
-    line: &[u8],
-    overhead: &[u8],
-    cells: &mut [u8],
-) -> u32
+fn unframe_next(profile: Profile, s: usize, line: &[u8], overhead: &[u8], cells: &mut [u8]) -> u32
     requires { ⌜ (s < 48) × FramesToCells (modulation profile) (payloadCells s * 2) (now line) (now overhead) (now cells) ⌝ }
     ensures { λ r. ⌜ (now (cells .exit) ≡ unframed s (partOf 7424 (now (line .entry)) s)) × (r ≡ differingIn (now (line .entry)) (now (overhead .entry)) s) ⌝ }
 {

@@ -1,9 +1,11 @@
 -- `linemake::line::write_parts` is safe and ends: the list that framing is lent is legal.
 -- Assumes nothing.
-use borrow.Author.Needs.{needs}
 use Rattle.cells_spec.specs.CallLaws.{demap-legal}
+use borrow.Author.Needs.{needs}
 use Rattle.linemake.proofs.line.write_parts.Statement.{statement}
 use Rattle.linemake.proofs.line.write_parts.Tie as tie
+
+ruleset kit = (needs, demap-legal)
 
 pub write-parts-spec : {M : Type 1} → statement M
 write-parts-spec =
@@ -17,5 +19,5 @@ write-parts-spec =
     (λ c. search needs)  -- returns-2
     (λ c κs. search needs)  -- put-requires-2
     (λ c. search needs)  -- returns-3
-    (λ c κs. search (needs, demap-legal))  -- write-all-requires
+    (λ c κs. search kit)  -- write-all-requires
     (λ c. search needs))  -- returns-4

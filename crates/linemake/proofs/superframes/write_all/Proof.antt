@@ -6,10 +6,10 @@ use Rattle.linemake.proofs.superframes.write_all.Statement.{statement}
 use Rattle.linemake.proofs.superframes.write_all.Tie as tie
 
 abbrev Inv-loop : tie.InvT-loop
-Inv-loop inputs superframes overhead out history0₀ history1₀ line₀ q₀ history0 history1 line q = Unit {0}
+Inv-loop profile inputs superframes overhead out history0₀ history1₀ line₀ q₀ history0 history1 line q = Unit {0}
 
 abbrev μ-loop : tie.MeasureT-loop
-μ-loop inputs superframes overhead out history0₀ history1₀ line₀ q₀ history0 history1 line q = superframes - q
+μ-loop profile inputs superframes overhead out history0₀ history1₀ line₀ q₀ history0 history1 line q = superframes - q
 
 pub write-all-spec : {M : Type 1} → statement M
 write-all-spec =
@@ -18,11 +18,11 @@ write-all-spec =
     Inv-loop
     μ-loop
     (λ c. search needs)  -- loop-holds
-    (λ c. search needs)  -- mul-first
+    (λ c κs. search needs)  -- first-pair-requires
     (λ c κs. search needs)  -- write-next-requires
     (λ c. search needs)  -- returns
-    (λ c. search needs)  -- add-say
-    (λ c κs. search needs)  -- say-requires
+    (λ c. search needs)  -- add-progress
+    (λ c κs. search needs)  -- progress-requires
     (λ c. search needs)  -- add-q
     (λ c. search needs)  -- loop-less
     (λ c. search needs)  -- loop-again

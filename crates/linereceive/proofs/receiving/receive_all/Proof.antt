@@ -6,11 +6,10 @@ use Rattle.linereceive.proofs.receiving.receive_all.Statement.{statemen
 use Rattle.linereceive.proofs.receiving.receive_all.Tie as tie
 
 abbrev Inv-loop : tie.InvT-loop
-Inv-loop capture overhead outputs history0₀ history1₀ space₀ flips₀ lost₀ differing₀ n q₀ history0 history1 space flips lost differing q =
-    (flips ≤ q * 8589934592) × (lost ≤ q * 8589934592) × (differing ≤ q * 8589934592)
+Inv-loop profile capture overhead outputs history0₀ history1₀ space₀ flips₀ lost₀ differing₀ n q₀ history0 history1 space flips lost differing q = (flips ≤ q * 8589934592) × (lost ≤ q * 8589934592) × (differing ≤ q * 8589934592)
 
 abbrev μ-loop : tie.MeasureT-loop
-μ-loop capture overhead outputs history0₀ history1₀ space₀ flips₀ lost₀ differing₀ n q₀ history0 history1 space flips lost differing q = n - q
+μ-loop profile capture overhead outputs history0₀ history1₀ space₀ flips₀ lost₀ differing₀ n q₀ history0 history1 space flips lost differing q = n - q
 
 pub receive-all-spec : {M : Type 1} → statement M
 receive-all-spec =
