@@ -30,10 +30,10 @@ fn cell_flaw(number: u32, m: usize, v: u8) -> u8
     if m % 32 == 0 {
         return overhead_flaw(v);
     }
-    if m < edge(number) {
-        return overhead_flaw(v);
+    if edge(number) <= m {
+        return flaw(v);
     }
-    flaw(v)
+    overhead_flaw(v)
 }
 
 // The search for the first illegal byte, cell by cell.

@@ -14,7 +14,7 @@ cell-flaw-spec =
     (λ c κs. search kit)  -- overhead-flaw-requires
     (λ c. search kit)  -- returns
     (λ c κs. search kit)  -- edge-requires
-    (λ c κs. search kit)  -- overhead-flaw-requires-2
-    (λ c. search kit)  -- returns-2
     (λ c κs. search kit)  -- flaw-requires
+    (λ c. search kit)  -- returns-2
+    (λ c κs. search kit)  -- overhead-flaw-requires-2
     (λ c. search kit))  -- returns-3
