@@ -1,5 +1,9 @@
 //! crates/frame_core: a sub-frame by groups of a pilot and 31 payload cells.
 
+use ofec_tests::profile::Profile;
+
+use super::cells_core;
+
 const TRAINING: usize = 11;
 const FIRST_OVERHEAD: usize = 110;
 
@@ -158,4 +162,26 @@ pub fn differing(number: u32, frame: &[u8], own: &[u8]) -> u32 {
         n = n + cell_differs(frame, i * 32, own, i + g);
     }
     n
+}
+
+fn is_overhead(number: u32, cell: usize) -> bool {
+    cell % 32 == 0 || cell < edge(number)
+}
+
+pub fn first_illegal(profile: Profile, number: u32, frame: &[u8]) -> usize {
+    if let Profile::Qam16 = profile {
+        return cells_core::first_illegal(frame);
+    }
+    for i in 0..frame.len() {
+        let own = &frame[i..i + 1];
+        let at = if is_overhead(number, i / 2) {
+            cells_core::first_illegal(own)
+        } else {
+            cells_core::first_illegal_payload(profile, own)
+        };
+        if at == 0 {
+            return i;
+        }
+    }
+    frame.len()
 }
