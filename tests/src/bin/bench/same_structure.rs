@@ -19,6 +19,7 @@ use ofec_tests::profile::Profile;
 mod block_core;
 mod cells_core;
 mod frame_core;
+mod mapping_core;
 mod pair_core;
 mod pair_words_core;
 mod word;
@@ -102,8 +103,8 @@ pub fn bits_to_cells(profile: Profile, bits: &[u8], cells: &mut [u8]) -> Outcome
         return Outcome::refused(MISFIT);
     }
     match profile {
-        Profile::Qam16 => cells_core::map(bits, cells.try_into().expect("measured")),
-        Profile::Qpsk => cells_core::map_qpsk(bits, cells.try_into().expect("measured")),
+        Profile::Qam16 => mapping_core::qam16::map(bits, cells.try_into().expect("measured")),
+        Profile::Qpsk => mapping_core::qpsk::map(bits, cells.try_into().expect("measured")),
     }
     Outcome::accepted(0)
 }
@@ -121,8 +122,8 @@ pub fn cells_to_bits(profile: Profile, cells: &[u8], bits: &mut [u8]) -> Outcome
         return Outcome::off_grid(at);
     }
     match profile {
-        Profile::Qam16 => cells_core::demap(cells.try_into().expect("measured"), bits),
-        Profile::Qpsk => cells_core::demap_qpsk(cells.try_into().expect("measured"), bits),
+        Profile::Qam16 => mapping_core::qam16::demap(cells.try_into().expect("measured"), bits),
+        Profile::Qpsk => mapping_core::qpsk::demap(cells.try_into().expect("measured"), bits),
     }
     Outcome::accepted(0)
 }

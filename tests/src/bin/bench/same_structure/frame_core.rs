@@ -2,7 +2,7 @@
 
 use ofec_tests::profile::Profile;
 
-use super::cells_core;
+use super::cells_core::{self, first_flaw, flaw};
 
 const TRAINING: usize = 11;
 const FIRST_OVERHEAD: usize = 110;
@@ -164,24 +164,56 @@ pub fn differing(number: u32, frame: &[u8], own: &[u8]) -> u32 {
     n
 }
 
-fn is_overhead(number: u32, cell: usize) -> bool {
-    cell % 32 == 0 || cell < edge(number)
+fn overhead_flaw(v: u8) -> u8 {
+    if 16 <= v {
+        return 1;
+    }
+    0
 }
 
-pub fn first_illegal(profile: Profile, number: u32, frame: &[u8]) -> usize {
-    if let Profile::Qam16 = profile {
-        return cells_core::first_illegal(frame);
+fn cell_flaw(number: u32, m: usize, v: u8) -> u8 {
+    if m % 32 == 0 {
+        return overhead_flaw(v);
     }
-    for i in 0..frame.len() {
-        let own = &frame[i..i + 1];
-        let at = if is_overhead(number, i / 2) {
-            cells_core::first_illegal(own)
-        } else {
-            cells_core::first_illegal_payload(profile, own)
-        };
-        if at == 0 {
-            return i;
+    if m < edge(number) {
+        return overhead_flaw(v);
+    }
+    flaw(v)
+}
+
+fn search(number: u32, frame: &[u8]) -> usize {
+    for j in 0..frame.len() {
+        if cell_flaw(number, j / 2, frame[j]) != 0 {
+            return j;
         }
     }
     frame.len()
+}
+
+fn first_flaw_of(number: u32, frame: &[u8], payload: &mut [u8]) -> usize {
+    extract(number, frame, payload);
+    first_flaw(payload)
+}
+
+fn first_payload_flaw(number: u32, frame: &[u8]) -> usize {
+    let mut payload = [0; 7424];
+    let n = payload_cells(number) * 2;
+    first_flaw_of(number, frame, &mut payload[0..n])
+}
+
+fn first_illegal_qpsk(number: u32, frame: &[u8]) -> usize {
+    if cells_core::first_illegal(frame) < frame.len() {
+        return search(number, frame);
+    }
+    if first_payload_flaw(number, frame) < payload_cells(number) * 2 {
+        return search(number, frame);
+    }
+    frame.len()
+}
+
+pub fn first_illegal(profile: Profile, number: u32, frame: &[u8]) -> usize {
+    match profile {
+        Profile::Qam16 => cells_core::first_illegal(frame),
+        Profile::Qpsk => first_illegal_qpsk(number, frame),
+    }
 }
