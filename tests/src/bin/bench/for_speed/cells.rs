@@ -25,14 +25,19 @@ fn symbol(cell: u16) -> u16 {
 /// The cells of the two QPSK symbols of a byte: 5 + 4I + Q of each pair of bits (I, Q), which stand two apart.
 #[inline(always)]
 fn two_cells(byte: u8) -> [u8; 4] {
-    [byte >> 5, byte >> 4, byte >> 1, byte].map(|pair| (pair & 5) + 5)
+    [
+        (byte >> 5 & 5) + 5,
+        (byte >> 4 & 5) + 5,
+        (byte >> 1 & 5) + 5,
+        (byte & 5) + 5,
+    ]
 }
 
-/// The byte of two QPSK cells.
+/// The byte of two QPSK cells, in the lowest byte.
 #[inline(always)]
-fn two_symbols(cells: [u8; 4]) -> u8 {
-    let [x, y, z, w] = cells.map(|byte| byte - 5);
-    x << 5 | y << 4 | z << 1 | w
+fn two_symbols(cells: u32) -> u32 {
+    let v = cells.wrapping_sub(0x0505_0505);
+    v << 5 | v >> 4 | v >> 15 | v >> 24
 }
 
 /// What is wrong with a payload cell's byte: 0 where it is legal.
@@ -99,7 +104,7 @@ pub fn cells_to_bits(profile: Profile, cells: &[u8], bits: &mut [u8]) -> Outcome
         Profile::Qpsk => {
             let (cells, _) = cells.as_chunks();
             for (own, byte) in cells.iter().zip(bits) {
-                *byte = two_symbols(*own);
+                *byte = two_symbols(u32::from_le_bytes(*own)) as u8;
             }
         }
     }

@@ -4,7 +4,7 @@ use ofec_tests::frames::OVERHEAD;
 use ofec_tests::outcome::{Outcome, MISFIT, NO_SUCH_FRAME};
 use ofec_tests::profile::Profile;
 
-use super::cells::{any_flaw, first_illegal};
+use super::cells::{any_flaw, first_illegal, flaw};
 
 /// Bytes of a sub-frame below the edge, and of its payload before the first whole group.
 fn edge(number: u32) -> (usize, usize) {
@@ -48,17 +48,22 @@ fn first_illegal_of_frame(profile: Profile, number: u32, frame: &[u8]) -> Option
     let (low, rest) = edge(number);
     let (head, groups) = frame.split_at(low + rest);
     let (head, payload) = head.split_at(low);
-    let mut any = any_flaw(OVERHEAD, head) | any_flaw(profile, payload);
-    for group in groups.chunks_exact(64) {
-        any |= any_flaw(OVERHEAD, &group[..2]) | any_flaw(profile, &group[2..]);
+    // The flaws of each place of a group, which is two bytes of a pilot and then payload.
+    let (mut pilots, mut flaws) = (0, [0; 62]);
+    for group in groups.as_chunks::<64>().0 {
+        pilots |= group[0] | group[1];
+        for place in 0..62 {
+            flaws[place] |= flaw(Profile::Qpsk, group[place + 2]);
+        }
     }
-    if !any {
+    let any = pilots >= 16 || flaws != [0; 62];
+    if !any && !any_flaw(OVERHEAD, head) && !any_flaw(profile, payload) {
         return None;
     }
     (0..frame.len()).find(|&index| {
         let in_overhead = index < low || index >= low + rest && index % 64 < 2;
         let rule = if in_overhead { OVERHEAD } else { profile };
-        any_flaw(rule, &frame[index..=index])
+        flaw(rule, frame[index]) != 0
     })
 }
 
