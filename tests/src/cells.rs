@@ -90,20 +90,19 @@ pub fn first_illegal(profile: Profile, cells: &[u8]) -> Option<usize> {
     cells.iter().position(|&byte| !is_legal(profile, byte))
 }
 
-/// The symbols of a byte: itself, or its upper half and then its lower.
-fn symbols(profile: Profile, byte: u8) -> Vec<u8> {
-    match profile {
-        Profile::Qam16 => vec![byte],
-        Profile::Qpsk => vec![byte / 16, byte % 16],
+/// Symbol n of bits: a byte is one, or its upper half is one and then its lower.
+fn symbol_of(profile: Profile, bits: &[u8], n: usize) -> u8 {
+    match (profile, n % 2) {
+        (Profile::Qam16, _) => bits[n],
+        (Profile::Qpsk, 0) => bits[n / 2] / 16,
+        (Profile::Qpsk, _) => bits[n / 2] % 16,
     }
 }
 
-/// The byte of these symbols.
-fn byte(profile: Profile, symbols: &[u8]) -> u8 {
-    match profile {
-        Profile::Qam16 => symbols[0],
-        Profile::Qpsk => 16 * symbols[0] + symbols[1],
-    }
+/// The byte of its symbols, one or two.
+fn byte_of(profile: Profile, symbols: impl Iterator<Item = u8>) -> u8 {
+    let bits = profile.symbol_bits();
+    symbols.fold(0, |sum: u32, symbol| (sum << bits) + u32::from(symbol)) as u8
 }
 
 /// As `ofec_bits_to_cells` or `ofec_bits_to_cells_qpsk`.
@@ -111,9 +110,8 @@ pub fn bits_to_cells(profile: Profile, bits: &[u8], cells: &mut [u8]) -> Outcome
     if [bits.len(), cells.len()] != [BUFFER_BYTES, profile.cells_bytes()] {
         return Outcome::refused(MISFIT);
     }
-    let symbols = bits.iter().flat_map(|&byte| symbols(profile, byte));
-    for (symbol, place) in symbols.zip(cells.chunks_mut(2)) {
-        place.copy_from_slice(&cell(profile, symbol));
+    for (n, place) in cells.chunks_mut(2).enumerate() {
+        place.copy_from_slice(&cell(profile, symbol_of(profile, bits, n)));
     }
     Outcome::accepted(0)
 }
@@ -127,11 +125,10 @@ pub fn cells_to_bits(profile: Profile, cells: &[u8], bits: &mut [u8]) -> Outcome
         return Outcome::off_grid(index);
     }
     for (cells, place) in cells.chunks(16 / profile.symbol_bits()).zip(bits) {
-        let symbols: Vec<u8> = cells
+        let symbols = cells
             .chunks(2)
-            .map(|cell| symbol(profile, [cell[0], cell[1]]))
-            .collect();
-        *place = byte(profile, &symbols);
+            .map(|cell| symbol(profile, [cell[0], cell[1]]));
+        *place = byte_of(profile, symbols);
     }
     Outcome::accepted(0)
 }

@@ -143,8 +143,8 @@ fn another_cell(profile: Profile, frames: &mut [u8], cell: usize, random: &mut R
 
 /// Any legal cells in place of these.
 fn garbage(profile: Profile, frames: &mut [u8], cells: Range<usize>, random: &mut Random) {
-    for index in 2 * cells.start..2 * cells.end {
-        frames[index] = random.legal(rule(profile, index / 2));
+    for cell in cells {
+        frames[2 * cell..][..2].copy_from_slice(&random.payload(rule(profile, cell), 2));
     }
 }
 

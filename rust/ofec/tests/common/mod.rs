@@ -3,18 +3,24 @@
 use ofec::{Encoder, Mark, Profile, Receiver, Refusal, cells, frame, superframe};
 
 type Done = Result<(), Refusal>;
+/// Cells to bits, or bits to cells.
+type Mapping = fn(&[u8], &mut [u8]) -> Done;
+/// Framing, or with the number of differing cells unframing.
+type Framing<T> = fn(u32, &[u8], &[u8], &mut [u8]) -> Result<T, Refusal>;
+type Make = fn([&[u8]; 2], &[u8], &mut [u8]) -> Done;
+type TakeApart = fn(&[u8], &[u8], [&mut [u8]; 2]) -> Result<u32, Refusal>;
 
 /// Those of one profile.
 #[derive(Clone, Copy)]
 pub struct Calls {
     pub profile: Profile,
-    pub bits_to_cells: fn(&[u8], &mut [u8]) -> Done,
-    pub cells_to_bits: fn(&[u8], &mut [u8]) -> Done,
-    pub frame: fn(u32, &[u8], &[u8], &mut [u8]) -> Done,
-    pub unframe: fn(u32, &[u8], &[u8], &mut [u8]) -> Result<u32, Refusal>,
+    pub bits_to_cells: Mapping,
+    pub cells_to_bits: Mapping,
+    pub frame: Framing<()>,
+    pub unframe: Framing<u32>,
     pub encode: fn(&mut Encoder, &[u8], &mut [u8]) -> Done,
-    pub make: fn([&[u8]; 2], &[u8], &mut [u8]) -> Done,
-    pub take_apart: fn(&[u8], &[u8], [&mut [u8]; 2]) -> Result<u32, Refusal>,
+    pub make: Make,
+    pub take_apart: TakeApart,
     pub receive: fn(&mut Receiver, &[u8], &mut [u8], &mut [Mark]) -> Done,
 }
 

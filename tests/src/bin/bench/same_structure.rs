@@ -10,7 +10,9 @@
 #![allow(
     clippy::needless_range_loop,
     clippy::manual_memcpy,
-    clippy::assign_op_pattern
+    clippy::assign_op_pattern,
+    clippy::manual_div_ceil,
+    clippy::manual_is_multiple_of
 )]
 
 use ofec_tests::outcome::{Outcome, COUNT_SPENT, MISFIT, NO_SUCH_FRAME};
