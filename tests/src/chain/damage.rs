@@ -150,14 +150,11 @@ fn garbage(profile: Profile, frames: &mut [u8], cells: Range<usize>, random: &mu
 
 /// I (size 4) or Q (size 1) of a cell's byte moved by one level; an end level has only one way to go.
 fn stepped(profile: Profile, byte: u8, size: u8, up: bool) -> u8 {
-    let levels = legal_bytes(profile).iter().map(|byte| byte % 4);
+    let mut levels = legal_bytes(profile).iter().map(|byte| byte % 4);
     let level = byte / size % 4;
-    let up = match level {
-        _ if Some(level) == levels.clone().min() => true,
-        _ if Some(level) == levels.max() => false,
-        _ => up,
-    };
-    if up {
+    let lowest = levels.clone().all(|other| level <= other);
+    let highest = levels.all(|other| other <= level);
+    if lowest || up && !highest {
         byte + size
     } else {
         byte - size
