@@ -150,17 +150,18 @@ ofec_outcome ofec_unframe(uint32_t number, const uint8_t *frame, size_t frame_le
 /* Maps a buffer's 21,504 bytes of bits to 86,016 bytes of QPSK cells (written). Refusal: 1. */
 ofec_outcome ofec_bits_to_cells_qpsk(const uint8_t *bits, size_t bits_length, uint8_t *cells, size_t cells_length);
 
-/* Maps a buffer's 86,016 bytes of QPSK cells to 21,504 bytes of bits (written). A byte other than 5, 6, 9 and 10 is illegal: it is 16 or
+/* Maps a buffer's 86,016 bytes of QPSK cells to 21,504 bytes of bits (written). A byte is illegal unless it is 5, 6, 9 or 10: it is 16 or
  * more, or has a level of -3 or 3. Refusals: 1, 5. */
 ofec_outcome ofec_cells_to_bits_qpsk(const uint8_t *cells, size_t cells_length, uint8_t *bits, size_t bits_length);
 
-/* As ofec_frame, with payload cells of QPSK: a byte of the payload other than 5, 6, 9 and 10 is illegal. Overhead cells are the same in
- * both profiles: of the list a byte of 16 or more is illegal. Refusals: 1, 4, 5. */
+/* As ofec_frame, with payload cells of QPSK: a byte of the payload is illegal unless it is 5, 6, 9 or 10. Overhead cells are not narrowed:
+ * a byte of the list is illegal from 16 on. Refusals: 1, 4, 5. */
 ofec_outcome ofec_frame_qpsk(uint32_t number, const uint8_t *payload, size_t payload_length, const uint8_t *overhead,
                              size_t overhead_length, uint8_t *frame, size_t frame_length);
 
-/* As ofec_unframe, with payload cells of QPSK: the frame's bytes are looked at in their order, each by the rule of its own cell. value: the
- * number of overhead cells that differ from the list. Refusals: 1, 4, 5. */
+/* As ofec_unframe, with payload cells of QPSK. The bytes of the frame are looked at in their order: one of an overhead cell is illegal from
+ * 16 on, and one of a payload cell unless it is 5, 6, 9 or 10. value: the number of overhead cells that differ from the list. Refusals: 1,
+ * 4, 5. */
 ofec_outcome ofec_unframe_qpsk(uint32_t number, const uint8_t *frame, size_t frame_length, const uint8_t *overhead, size_t overhead_length,
                                uint8_t *payload, size_t payload_length);
 
