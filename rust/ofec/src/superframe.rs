@@ -116,6 +116,7 @@ pub fn encode(encoder: &mut Encoder, payload: &[u8], coded: &mut [u8]) -> Result
 }
 
 /// As [`encode`], of a super-frame of QPSK: 84 pairs, `payload` of 37,296 bytes and `coded` of 43,008.
+/// [`receive_qpsk`] has an example.
 pub fn encode_qpsk(encoder: &mut Encoder, payload: &[u8], coded: &mut [u8]) -> Result<(), Refusal> {
     encode_by(Qpsk, encoder, payload, coded)
 }
@@ -325,6 +326,25 @@ pub fn receive(
 
 /// As [`receive`], of a super-frame of QPSK: 84 pairs, `coded` of 43,008 bytes, `payload` of 37,296 and
 /// the `marks` of 2,688 words.
+///
+/// ```
+/// use ofec::superframe::{encode_qpsk, receive_qpsk};
+/// use ofec::{Encoder, Mark, Profile, Receiver};
+///
+/// let payload = vec![0x3c; Profile::Qpsk.payload_bytes()];
+/// let mut coded = vec![0; Profile::Qpsk.coded_bytes()];
+/// encode_qpsk(&mut Encoder::new(), &payload, &mut coded)?;
+///
+/// coded[0] ^= 0x80; // a bit of word 0
+///
+/// let mut received = vec![0; Profile::Qpsk.payload_bytes()];
+/// let mut marks = [Mark::Lost; Profile::Qpsk.words()];
+/// receive_qpsk(&mut Receiver::new(), &coded, &mut received, &mut marks)?;
+/// assert_eq!(received, payload);
+/// assert_eq!(marks[0], Mark::OneFlip);
+/// assert!(marks[1..].iter().all(|&mark| mark == Mark::Sound));
+/// # Ok::<(), ofec::Refusal>(())
+/// ```
 pub fn receive_qpsk(
     receiver: &mut Receiver,
     coded: &[u8],
