@@ -1,5 +1,9 @@
 /* The oFEC line reference: the library for C and Rust (libcapi.a).
  *
+ * Profiles. A line is one of 16-QAM or of QPSK. In 16-QAM a byte of bits is a symbol and gives one cell; in QPSK it is two symbols of four
+ * bits, upper half first, and gives two. Calls that depend on this are there twice: those with _qpsk in their names are for QPSK, and those
+ * without are for 16-QAM. All other calls serve both.
+ *
  * Buffers. Each buffer is passed as a pointer and a length in bytes. The pointer must not be null, and the call may read all of these bytes
  * or, where its comment says "written", change them. The buffers of one call must not overlap, except that two buffers which are only read
  * may be the same. The library has no state: calls may run on several threads at once, as long as no call writes what another one is using.
@@ -27,7 +31,8 @@
 #define OFEC_HISTORY_BYTES 5120             /* the ten coded pairs before, oldest first */
 #define OFEC_PAIRS_BYTES 10752              /* a buffer's coded pairs of one encoder */
 #define OFEC_BITS_BYTES 21504               /* a buffer's bits */
-#define OFEC_CELLS_BYTES 43008              /* a buffer's cells */
+#define OFEC_CELLS_BYTES 43008              /* a buffer's cells in 16-QAM, */
+#define OFEC_QPSK_CELLS_BYTES 86016         /* and in QPSK */
 #define OFEC_FRAME_BYTES 7424               /* a sub-frame */
 #define OFEC_FRAME_PAYLOAD_BYTES 7172       /* the payload cells of a sub-frame from 1 to 47, */
 #define OFEC_FIRST_FRAME_PAYLOAD_BYTES 6980 /* and those of sub-frame 0 */
@@ -38,12 +43,14 @@
 #define OFEC_SUPERFRAME_BYTES 356352        /* a super-frame in a line file */
 
 /* Counts. */
-#define OFEC_BUFFER_PAIRS 21      /* pairs of one encoder in a buffer */
-#define OFEC_SUPERFRAME_BUFFERS 8 /* buffers in a super-frame */
-#define OFEC_SUPERFRAME_PAIRS 168 /* pairs of each encoder in a super-frame */
-#define OFEC_SUBFRAMES 48         /* sub-frames in a super-frame */
-#define OFEC_MOST_SUPERFRAMES 64  /* the most super-frames that a line file can have */
-#define OFEC_LOST 3               /* the mark of a lost word; a lower mark is the number of flips */
+#define OFEC_BUFFER_PAIRS 21           /* pairs of one encoder in a buffer */
+#define OFEC_SUPERFRAME_BUFFERS 8      /* buffers in a super-frame of 16-QAM, */
+#define OFEC_QPSK_SUPERFRAME_BUFFERS 4 /* and of QPSK */
+#define OFEC_SUPERFRAME_PAIRS 168      /* pairs of each encoder in a super-frame of 16-QAM, */
+#define OFEC_QPSK_SUPERFRAME_PAIRS 84  /* and of QPSK */
+#define OFEC_SUBFRAMES 48              /* sub-frames in a super-frame */
+#define OFEC_MOST_SUPERFRAMES 64       /* the most super-frames that a line file can have */
+#define OFEC_LOST 3                    /* the mark of a lost word; a lower mark is the number of flips */
 
 /* Why a call is refused, in the order of the tests. */
 enum ofec_refusal {
@@ -52,7 +59,7 @@ enum ofec_refusal {
     OFEC_BAD_HEADER = 2,    /* a rule of the line file's header fails */
     OFEC_COUNT_SPENT = 3,   /* the pair number is 4,294,967,295, the largest */
     OFEC_NO_SUCH_FRAME = 4, /* the sub-frame number is above 47, or the file does not have that super-frame */
-    OFEC_OFF_GRID = 5       /* a byte of a cell is 16 or more */
+    OFEC_OFF_GRID = 5       /* a byte of a cell is illegal: 16 or more, or in a payload cell of QPSK with a level of -3 or 3 */
 };
 
 /* The name that belongs to a number: "misfit" and so on, and "done" for 0. */
@@ -75,7 +82,7 @@ extern "C" {
 /* What a call answers.
  *   refusal  0 if the call was done, otherwise a number of enum ofec_refusal
  *   value    the call's own number, explained at each call; 0 if the call has none, and 0 in a refusal unless the call says otherwise
- *   index    in refusal 5, the index of the first illegal byte (16 or more) in its buffer; otherwise 0, except in ofec_read_line */
+ *   index    in refusal 5, the index of the first illegal byte in its buffer; otherwise 0, except in ofec_read_line */
 typedef struct {
     uint32_t refusal;
     uint32_t value;
@@ -122,7 +129,7 @@ ofec_outcome ofec_deinterleave(const uint8_t *bits, size_t bits_length, uint8_t 
 /* Maps a buffer's 21,504 bytes of bits to 43,008 bytes of cells (written). Refusal: 1. */
 ofec_outcome ofec_bits_to_cells(const uint8_t *bits, size_t bits_length, uint8_t *cells, size_t cells_length);
 
-/* Maps a buffer's 43,008 bytes of cells to 21,504 bytes of bits (written). Refusals: 1, 5. */
+/* Maps a buffer's 43,008 bytes of cells to 21,504 bytes of bits (written). A byte of 16 or more is illegal. Refusals: 1, 5. */
 ofec_outcome ofec_cells_to_bits(const uint8_t *cells, size_t cells_length, uint8_t *bits, size_t bits_length);
 
 /* Frames sub-frame `number`, 0 to 47. payload: 6,980 bytes for number 0 and 7,172 for each other; not measured if the number is above 47.
@@ -139,6 +146,24 @@ ofec_outcome ofec_frame(uint32_t number, const uint8_t *payload, size_t payload_
  * Refusals: 1, 4, 5, with the index as in ofec_frame. */
 ofec_outcome ofec_unframe(uint32_t number, const uint8_t *frame, size_t frame_length, const uint8_t *overhead, size_t overhead_length,
                           uint8_t *payload, size_t payload_length);
+
+/* Maps a buffer's 21,504 bytes of bits to 86,016 bytes of QPSK cells (written). Refusal: 1. */
+ofec_outcome ofec_bits_to_cells_qpsk(const uint8_t *bits, size_t bits_length, uint8_t *cells, size_t cells_length);
+
+/* Maps a buffer's 86,016 bytes of QPSK cells to 21,504 bytes of bits (written). A byte is illegal unless it is 5, 6, 9 or 10: it is 16 or
+ * more, or has a level of -3 or 3. Refusals: 1, 5. */
+ofec_outcome ofec_cells_to_bits_qpsk(const uint8_t *cells, size_t cells_length, uint8_t *bits, size_t bits_length);
+
+/* As ofec_frame, with payload cells of QPSK: a byte of the payload is illegal unless it is 5, 6, 9 or 10. Overhead cells are not narrowed:
+ * a byte of the list is illegal from 16 on. Refusals: 1, 4, 5. */
+ofec_outcome ofec_frame_qpsk(uint32_t number, const uint8_t *payload, size_t payload_length, const uint8_t *overhead,
+                             size_t overhead_length, uint8_t *frame, size_t frame_length);
+
+/* As ofec_unframe, with payload cells of QPSK. The bytes of the frame are looked at in their order: one of an overhead cell is illegal from
+ * 16 on, and one of a payload cell unless it is 5, 6, 9 or 10. value: the number of overhead cells that differ from the list. Refusals: 1,
+ * 4, 5. */
+ofec_outcome ofec_unframe_qpsk(uint32_t number, const uint8_t *frame, size_t frame_length, const uint8_t *overhead, size_t overhead_length,
+                               uint8_t *payload, size_t payload_length);
 
 /* The line file --------------------------------------------------------------------------------------------------------------- */
 

@@ -96,6 +96,9 @@ static void constants(void) {
     EXPECT(OFEC_SUBFRAMES == 48 && OFEC_SUPERFRAME_BYTES == OFEC_SUBFRAMES * OFEC_FRAME_BYTES && OFEC_BUFFER_PAIRS == 21);
     EXPECT(OFEC_SUPERFRAME_BUFFERS == 8 && OFEC_SUPERFRAME_PAIRS == OFEC_SUPERFRAME_BUFFERS * OFEC_BUFFER_PAIRS);
     EXPECT(OFEC_SUPERFRAME_BUFFERS * OFEC_CELLS_BYTES == OFEC_FIRST_FRAME_PAYLOAD_BYTES + 47 * OFEC_FRAME_PAYLOAD_BYTES);
+    EXPECT(OFEC_QPSK_SUPERFRAME_BUFFERS == 4 && OFEC_QPSK_SUPERFRAME_PAIRS == OFEC_QPSK_SUPERFRAME_BUFFERS * OFEC_BUFFER_PAIRS);
+    EXPECT(OFEC_QPSK_CELLS_BYTES == 4 * OFEC_BITS_BYTES);
+    EXPECT(OFEC_QPSK_SUPERFRAME_BUFFERS * OFEC_QPSK_CELLS_BYTES == OFEC_SUPERFRAME_BUFFERS * OFEC_CELLS_BYTES);
     puts("constants: the lengths and counts of the scope paper");
 }
 
@@ -256,29 +259,79 @@ static void interleaver(void) {
     puts("ofec_interleave, ofec_deinterleave: the four output bits of the bench, each encoder in its own buffer; refusal 1");
 }
 
-static void cells(void) {
-    static const uint8_t bytes[4] = {255, 128, 8, 1}, points[8] = {10, 10, 12, 0, 3, 0, 0, 1};
-    static uint8_t bits[21504], cells[43008], back[21504];
-    memcpy(bits, bytes, 4);
-    memcpy(bits + 21500, bytes, 4);
-    fill(cells, 43008, LEFT);
-    ANSWER(ofec_bits_to_cells(bits, 21504, cells, 43008), 0, 0, 0);
-    EXPECT(memcmp(cells, points, 8) == 0 && filled(cells + 8, 42992, 0) && memcmp(cells + 43000, points, 8) == 0);
-    ANSWER(ofec_cells_to_bits(cells, 43008, back, 21504), 0, 0, 0);
+/* The calls of a profile, and what is known of its cells. */
+typedef struct {
+    ofec_outcome (*bits_to_cells)(const uint8_t *, size_t, uint8_t *, size_t);
+    ofec_outcome (*cells_to_bits)(const uint8_t *, size_t, uint8_t *, size_t);
+    ofec_outcome (*frame)(uint32_t, const uint8_t *, size_t, const uint8_t *, size_t, uint8_t *, size_t);
+    ofec_outcome (*unframe)(uint32_t, const uint8_t *, size_t, const uint8_t *, size_t, uint8_t *, size_t);
+    size_t cells_length;
+    uint8_t bytes[4];   /* four bytes of bits, */
+    uint8_t points[16]; /* and their cells */
+    size_t points_length;
+    uint8_t zero;      /* each byte of the cell of zeros */
+    uint8_t legal[13]; /* bytes of payload cells, */
+    size_t legal_count;
+    uint8_t illegal; /* and one that is none */
+} profile_calls;
+
+static const profile_calls QAM16 = {ofec_bits_to_cells,
+                                    ofec_cells_to_bits,
+                                    ofec_frame,
+                                    ofec_unframe,
+                                    43008,
+                                    {255, 128, 8, 1},
+                                    {10, 10, 12, 0, 3, 0, 0, 1},
+                                    8,
+                                    0,
+                                    {0, 1, 2, 3, 4, 5, 6, 7, 8, 9, 10, 11, 12},
+                                    13,
+                                    200};
+/* 0x1b is the symbols 0001 and 1011. */
+static const profile_calls QPSK = {ofec_bits_to_cells_qpsk,
+                                   ofec_cells_to_bits_qpsk,
+                                   ofec_frame_qpsk,
+                                   ofec_unframe_qpsk,
+                                   86016,
+                                   {0x1b, 0x28, 0xa1, 0x45},
+                                   {5, 6, 10, 6, 6, 5, 9, 5, 10, 5, 5, 6, 5, 9, 5, 10},
+                                   16,
+                                   5,
+                                   {5, 6, 9, 10},
+                                   4,
+                                   15};
+
+static void cells_of(const profile_calls *p) {
+    static uint8_t bits[21504], cells[86016], back[21504];
+    size_t length = p->cells_length, points = p->points_length;
+    fill(bits, 21504, 0);
+    memcpy(bits, p->bytes, 4);
+    memcpy(bits + 21500, p->bytes, 4);
+    fill(cells, length, LEFT);
+    ANSWER(p->bits_to_cells(bits, 21504, cells, length), 0, 0, 0);
+    EXPECT(memcmp(cells, p->points, points) == 0 && memcmp(cells + length - points, p->points, points) == 0);
+    EXPECT(filled(cells + points, length - 2 * points, p->zero));
+    ANSWER(p->cells_to_bits(cells, length, back, 21504), 0, 0, 0);
     EXPECT(memcmp(back, bits, 21504) == 0);
 
     fill(back, 21504, LEFT);
-    cells[30001] = 255;
+    cells[30001] = p->illegal;
     cells[30003] = 16;
-    ANSWER(ofec_cells_to_bits(cells, 43008, back, 21504), 5, 0, 30001);
-    ANSWER(ofec_cells_to_bits(cells, 43007, back, 21504), 1, 0, 0);
-    ANSWER(ofec_cells_to_bits(cells, 43008, back, 21503), 1, 0, 0);
+    ANSWER(p->cells_to_bits(cells, length, back, 21504), 5, 0, 30001);
+    ANSWER(p->cells_to_bits(cells, length - 1, back, 21504), 1, 0, 0);
+    ANSWER(p->cells_to_bits(cells, length, back, 21503), 1, 0, 0);
     EXPECT(filled(back, 21504, LEFT));
-    fill(cells, 43008, LEFT);
-    ANSWER(ofec_bits_to_cells(bits, 21503, cells, 43008), 1, 0, 0);
-    ANSWER(ofec_bits_to_cells(bits, 21504, cells, 43007), 1, 0, 0);
-    EXPECT(filled(cells, 43008, LEFT));
+    fill(cells, length, LEFT);
+    ANSWER(p->bits_to_cells(bits, 21503, cells, length), 1, 0, 0);
+    ANSWER(p->bits_to_cells(bits, 21504, cells, length - 1), 1, 0, 0);
+    EXPECT(filled(cells, length, LEFT));
+}
+
+static void cells(void) {
+    cells_of(&QAM16);
     puts("ofec_bits_to_cells, ofec_cells_to_bits: the cells of the bench; refusals 1 and 5");
+    cells_of(&QPSK);
+    puts("ofec_bits_to_cells_qpsk, ofec_cells_to_bits_qpsk: every pair of levels; refusals 1 and 5");
 }
 
 /* Pilots, training and, in sub-frame 0, the cells up to 109. */
@@ -287,13 +340,13 @@ static int is_overhead(uint32_t number, int cell) {
 }
 
 /* A list and a payload in which neighbours differ, and their frame by the rule above. */
-static size_t framed(uint32_t number, uint8_t *payload, uint8_t *overhead, uint8_t *frame) {
+static size_t framed(const profile_calls *p, uint32_t number, uint8_t *payload, uint8_t *overhead, uint8_t *frame) {
     size_t in_list = number == 0 ? 0 : 444 + 252 * (size_t)(number - 1), in_payload = 0;
     for (size_t i = 0; i < 12288; i++) {
         overhead[i] = (uint8_t)(i * 7 % 13);
     }
     for (size_t i = 0; i < 7172; i++) {
-        payload[i] = (uint8_t)(i * 5 % 11);
+        payload[i] = p->legal[i * 5 % 13 % p->legal_count];
     }
     for (int cell = 0; cell < 3712; cell++) {
         int over = is_overhead(number, cell);
@@ -304,11 +357,11 @@ static size_t framed(uint32_t number, uint8_t *payload, uint8_t *overhead, uint8
     return in_payload;
 }
 
-static void one_subframe(uint32_t number, size_t payload_length) {
+static void one_subframe(const profile_calls *p, uint32_t number, size_t payload_length) {
     static uint8_t payload[7172], overhead[12288], known[7424], frame[7424], back[7172];
-    EXPECT(framed(number, payload, overhead, known) == payload_length);
+    EXPECT(framed(p, number, payload, overhead, known) == payload_length);
     fill(frame, 7424, LEFT);
-    ANSWER(ofec_frame(number, payload, payload_length, overhead, 12288, frame, 7424), 0, 0, 0);
+    ANSWER(p->frame(number, payload, payload_length, overhead, 12288, frame, 7424), 0, 0, 0);
     EXPECT(memcmp(frame, known, 7424) == 0);
 
     frame[2 * 10 + 1] ^= 1; /* the last training cell */
@@ -316,51 +369,58 @@ static void one_subframe(uint32_t number, size_t payload_length) {
     frame[2 * 640] ^= 1;
     frame[2 * 640 + 1] ^= 1;
     fill(back, 7172, LEFT);
-    ANSWER(ofec_unframe(number, frame, 7424, overhead, 12288, back, payload_length), 0, 3, 0);
+    ANSWER(p->unframe(number, frame, 7424, overhead, 12288, back, payload_length), 0, 3, 0);
     EXPECT(memcmp(back, payload, payload_length) == 0 && filled(back + payload_length, 7172 - payload_length, LEFT));
 }
 
 /* Refusals of both calls for sub-frame 2, whose part of the overhead list is bytes 696 to 947. */
-static void frame_refusals(void) {
+static void frame_refusals(const profile_calls *p) {
     static uint8_t payload[7172], overhead[12288], known[7424], frame[7424], back[7172];
-    framed(2, payload, overhead, known);
+    framed(p, 2, payload, overhead, known);
     fill(frame, 7424, LEFT);
     fill(back, 7172, LEFT);
-    ANSWER(ofec_frame(2, payload, 6980, overhead, 12288, frame, 7424), 1, 0, 0);
-    ANSWER(ofec_frame(2, payload, 7172, overhead, 12287, frame, 7424), 1, 0, 0);
-    ANSWER(ofec_frame(2, payload, 7172, overhead, 12288, frame, 7423), 1, 0, 0);
-    ANSWER(ofec_frame(0, payload, 7172, overhead, 12288, frame, 7424), 1, 0, 0);
-    ANSWER(ofec_unframe(2, known, 7423, overhead, 12288, back, 7172), 1, 0, 0);
-    ANSWER(ofec_unframe(2, known, 7424, overhead, 12287, back, 7172), 1, 0, 0);
-    ANSWER(ofec_unframe(2, known, 7424, overhead, 12288, back, 6980), 1, 0, 0);
-    ANSWER(ofec_unframe(0, known, 7424, overhead, 12288, back, 7172), 1, 0, 0);
+    ANSWER(p->frame(2, payload, 6980, overhead, 12288, frame, 7424), 1, 0, 0);
+    ANSWER(p->frame(2, payload, 7172, overhead, 12287, frame, 7424), 1, 0, 0);
+    ANSWER(p->frame(2, payload, 7172, overhead, 12288, frame, 7423), 1, 0, 0);
+    ANSWER(p->frame(0, payload, 7172, overhead, 12288, frame, 7424), 1, 0, 0);
+    ANSWER(p->unframe(2, known, 7423, overhead, 12288, back, 7172), 1, 0, 0);
+    ANSWER(p->unframe(2, known, 7424, overhead, 12287, back, 7172), 1, 0, 0);
+    ANSWER(p->unframe(2, known, 7424, overhead, 12288, back, 6980), 1, 0, 0);
+    ANSWER(p->unframe(0, known, 7424, overhead, 12288, back, 7172), 1, 0, 0);
     /* From 48 on the payload is not measured; the other buffers are. */
-    ANSWER(ofec_frame(48, payload, 5, overhead, 12288, frame, 7424), 4, 0, 0);
-    ANSWER(ofec_frame(48, payload, 5, overhead, 12287, frame, 7424), 1, 0, 0);
-    ANSWER(ofec_frame(48, payload, 5, overhead, 12288, frame, 7423), 1, 0, 0);
-    ANSWER(ofec_unframe(LAST, known, 7424, overhead, 12288, back, 5), 4, 0, 0);
-    ANSWER(ofec_unframe(LAST, known, 7423, overhead, 12288, back, 5), 1, 0, 0);
-    ANSWER(ofec_unframe(LAST, known, 7424, overhead, 12287, back, 5), 1, 0, 0);
+    ANSWER(p->frame(48, payload, 5, overhead, 12288, frame, 7424), 4, 0, 0);
+    ANSWER(p->frame(48, payload, 5, overhead, 12287, frame, 7424), 1, 0, 0);
+    ANSWER(p->frame(48, payload, 5, overhead, 12288, frame, 7423), 1, 0, 0);
+    ANSWER(p->unframe(LAST, known, 7424, overhead, 12288, back, 5), 4, 0, 0);
+    ANSWER(p->unframe(LAST, known, 7423, overhead, 12288, back, 5), 1, 0, 0);
+    ANSWER(p->unframe(LAST, known, 7424, overhead, 12287, back, 5), 1, 0, 0);
     /* An illegal byte of the payload or the frame, with illegal bytes of the list that belong to other sub-frames. */
     overhead[695] = overhead[948] = 16;
-    payload[700] = payload[5] = 200;
-    known[7423] = known[700] = 16;
-    ANSWER(ofec_frame(2, payload, 7172, overhead, 12288, frame, 7424), 5, 0, 5);
-    ANSWER(ofec_unframe(2, known, 7424, overhead, 12288, back, 7172), 5, 0, 700);
+    payload[700] = 200;
+    known[7423] = 16;
+    payload[5] = known[700] = p->illegal;
+    ANSWER(p->frame(2, payload, 7172, overhead, 12288, frame, 7424), 5, 0, 5);
+    ANSWER(p->unframe(2, known, 7424, overhead, 12288, back, 7172), 5, 0, 700);
     /* The list comes first, and its byte at the index says that the index is one of the list. */
     EXPECT(overhead[700] < 16);
     overhead[947] = overhead[701] = 16;
-    ANSWER(ofec_frame(2, payload, 7172, overhead, 12288, frame, 7424), 5, 0, 701);
-    ANSWER(ofec_unframe(2, known, 7424, overhead, 12288, back, 7172), 5, 0, 701);
+    ANSWER(p->frame(2, payload, 7172, overhead, 12288, frame, 7424), 5, 0, 701);
+    ANSWER(p->unframe(2, known, 7424, overhead, 12288, back, 7172), 5, 0, 701);
     EXPECT(filled(frame, 7424, LEFT) && filled(back, 7172, LEFT));
 }
 
+static void frames_of(const profile_calls *p) {
+    one_subframe(p, 0, 6980);
+    one_subframe(p, 1, 7172);
+    one_subframe(p, 47, 7172);
+    frame_refusals(p);
+}
+
 static void frames(void) {
-    one_subframe(0, 6980);
-    one_subframe(1, 7172);
-    one_subframe(47, 7172);
-    frame_refusals();
+    frames_of(&QAM16);
     puts("ofec_frame, ofec_unframe: sub-frames 0, 1 and 47 cell by cell, 3 cells that differ; refusals 1, 4 and 5");
+    frames_of(&QPSK);
+    puts("ofec_frame_qpsk, ofec_unframe_qpsk: the same, with any levels in overhead cells");
 }
 
 /* A file of two super-frames with gaps: the overhead list at 20, the frames at 12,400. */
@@ -421,6 +481,6 @@ int main(void) {
     frames();
     line_file();
     write_header();
-    printf("12 functions, %u checks\n", checks);
+    printf("16 functions, %u checks\n", checks);
     return 0;
 }

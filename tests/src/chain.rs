@@ -11,9 +11,6 @@ pub mod sending;
 
 use crate::frames::{FRAME_BYTES, SUBFRAMES};
 
-/// Pairs of each encoder in a super-frame: 21 in each of its buffers.
-pub const SUPERFRAME_PAIRS: usize = 168;
-pub const SUPERFRAME_BUFFERS: usize = 8;
 /// The frames of a super-frame.
 pub const SUPERFRAME_BYTES: usize = SUBFRAMES as usize * FRAME_BYTES;
 

@@ -2,18 +2,35 @@
 
 use std::ops::Range;
 
-use crate::cells::first_illegal;
+use crate::cells::{first_illegal, is_legal};
 use crate::outcome::{Outcome, MISFIT, NO_SUCH_FRAME};
+use crate::profile::Profile;
 
 pub const SUBFRAMES: u32 = 48;
 pub const SUBFRAME_CELLS: usize = 3_712;
 pub const FRAME_BYTES: usize = 7_424;
 /// The overhead list of a super-frame.
 pub const OVERHEAD_BYTES: usize = 12_288;
+/// Overhead cells of both profiles may be any that a payload cell of 16-QAM may be.
+pub const OVERHEAD: Profile = Profile::Qam16;
 
 /// Whether a cell of sub-frame `number` is overhead: pilot, training, or sub-frame 0's own.
 pub fn is_overhead(number: u32, cell: usize) -> bool {
     cell % 32 == 0 || cell <= 10 || number == 0 && (11..=109).contains(&cell)
+}
+
+/// The profile by whose rule a cell of sub-frame `number` is legal.
+pub fn rule(profile: Profile, number: u32, cell: usize) -> Profile {
+    if is_overhead(number, cell) {
+        OVERHEAD
+    } else {
+        profile
+    }
+}
+
+/// The index of a frame's first byte that is not legal for its cell.
+pub fn first_illegal_of_frame(profile: Profile, number: u32, frame: &[u8]) -> Option<usize> {
+    (0..frame.len()).find(|&index| !is_legal(rule(profile, number, index / 2), frame[index]))
 }
 
 pub fn overhead_cells(number: u32) -> usize {
@@ -38,9 +55,16 @@ pub fn own_overhead(number: u32) -> Range<usize> {
     2 * first..2 * (first + overhead_cells(number))
 }
 
-/// As `ofec_frame`.
-pub fn frame(number: u32, payload: &[u8], overhead: &[u8], frame: &mut [u8]) -> Outcome {
-    if let Some(refused) = refusal(number, frame.len(), payload.len(), overhead, payload) {
+/// As `ofec_frame` or `ofec_frame_qpsk`.
+pub fn frame(
+    profile: Profile,
+    number: u32,
+    payload: &[u8],
+    overhead: &[u8],
+    frame: &mut [u8],
+) -> Outcome {
+    let first_illegal = || first_illegal(profile, payload);
+    if let Some(refused) = refusal(number, frame.len(), payload.len(), overhead, first_illegal) {
         return refused;
     }
     let mut payload = payload.chunks(2);
@@ -56,9 +80,16 @@ pub fn frame(number: u32, payload: &[u8], overhead: &[u8], frame: &mut [u8]) -> 
     Outcome::accepted(0)
 }
 
-/// As `ofec_unframe`.
-pub fn unframe(number: u32, frame: &[u8], overhead: &[u8], payload: &mut [u8]) -> Outcome {
-    if let Some(refused) = refusal(number, frame.len(), payload.len(), overhead, frame) {
+/// As `ofec_unframe` or `ofec_unframe_qpsk`.
+pub fn unframe(
+    profile: Profile,
+    number: u32,
+    frame: &[u8],
+    overhead: &[u8],
+    payload: &mut [u8],
+) -> Outcome {
+    let first_illegal = || first_illegal_of_frame(profile, number, frame);
+    if let Some(refused) = refusal(number, frame.len(), payload.len(), overhead, first_illegal) {
         return refused;
     }
     let mut payload = payload.chunks_mut(2);
@@ -75,13 +106,14 @@ pub fn unframe(number: u32, frame: &[u8], overhead: &[u8], payload: &mut [u8]) -
     Outcome::accepted(differing)
 }
 
-/// Misfit, no such frame, off grid, in this order. `read` is what the call reads beside the list.
+/// Misfit, no such frame, off grid, in this order. `in_other` finds the first illegal byte of what the
+/// call reads beside the list.
 fn refusal(
     number: u32,
     frame_length: usize,
     payload_length: usize,
     overhead: &[u8],
-    read: &[u8],
+    in_other: impl FnOnce() -> Option<usize>,
 ) -> Option<Outcome> {
     let known = number < SUBFRAMES;
     if frame_length != FRAME_BYTES
@@ -94,8 +126,6 @@ fn refusal(
         return Some(Outcome::refused(NO_SUCH_FRAME));
     }
     let own = own_overhead(number);
-    let in_list = first_illegal(&overhead[own.clone()]).map(|index| own.start + index);
-    in_list
-        .or_else(|| first_illegal(read))
-        .map(Outcome::off_grid)
+    let in_list = first_illegal(OVERHEAD, &overhead[own.clone()]).map(|index| own.start + index);
+    in_list.or_else(in_other).map(Outcome::off_grid)
 }

@@ -13,6 +13,7 @@ pub mod interleaver;
 pub mod library;
 pub mod line_file;
 pub mod outcome;
+pub mod profile;
 pub mod programs;
 pub mod random;
 pub mod rows;

@@ -5,6 +5,8 @@ use std::path::{Path, PathBuf};
 use std::process::Output;
 use std::sync::atomic::{AtomicU32, Ordering};
 
+use crate::profile::Profile;
+
 pub fn program(name: &str) -> PathBuf {
     let program = Path::new(env!("CARGO_MANIFEST_DIR"))
         .join("../target/bin")
@@ -35,6 +37,31 @@ impl Printed {
         }
     }
 }
+
+/// The arguments of `linemake` or `linereceive` for this profile: the names, and one word more for QPSK.
+pub fn arguments<'a>(profile: Profile, names: &[&'a str]) -> Vec<&'a str> {
+    let word: &[&str] = match profile {
+        Profile::Qam16 => &[],
+        Profile::Qpsk => &["qpsk"],
+    };
+    [names, word].concat()
+}
+
+/// Words that may not stand behind all the names.
+pub const WRONG_WORDS: [&[&str]; 12] = [
+    &[""],
+    &["more"],
+    &["QPSK"],
+    &["Qpsk"],
+    &["qam16"],
+    &["qps"],
+    &["qpskk"],
+    &["qpsk "],
+    &[" qpsk"],
+    &["qpsk", "qpsk"],
+    &["qpsk", ""],
+    &["more", "qpsk"],
+];
 
 /// What a program says of its progress over so many super-frames.
 pub fn progress(superframes: u32) -> String {

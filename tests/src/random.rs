@@ -1,5 +1,9 @@
 //! A small deterministic generator (splitmix64): the same seed gives the same inputs in every run.
 
+use crate::cells::{is_legal, legal_bytes, GRID};
+use crate::frames::{rule, FRAME_BYTES, OVERHEAD};
+use crate::profile::Profile;
+
 pub struct Random(u64);
 
 impl Random {
@@ -22,9 +26,36 @@ impl Random {
         (0..count).map(|_| (self.next_u64() >> 56) as u8).collect()
     }
 
-    /// Bytes of legal cells.
+    /// Bytes of overhead cells, below 16.
     pub fn cells(&mut self, count: usize) -> Vec<u8> {
-        (0..count).map(|_| (self.next_u64() >> 60) as u8).collect()
+        self.payload(OVERHEAD, count)
+    }
+
+    /// Bytes of payload cells.
+    pub fn payload(&mut self, profile: Profile, count: usize) -> Vec<u8> {
+        (0..count).map(|_| self.legal(profile)).collect()
+    }
+
+    /// The bytes of a frame, each legal for its cell.
+    pub fn frame(&mut self, profile: Profile, number: u32) -> Vec<u8> {
+        (0..FRAME_BYTES)
+            .map(|index| self.legal(rule(profile, number, index / 2)))
+            .collect()
+    }
+
+    /// A byte that a payload cell may have.
+    pub fn legal(&mut self, profile: Profile) -> u8 {
+        let legal = legal_bytes(profile);
+        legal[(self.next_u64() >> 60) as usize % legal.len()]
+    }
+
+    /// A byte that no payload cell may have; below 16 as often as not, where there is such a byte.
+    pub fn illegal(&mut self, profile: Profile) -> u8 {
+        let below: Vec<u8> = (0..GRID).filter(|&byte| !is_legal(profile, byte)).collect();
+        if !below.is_empty() && self.bit() {
+            return below[self.between(0, below.len())];
+        }
+        self.between(usize::from(GRID), 256) as u8
     }
 
     /// A number in `low..high`.

@@ -1,5 +1,6 @@
 //! That the checks of whole runs tell right from wrong: faults put on purpose into the library's answers
-//! of a sound run, each reported as the claim that it breaks.
+//! of a sound run, each reported as the claim that it breaks. Pairs are received alike in both profiles, so
+//! faults of a receiver are shown in one, and those of the line's calls in both.
 
 use std::sync::LazyLock;
 
@@ -11,15 +12,14 @@ use ofec_tests::chain::damage::Damage;
 use ofec_tests::chain::places::{
     flip, in_front, index, on_line, words, words_of, Name, Rows, PAIR_BITS,
 };
-use ofec_tests::chain::receiving::{receive, take, Received};
+use ofec_tests::chain::receiving::{receive, take, Received, Taken};
 use ofec_tests::chain::sending::{send, Sent};
-use ofec_tests::chain::{Difference, SUPERFRAME_PAIRS};
+use ofec_tests::chain::Difference;
 use ofec_tests::frames::OVERHEAD_BYTES;
 use ofec_tests::outcome::{Outcome, COUNT_SPENT, MISFIT};
+use ofec_tests::profile::Profile;
 use ofec_tests::random::Random;
-use ofec_tests::rows::{
-    payload_bit, Window, FIRST_FULL_ROW, HISTORY_BYTES, MARKS, PAIR_BYTES, PAYLOAD_BYTES,
-};
+use ofec_tests::rows::{payload_bit, Window, FIRST_FULL_ROW, HISTORY_BYTES, MARKS, PAIR_BYTES};
 use ofec_tests::word::{self, BACK, FREE_BITS, WORD_BITS, WORD_BYTES};
 
 /// Pairs that each receiver takes.
@@ -27,6 +27,7 @@ const TAKEN: usize = 30;
 
 /// A run of one super-frame through the library, with up to three wrong bits in many of its words.
 struct Sound {
+    profile: Profile,
     payloads: [Vec<u8>; 2],
     overhead: Vec<u8>,
     /// What was sent, by the formulas, and what the line delivered.
@@ -38,32 +39,72 @@ struct Sound {
     received: [Received; 2],
 }
 
-static SOUND: LazyLock<Sound> = LazyLock::new(|| {
-    let mut random = Random::new(20_000);
-    let payloads = [0; 2].map(|_| random.bytes(PAYLOAD_BYTES * SUPERFRAME_PAIRS));
-    let overhead = random.cells(OVERHEAD_BYTES);
-    let lent = payloads.each_ref().map(|payload| &payload[..]);
-    let frames = send(&LIBRARY, lent, &overhead, &mut random).frames;
-    let sent = lent.map(Rows::sent);
-    let mut damaged = frames.clone();
-    let damage = Damage::Words {
-        count: 4_000,
-        wrong: 3,
-    };
-    damage.apply(&mut damaged, &mut random);
-    let pairs = take(&LIBRARY, &damaged, &overhead, &mut random).pairs;
-    let lent = pairs.each_ref().map(|pairs| &pairs[..]);
-    let received = receive(&LIBRARY, lent, [TAKEN; 2], &mut random);
-    Sound {
-        sent,
-        line: [0, 1].map(|encoder| Rows::on_line(encoder, SUPERFRAME_PAIRS, &damaged)),
-        payloads,
-        overhead,
-        frames,
-        pairs,
-        received,
+static SOUND: LazyLock<Sound> = LazyLock::new(|| Sound::of(Profile::Qam16));
+static SOUND_QPSK: LazyLock<Sound> = LazyLock::new(|| Sound::of(Profile::Qpsk));
+
+/// The sound run of each profile.
+fn both() -> [&'static Sound; 2] {
+    [&SOUND, &SOUND_QPSK]
+}
+
+impl Sound {
+    fn of(profile: Profile) -> Self {
+        let mut random = Random::new(20_000);
+        let payloads = [0; 2].map(|_| random.bytes(profile.payload_bytes()));
+        let overhead = random.cells(OVERHEAD_BYTES);
+        let lent = payloads.each_ref().map(|payload| &payload[..]);
+        let frames = send(&LIBRARY, profile, lent, &overhead, &mut random).frames;
+        let sent = lent.map(Rows::sent);
+        let mut damaged = frames.clone();
+        let damage = Damage::Words {
+            count: 4_000,
+            wrong: 3,
+        };
+        damage.apply(profile, &mut damaged, &mut random);
+        let pairs = take(&LIBRARY, profile, &damaged, &overhead, &mut random).pairs;
+        let lent = pairs.each_ref().map(|pairs| &pairs[..]);
+        let received = receive(&LIBRARY, lent, [TAKEN; 2], &mut random);
+        let on_line = |encoder| Rows::on_line(profile, encoder, profile.pairs(), &damaged);
+        Sound {
+            profile,
+            sent,
+            line: [0, 1].map(on_line),
+            payloads,
+            overhead,
+            frames,
+            pairs,
+            received,
+        }
     }
-});
+
+    fn breaches(&self, receiver: usize) -> Vec<Breach> {
+        let received = &self.received[receiver];
+        check(&self.sent[receiver], &self.line[receiver], received, LIMIT).breaches
+    }
+
+    fn frame_breaches(&self, frames: &[u8]) -> [Vec<Breach>; 2] {
+        [0, 1].map(|encoder| check_frames(self.profile, encoder, &self.sent[encoder], frames))
+    }
+
+    /// The payload, sent by other calls.
+    fn sent_by(&self, calls: Calls) -> Sent {
+        let payloads = self.payloads.each_ref().map(|payload| &payload[..]);
+        let mut random = Random::new(20_500);
+        send(&calls, self.profile, payloads, &self.overhead, &mut random)
+    }
+
+    /// The frames before the line, taken by other calls.
+    fn taken_by(&self, calls: Calls) -> Taken {
+        let mut random = Random::new(20_700);
+        take(
+            &calls,
+            self.profile,
+            &self.frames,
+            &self.overhead,
+            &mut random,
+        )
+    }
+}
 
 fn breaches(receiver: usize, received: &Received) -> Vec<Breach> {
     let (sent, line) = (&SOUND.sent[receiver], &SOUND.line[receiver]);
@@ -112,10 +153,11 @@ fn samples() -> Vec<(usize, Name, usize, u8)> {
 
 #[test]
 fn sound_run_breaks_no_claim() {
-    for receiver in [0, 1] {
-        let frames = check_frames(receiver, &SOUND.sent[receiver], &SOUND.frames);
-        assert_eq!(frames, []);
-        assert_eq!(breaches(receiver, &SOUND.received[receiver]), []);
+    for sound in both() {
+        assert_eq!(sound.frame_breaches(&sound.frames), [[], []]);
+        for receiver in [0, 1] {
+            assert_eq!(sound.breaches(receiver), []);
+        }
     }
 }
 
@@ -283,7 +325,7 @@ fn receivers_crossed() {
     assert_kinds(&received, &expected);
     // Over an unaltered line, where each takes code words.
     let mut random = Random::new(20_300);
-    let pairs = take(&LIBRARY, &SOUND.frames, &SOUND.overhead, &mut random).pairs;
+    let pairs = SOUND.taken_by(LIBRARY).pairs;
     let crossed = [&pairs[1][..], &pairs[0]];
     let received = receive(&LIBRARY, crossed, [TAKEN; 2], &mut random);
     for receiver in [0, 1] {
@@ -517,27 +559,17 @@ fn bit_altered_between_line_and_receiver() {
     }
 }
 
-/// The sound run's payload, sent by other calls.
-fn sent_by(calls: Calls) -> Sent {
-    let payloads = SOUND.payloads.each_ref().map(|payload| &payload[..]);
-    let mut random = Random::new(20_500);
-    send(&calls, payloads, &SOUND.overhead, &mut random)
-}
-
-fn frame_breaches(frames: &[u8]) -> [Vec<Breach>; 2] {
-    [0, 1].map(|encoder| check_frames(encoder, &SOUND.sent[encoder], frames))
-}
-
 #[test]
 fn single_bits_of_the_frames() {
     let mut random = Random::new(20_600);
-    for _ in 0..10 {
+    for sound in both().repeat(10) {
+        let profile = sound.profile;
         let encoder = random.between(0, 2);
-        let word = words_of(random.between(0, SUPERFRAME_PAIRS))[random.between(0, MARKS)];
+        let word = words_of(random.between(0, profile.pairs()))[random.between(0, MARKS)];
         let place = word.bit(random.between(BACK, WORD_BITS));
-        let mut frames = SOUND.frames.clone();
-        flip(&mut frames, on_line(encoder, place));
-        let found = frame_breaches(&frames);
+        let mut frames = sound.frames.clone();
+        flip(profile, &mut frames, on_line(profile, encoder, place));
+        let found = sound.frame_breaches(&frames);
         assert_eq!(found[encoder], [Breach::Frame { encoder, place }]);
         assert_eq!(found[1 - encoder], []);
     }
@@ -545,86 +577,93 @@ fn single_bits_of_the_frames() {
 
 #[test]
 fn senders_with_a_fault_of_their_own() {
-    let sound = sent_by(LIBRARY);
-    assert!(sound.frames == SOUND.frames);
-    let found_in = |faulty: Calls, stage: &str| {
-        let sent = sent_by(faulty);
-        let difference = sent.difference(&sound).expect("a difference");
-        assert_eq!(difference.stage, stage);
-        frame_breaches(&sent.frames)
-    };
+    for sound in both() {
+        let by_library = sound.sent_by(LIBRARY);
+        assert!(by_library.frames == sound.frames);
+        let found_in = |faulty: Calls, stage: &str| {
+            let sent = sound.sent_by(faulty);
+            let difference = sent.difference(&by_library).expect("a difference");
+            assert_eq!(difference.stage, stage);
+            sound.frame_breaches(&sent.frames)
+        };
 
-    let gives_zeros = Calls {
-        encode_pair: |payload, coded, history, pair| {
-            let outcome = (LIBRARY.encode_pair)(payload, coded, history, pair);
-            if outcome.refusal == 0 {
-                coded.fill(0);
-                history.fill(0);
-            }
-            outcome
-        },
-        ..LIBRARY
-    };
-    for found in found_in(gives_zeros, "coded pairs of encoder 0") {
-        assert!(matches!(found[0], Breach::Frame { place, .. } if place.row == 0));
+        let gives_zeros = Calls {
+            encode_pair: |payload, coded, history, pair| {
+                let outcome = (LIBRARY.encode_pair)(payload, coded, history, pair);
+                if outcome.refusal == 0 {
+                    coded.fill(0);
+                    history.fill(0);
+                }
+                outcome
+            },
+            ..LIBRARY
+        };
+        for found in found_in(gives_zeros, "coded pairs of encoder 0") {
+            assert!(matches!(found[0], Breach::Frame { place, .. } if place.row == 0));
+        }
+
+        let always_fresh = Calls {
+            encode_pair: |payload, coded, history, pair| {
+                let outcome = (LIBRARY.encode_pair)(payload, coded, history, pair);
+                if outcome.refusal == 0 {
+                    (LIBRARY.encode_pair)(payload, coded, &mut [0; HISTORY_BYTES], 0);
+                }
+                outcome
+            },
+            ..LIBRARY
+        };
+        for found in found_in(always_fresh, "coded pairs of encoder 0") {
+            assert!(matches!(found[0], Breach::Frame { place, .. } if place.row == FIRST_FULL_ROW));
+        }
+
+        let encoders_crossed = Calls {
+            interleave: |pairs0, pairs1, bits| (LIBRARY.interleave)(pairs1, pairs0, bits),
+            ..LIBRARY
+        };
+        let found = found_in(encoders_crossed, "bits");
+        assert!(found.iter().all(|found| found.len() > 900));
+
+        let bits_reversed = Calls {
+            bits_to_cells: |profile, bits, cells| {
+                let reversed: Vec<u8> = bits.iter().map(|byte| byte.reverse_bits()).collect();
+                (LIBRARY.bits_to_cells)(profile, &reversed, cells)
+            },
+            ..LIBRARY
+        };
+        let lower_half_first = Calls {
+            bits_to_cells: |profile, bits, cells| {
+                let turned: Vec<u8> = bits.iter().map(|byte| byte.rotate_left(4)).collect();
+                (LIBRARY.bits_to_cells)(profile, &turned, cells)
+            },
+            ..LIBRARY
+        };
+        for faulty in [bits_reversed, lower_half_first] {
+            let found = found_in(faulty, "cells");
+            assert!(found.iter().all(|found| found.len() > 900));
+        }
+
+        // A training cell more than there are: it falls on encoder 0 in all 47 sub-frames, or on both in turn.
+        let overhead_on_payload = Calls {
+            frame: |profile, number, payload, overhead, frame| {
+                let outcome = (LIBRARY.frame)(profile, number, payload, overhead, frame);
+                if outcome.refusal == 0 && number != 0 {
+                    frame.copy_within(20..22, 22);
+                }
+                outcome
+            },
+            ..LIBRARY
+        };
+        let found = found_in(overhead_on_payload, "frames");
+        assert!(found[0].len() + found[1].len() > 47);
+        assert_eq!(found[1].is_empty(), sound.profile == Profile::Qam16);
     }
-
-    let always_fresh = Calls {
-        encode_pair: |payload, coded, history, pair| {
-            let outcome = (LIBRARY.encode_pair)(payload, coded, history, pair);
-            if outcome.refusal == 0 {
-                (LIBRARY.encode_pair)(payload, coded, &mut [0; HISTORY_BYTES], 0);
-            }
-            outcome
-        },
-        ..LIBRARY
-    };
-    for found in found_in(always_fresh, "coded pairs of encoder 0") {
-        assert!(matches!(found[0], Breach::Frame { place, .. } if place.row == FIRST_FULL_ROW));
-    }
-
-    let encoders_crossed = Calls {
-        interleave: |pairs0, pairs1, bits| (LIBRARY.interleave)(pairs1, pairs0, bits),
-        ..LIBRARY
-    };
-    let found = found_in(encoders_crossed, "bits");
-    assert!(found.iter().all(|found| found.len() > 900));
-
-    let bits_reversed = Calls {
-        bits_to_cells: |bits, cells| {
-            let reversed: Vec<u8> = bits.iter().map(|byte| byte.reverse_bits()).collect();
-            (LIBRARY.bits_to_cells)(&reversed, cells)
-        },
-        ..LIBRARY
-    };
-    let found = found_in(bits_reversed, "cells");
-    assert!(found.iter().all(|found| found.len() > 900));
-
-    // A training cell more than there are: it falls on encoder 0 in all 47 sub-frames.
-    let overhead_on_payload = Calls {
-        frame: |number, payload, overhead, frame| {
-            let outcome = (LIBRARY.frame)(number, payload, overhead, frame);
-            if outcome.refusal == 0 && number != 0 {
-                frame.copy_within(20..22, 22);
-            }
-            outcome
-        },
-        ..LIBRARY
-    };
-    let found = found_in(overhead_on_payload, "frames");
-    assert!(found[0].len() > 47 && found[1].is_empty());
 }
 
 #[test]
 fn takers_with_a_fault_of_their_own() {
-    let taken_by = |calls: Calls| {
-        let mut random = Random::new(20_700);
-        take(&calls, &SOUND.frames, &SOUND.overhead, &mut random)
-    };
-    let sound = taken_by(LIBRARY);
     let wrong_number = Calls {
-        unframe: |number, frame, overhead, payload| {
-            let outcome = (LIBRARY.unframe)(number, frame, overhead, payload);
+        unframe: |profile, number, frame, overhead, payload| {
+            let outcome = (LIBRARY.unframe)(profile, number, frame, overhead, payload);
             let wrong = u32::from(outcome.refusal == 0 && number == 17);
             Outcome {
                 value: outcome.value + wrong,
@@ -634,20 +673,30 @@ fn takers_with_a_fault_of_their_own() {
         ..LIBRARY
     };
     let wrong_cell = Calls {
-        unframe: |number, frame, overhead, payload| {
-            let outcome = (LIBRARY.unframe)(number, frame, overhead, payload);
+        unframe: |profile, number, frame, overhead, payload| {
+            let outcome = (LIBRARY.unframe)(profile, number, frame, overhead, payload);
             if outcome.refusal == 0 && number == 1 {
-                payload[9] ^= 1;
+                payload[9] ^= 3;
             }
             outcome
         },
         ..LIBRARY
     };
     let bits_reversed = Calls {
-        cells_to_bits: |cells, bits| {
-            let outcome = (LIBRARY.cells_to_bits)(cells, bits);
+        cells_to_bits: |profile, cells, bits| {
+            let outcome = (LIBRARY.cells_to_bits)(profile, cells, bits);
             if outcome.refusal == 0 {
                 bits.iter_mut().for_each(|byte| *byte = byte.reverse_bits());
+            }
+            outcome
+        },
+        ..LIBRARY
+    };
+    let lower_half_first = Calls {
+        cells_to_bits: |profile, cells, bits| {
+            let outcome = (LIBRARY.cells_to_bits)(profile, cells, bits);
+            if outcome.refusal == 0 {
+                bits.iter_mut().for_each(|byte| *byte = byte.rotate_left(4));
             }
             outcome
         },
@@ -661,18 +710,23 @@ fn takers_with_a_fault_of_their_own() {
         (wrong_number, "differing cells", Some(17)),
         (wrong_cell, "payload cells", Some(6_980 + 9)),
         (bits_reversed, "bits taken", None),
+        (lower_half_first, "bits taken", None),
         (encoders_crossed, "received pairs of encoder 0", None),
     ] {
-        let found = taken_by(calls).difference(&sound).expect("a difference");
-        assert_eq!(found.stage, stage);
-        assert_eq!(found.index, index.unwrap_or(found.index));
+        for sound in both() {
+            let by_library = sound.taken_by(LIBRARY);
+            let found = sound.taken_by(calls).difference(&by_library);
+            let found = found.expect("a difference");
+            assert_eq!(found.stage, stage);
+            assert_eq!(found.index, index.unwrap_or(found.index));
+        }
     }
 }
 
 #[test]
 #[should_panic(expected = "a refused call wrote to buffer 2")]
 fn encoder_that_touches_the_history_of_a_refused_call() {
-    sent_by(Calls {
+    SOUND.sent_by(Calls {
         encode_pair: |payload, coded, history, pair| {
             let outcome = (LIBRARY.encode_pair)(payload, coded, history, pair);
             if outcome.refusal == COUNT_SPENT {
@@ -696,21 +750,34 @@ fn receiver_that_names_another_refusal() {
     });
 }
 
+/// Unframing by the rule of the other profile lets levels of -3 and 3 pass.
+#[test]
+#[should_panic(expected = "answer of a call to be refused")]
+fn unframing_that_takes_16_qam_cells_for_qpsk() {
+    SOUND_QPSK.taken_by(Calls {
+        unframe: |_, number, frame, overhead, payload| {
+            (LIBRARY.unframe)(Profile::Qam16, number, frame, overhead, payload)
+        },
+        ..LIBRARY
+    });
+}
+
 /// With four wrong bits a word may be as near to another code word: the limit is three.
 #[test]
 fn four_wrong_bits_in_a_word_break_the_claims() {
     let mut random = Random::new(20_800);
+    let profile = SOUND.profile;
     let mut frames = SOUND.frames.clone();
     let damage = Damage::Words {
         count: 500,
         wrong: 4,
     };
-    damage.apply(&mut frames, &mut random);
-    let pairs = take(&LIBRARY, &frames, &SOUND.overhead, &mut random).pairs;
+    damage.apply(profile, &mut frames, &mut random);
+    let pairs = take(&LIBRARY, profile, &frames, &SOUND.overhead, &mut random).pairs;
     let pairs = pairs.each_ref().map(|pairs| &pairs[..]);
     let received = receive(&LIBRARY, pairs, [TAKEN; 2], &mut random);
     for receiver in [0, 1] {
-        let line = Rows::on_line(receiver, SUPERFRAME_PAIRS, &frames);
+        let line = Rows::on_line(profile, receiver, profile.pairs(), &frames);
         let within = |limit| check(&SOUND.sent[receiver], &line, &received[receiver], limit);
         let (three, four) = (within(3), within(4));
         assert_eq!(three.breaches, []);

@@ -1,4 +1,4 @@
-//! The program `linemake`: the file that it writes, what it prints, and what it leaves where it is refused.
+//! The program `linemake`: the file that it writes for each profile, what it prints, and what it leaves where it is refused.
 
 use std::fs::{self, File};
 use std::io::{BufRead, BufReader, Read};
@@ -12,15 +12,18 @@ use std::time::Duration;
 
 use ofec_tests::chain::calls::REFERENCE;
 use ofec_tests::chain::sending::send;
-use ofec_tests::chain::SUPERFRAME_PAIRS;
 use ofec_tests::frames::OVERHEAD_BYTES;
 use ofec_tests::line_file::Header;
-use ofec_tests::programs::{program, progress, Folder, Printed};
+use ofec_tests::profile::Profile::{self, Qam16, Qpsk};
+use ofec_tests::profile::PROFILES;
+use ofec_tests::programs::{arguments, program, progress, Folder, Printed, WRONG_WORDS};
 use ofec_tests::random::Random;
-use ofec_tests::rows::PAYLOAD_BYTES;
 
 /// The bytes of a payload file for a super-frame.
-const PAYLOAD: u64 = (SUPERFRAME_PAIRS * PAYLOAD_BYTES) as u64;
+fn payload(profile: Profile) -> u64 {
+    profile.payload_bytes() as u64
+}
+
 const KEPT: &[u8] = b"what had the name before";
 const NAMES: [&str; 4] = ["payload0", "payload1", "overhead", "line"];
 
@@ -29,27 +32,33 @@ fn printed(child: Child) -> Printed {
     Printed::of(child.wait_with_output().expect("the program runs"))
 }
 
-/// A folder with the three files that are read.
-struct Room(Folder);
+/// A folder with the three files that are read, for runs of this profile.
+struct Room {
+    folder: Folder,
+    profile: Profile,
+}
 
 impl Deref for Room {
     type Target = Folder;
 
     fn deref(&self) -> &Folder {
-        &self.0
+        &self.folder
     }
 }
 
 impl Room {
-    fn empty() -> Self {
-        Room(Folder::empty("linemake"))
+    fn empty(profile: Profile) -> Self {
+        Room {
+            folder: Folder::empty("linemake"),
+            profile,
+        }
     }
 
     /// Payload files of zeros that take no room, and a legal overhead list.
-    fn of_zeros(superframes: u64) -> Self {
-        let room = Room::empty();
-        room.sized("payload0", superframes * PAYLOAD);
-        room.sized("payload1", superframes * PAYLOAD);
+    fn of_zeros(profile: Profile, superframes: u64) -> Self {
+        let room = Room::empty(profile);
+        room.sized("payload0", superframes * payload(profile));
+        room.sized("payload1", superframes * payload(profile));
         room.put("overhead", &Random::new(6_000).cells(OVERHEAD_BYTES));
         room
     }
@@ -65,18 +74,20 @@ impl Room {
             .expect("a sparse file");
     }
 
-    /// The program with these arguments, in the folder.
-    fn command(&self, arguments: &[&str]) -> Command {
+    /// The program with these names, and the profile's word behind them.
+    fn command(&self, names: &[&str]) -> Command {
         let mut command = Command::new(program("linemake"));
-        command.args(arguments);
+        command.args(arguments(self.profile, names));
         self.piped(command)
     }
 
     /// The program under a shell that first does this, as a limit.
-    fn shell(&self, first: &str, arguments: &[&str]) -> Command {
+    fn shell(&self, first: &str, names: &[&str]) -> Command {
         let mut command = Command::new("sh");
         command.args(["-c", &format!("{first} exec \"$0\" \"$@\"")]);
-        command.arg(program("linemake")).args(arguments);
+        command
+            .arg(program("linemake"))
+            .args(arguments(self.profile, names));
         self.piped(command)
     }
 
@@ -140,10 +151,11 @@ fn line(superframes: u32) -> String {
 }
 
 /// The line file of the code written apart.
-fn expected(payloads: [&[u8]; 2], overhead: &[u8]) -> Vec<u8> {
-    let superframes = payloads[0].len() as u64 / PAYLOAD;
+fn expected(profile: Profile, payloads: [&[u8]; 2], overhead: &[u8]) -> Vec<u8> {
+    let superframes = payloads[0].len() / profile.payload_bytes();
     let header = Header::written(superframes as u32).to_bytes();
-    let sent = send(&REFERENCE, payloads, overhead, &mut Random::new(6_001));
+    let mut random = Random::new(6_001);
+    let sent = send(&REFERENCE, profile, payloads, overhead, &mut random);
     [&header[..], overhead, &sent.frames].concat()
 }
 
@@ -159,22 +171,22 @@ fn linehead(path: &Path) -> String {
 }
 
 /// A folder with payloads of random bytes, and the line file to expect.
-fn filled(superframes: u64, seed: u64) -> (Room, Vec<u8>) {
-    let room = Room::empty();
+fn filled(profile: Profile, superframes: usize, seed: u64) -> (Room, Vec<u8>) {
+    let room = Room::empty(profile);
     let mut random = Random::new(seed);
-    let payloads = [0; 2].map(|_| random.bytes((superframes * PAYLOAD) as usize));
+    let payloads = [0; 2].map(|_| random.bytes(superframes * profile.payload_bytes()));
     let overhead = random.cells(OVERHEAD_BYTES);
     room.put("payload0", &payloads[0]);
     room.put("payload1", &payloads[1]);
     room.put("overhead", &overhead);
-    let file = expected([&payloads[0], &payloads[1]], &overhead);
+    let file = expected(profile, [&payloads[0], &payloads[1]], &overhead);
     (room, file)
 }
 
 #[test]
 fn the_file_is_that_of_the_code_written_apart() {
-    for superframes in [1, 2, 3] {
-        let (room, file) = filled(superframes, 6_100 + superframes);
+    for (profile, superframes) in [(Qam16, 1), (Qam16, 2), (Qam16, 3), (Qpsk, 1), (Qpsk, 2)] {
+        let (room, file) = filled(profile, superframes, 6_100 + superframes as u64);
         let inputs = ["payload0", "payload1", "overhead"].map(|name| room.read(name));
         let number = superframes as u32;
         // The second run replaces the file of the first, or any other.
@@ -198,26 +210,31 @@ fn the_file_is_that_of_the_code_written_apart() {
 #[test]
 fn the_sample_files() {
     let folder = Path::new(env!("CARGO_MANIFEST_DIR")).join("../examples/line");
-    let room = Room::empty();
-    let inputs = ["payload0", "payload1", "overhead"].map(|name| {
-        let bytes = fs::read(folder.join(name)).expect("a sample file");
-        room.put(name, &bytes);
-        bytes
-    });
-    assert_eq!(room.run(&NAMES).out, line(1));
-    assert!(room.read("line") == expected([&inputs[0], &inputs[1]], &inputs[2]));
+    // The payload of one super-frame of 16-QAM is that of two of QPSK.
+    for (profile, superframes) in [(Qam16, 1), (Qpsk, 2)] {
+        let room = Room::empty(profile);
+        let [payload0, payload1, overhead] = ["payload0", "payload1", "overhead"].map(|name| {
+            let bytes = fs::read(folder.join(name)).expect("a sample file");
+            room.put(name, &bytes);
+            bytes
+        });
+        assert_eq!(room.run(&NAMES).out, line(superframes));
+        let file = expected(profile, [&payload0, &payload1], &overhead);
+        assert!(room.read("line") == file);
+    }
 }
 
 #[test]
 fn one_file_for_both_payloads_and_a_name_in_another_folder() {
-    let (room, _) = filled(1, 6_200);
+    let (room, _) = filled(Qam16, 1, 6_200);
     let (payload, overhead) = (room.read("payload1"), room.read("overhead"));
     fs::create_dir(room.path("sub folder")).expect("a folder");
     let path = room.path("sub folder").join("a line");
     let name = path.to_str().expect("text");
     let given = room.run(&["payload1", "./payload1", "overhead", name]);
     assert_eq!(given.out, line(1));
-    assert!(fs::read(&path).expect("the file") == expected([&payload, &payload], &overhead));
+    let file = expected(Qam16, [&payload, &payload], &overhead);
+    assert!(fs::read(&path).expect("the file") == file);
     assert_eq!(
         room.names(),
         ["overhead", "payload0", "payload1", "sub folder"]
@@ -230,7 +247,7 @@ fn one_file_for_both_payloads_and_a_name_in_another_folder() {
 
 #[test]
 fn files_that_are_not_named_or_cannot_be_opened() {
-    let room = Room::of_zeros(1);
+    let room = Room::of_zeros(Qam16, 1);
     fs::create_dir(room.path("folder")).expect("a folder");
     for count in 0..4 {
         room.assert_refused(&NAMES[..count], 1);
@@ -252,10 +269,63 @@ fn files_that_are_not_named_or_cannot_be_opened() {
     }
 }
 
+/// One word more than the names is `qpsk` or nothing at all: whatever else there is, the usage is said.
+#[test]
+fn the_word_behind_the_names() {
+    let usage = "usage: linemake PAYLOAD0 PAYLOAD1 OVERHEAD LINE [qpsk]\n";
+    let room = Room::of_zeros(Qam16, 1);
+    let none = ["none", "none", "none", "none/line"];
+    for words in WRONG_WORDS {
+        for names in [NAMES, none] {
+            let all = [&names[..], words].concat();
+            assert_eq!(room.why(&all, 1), usage, "{all:?}");
+        }
+        room.assert_refused(&[&NAMES[..], words].concat(), 1);
+    }
+    let [p, q, v, l] = NAMES;
+    for names in [
+        &["qpsk"][..],
+        &[p, q, "qpsk"],
+        &["qpsk", p, q, v, l],
+        &[p, q, v, "qpsk", l],
+    ] {
+        assert_eq!(room.why(names, 1), usage, "{names:?}");
+        assert_eq!(room.names(), ["overhead", "payload0", "payload1"]);
+    }
+    // In the place of a name it is a name.
+    assert_eq!(room.run(&[p, q, v, "qpsk"]).out, line(1));
+    assert_eq!(room.names(), ["overhead", "payload0", "payload1", "qpsk"]);
+}
+
+/// The size of a payload file is measured by the run's own profile.
+#[test]
+fn a_payload_file_of_the_other_profile() {
+    let plain = Room {
+        folder: Room::of_zeros(Qpsk, 1).folder,
+        profile: Qam16,
+    };
+    let said = plain.why(&NAMES, 1);
+    assert_eq!(said, "payload0: 37296 bytes, expected at least 74592\n");
+    for superframes in [3, 127, 129] {
+        plain.sized("payload0", superframes * payload(Qpsk));
+        plain.sized("payload1", superframes * payload(Qpsk));
+        let bytes = superframes * payload(Qpsk);
+        let said = format!("payload0: {bytes} bytes, expected a multiple of 74592\n");
+        assert_eq!(plain.why(&NAMES, 1), said);
+    }
+    // 64 super-frames of 16-QAM are 128 of QPSK.
+    let long = Room {
+        folder: Room::of_zeros(Qam16, 64).folder,
+        profile: Qpsk,
+    };
+    let said = long.why(&NAMES, 2);
+    assert_eq!(said, "payload0: 128 super-frames, expected at most 64\n");
+}
+
 /// A pipe under the given name is no file that could be replaced.
 #[test]
 fn a_pipe_for_the_line_file() {
-    let room = Room::of_zeros(1);
+    let room = Room::of_zeros(Qam16, 1);
     let made = Command::new("mkfifo").arg(room.path("pipe")).status();
     assert!(made.expect("mkfifo").success());
     room.assert_refused(&["payload0", "payload1", "overhead", "pipe"], 1);
@@ -267,87 +337,94 @@ fn a_pipe_for_the_line_file() {
 
 #[test]
 fn sizes() {
-    let room = Room::of_zeros(2);
-    for (first, second) in [
-        (0, 0),
-        (0, PAYLOAD),
-        (PAYLOAD, 0),
-        (1, 1),
-        (PAYLOAD - 1, PAYLOAD - 1),
-        (PAYLOAD + 1, PAYLOAD + 1),
-        (PAYLOAD, 2 * PAYLOAD),
-        (2 * PAYLOAD, PAYLOAD),
-        (PAYLOAD, PAYLOAD + 1),
-        (PAYLOAD + 444, PAYLOAD + 444),
-        // Beyond 2^32, where a count that begins again would find one super-frame.
-        ((1 << 32) + PAYLOAD, (1 << 32) + PAYLOAD),
-        ((1 << 32) + PAYLOAD, PAYLOAD),
-        // Above 64 super-frames, and misfits as well.
-        (65 * PAYLOAD, 66 * PAYLOAD),
-        (65 * PAYLOAD, PAYLOAD),
-        (65 * PAYLOAD + 1, 65 * PAYLOAD + 1),
-    ] {
-        room.sized("payload0", first);
-        room.sized("payload1", second);
-        room.assert_refused(&NAMES, 1);
-    }
-    for superframes in [65, 66, 1_000, 60_000] {
-        room.sized("payload0", superframes * PAYLOAD);
-        room.sized("payload1", superframes * PAYLOAD);
-        room.assert_refused(&NAMES, 2);
-    }
-    room.sized("payload0", 2 * PAYLOAD);
-    room.sized("payload1", 2 * PAYLOAD);
-    for length in [0, 1, 12_287, 12_289, 2 * 12_288] {
-        room.sized("overhead", length);
-        room.assert_refused(&NAMES, 1);
+    for profile in PROFILES {
+        let one = payload(profile);
+        let room = Room::of_zeros(profile, 2);
+        for (first, second) in [
+            (0, 0),
+            (0, one),
+            (one, 0),
+            (1, 1),
+            (one - 1, one - 1),
+            (one + 1, one + 1),
+            (one, 2 * one),
+            (2 * one, one),
+            (one, one + 1),
+            (one + 444, one + 444),
+            // Beyond 2^32, where a count that begins again would find one super-frame.
+            ((1 << 32) + one, (1 << 32) + one),
+            ((1 << 32) + one, one),
+            // Above 64 super-frames, and misfits as well.
+            (65 * one, 66 * one),
+            (65 * one, one),
+            (65 * one + 1, 65 * one + 1),
+        ] {
+            room.sized("payload0", first);
+            room.sized("payload1", second);
+            room.assert_refused(&NAMES, 1);
+        }
+        for superframes in [65, 66, 1_000, 60_000] {
+            room.sized("payload0", superframes * one);
+            room.sized("payload1", superframes * one);
+            room.assert_refused(&NAMES, 2);
+        }
+        room.sized("payload0", 2 * one);
+        room.sized("payload1", 2 * one);
+        for length in [0, 1, 12_287, 12_289, 2 * 12_288] {
+            room.sized("overhead", length);
+            room.assert_refused(&NAMES, 1);
+        }
     }
 }
 
 #[test]
 fn illegal_bytes_in_the_list() {
-    let room = Room::of_zeros(1);
-    let legal = room.read("overhead");
-    for (index, byte) in [(0, 16), (1, 255), (443, 128), (6_000, 17), (12_287, 16)] {
-        let mut overhead = legal.clone();
-        overhead[index] = byte;
-        room.put("overhead", &overhead);
-        room.assert_refused(&NAMES, 5);
+    for profile in PROFILES {
+        let room = Room::of_zeros(profile, 1);
+        let legal = room.read("overhead");
+        for (index, byte) in [(0, 16), (1, 255), (443, 128), (6_000, 17), (12_287, 16)] {
+            let mut overhead = legal.clone();
+            overhead[index] = byte;
+            room.put("overhead", &overhead);
+            room.assert_refused(&NAMES, 5);
+        }
     }
 }
 
 /// Two conditions at once: the lower number is printed.
 #[test]
 fn the_order_of_the_refusals() {
-    let nowhere = ["payload0", "payload1", "overhead", "none/line"];
-    let room = Room::of_zeros(65);
-    room.assert_refused(&NAMES, 2);
-    room.assert_refused(&nowhere, 1);
-    room.assert_refused(&NAMES[..3], 1);
-    // 2 and 5.
-    room.put("overhead", &[16; OVERHEAD_BYTES]);
-    room.assert_refused(&NAMES, 2);
-    room.assert_refused(&nowhere, 1);
-    // 1, 2 and 5.
-    room.put("overhead", &[16; OVERHEAD_BYTES + 1]);
-    room.assert_refused(&NAMES, 1);
-    // 1 and 5.
-    room.sized("payload0", PAYLOAD);
-    room.sized("payload1", PAYLOAD);
-    room.assert_refused(&NAMES, 1);
-    room.put("overhead", &[16; OVERHEAD_BYTES]);
-    room.assert_refused(&NAMES, 5);
-    room.assert_refused(&nowhere, 1);
-    room.assert_refused(&["payload0", "none", "overhead", "line"], 1);
-    room.sized("payload1", PAYLOAD - 1);
-    room.assert_refused(&NAMES, 1);
+    for profile in PROFILES {
+        let nowhere = ["payload0", "payload1", "overhead", "none/line"];
+        let room = Room::of_zeros(profile, 65);
+        room.assert_refused(&NAMES, 2);
+        room.assert_refused(&nowhere, 1);
+        room.assert_refused(&NAMES[..3], 1);
+        // 2 and 5.
+        room.put("overhead", &[16; OVERHEAD_BYTES]);
+        room.assert_refused(&NAMES, 2);
+        room.assert_refused(&nowhere, 1);
+        // 1, 2 and 5.
+        room.put("overhead", &[16; OVERHEAD_BYTES + 1]);
+        room.assert_refused(&NAMES, 1);
+        // 1 and 5.
+        room.sized("payload0", payload(profile));
+        room.sized("payload1", payload(profile));
+        room.assert_refused(&NAMES, 1);
+        room.put("overhead", &[16; OVERHEAD_BYTES]);
+        room.assert_refused(&NAMES, 5);
+        room.assert_refused(&nowhere, 1);
+        room.assert_refused(&["payload0", "none", "overhead", "line"], 1);
+        room.sized("payload1", payload(profile) - 1);
+        room.assert_refused(&NAMES, 1);
+    }
 }
 
 /// The same 16 MiB of memory in all for 8 super-frames and for 64.
 #[test]
 fn a_constant_amount_of_memory() {
-    for superframes in [8, 64] {
-        let room = Room::of_zeros(superframes.into());
+    for (profile, superframes) in [(Qam16, 8), (Qam16, 64), (Qpsk, 8), (Qpsk, 64)] {
+        let room = Room::of_zeros(profile, superframes.into());
         let mut command = room.shell("ulimit -v 16384 &&", &NAMES);
         let given = printed(command.spawn().expect("the shell starts"));
         assert_eq!(given.out, line(superframes));
@@ -359,7 +436,7 @@ fn a_constant_amount_of_memory() {
 /// A file that can grow to half a megabyte and no further.
 #[test]
 fn a_write_that_fails() {
-    let room = Room::of_zeros(2);
+    let room = Room::of_zeros(Qam16, 2);
     for kept in [false, true] {
         if kept {
             room.put("line", KEPT);
@@ -432,9 +509,9 @@ fn begun(room: &Room) -> (Child, BufReader<impl Read>) {
 #[test]
 fn a_payload_file_that_becomes_shorter() {
     for name in ["payload0", "payload1"] {
-        let room = Room::of_zeros(64);
+        let room = Room::of_zeros(Qam16, 64);
         let (child, mut said) = begun(&room);
-        room.sized(name, PAYLOAD);
+        room.sized(name, payload(Qam16));
         signal(&child, "CONT");
         let mut rest = String::new();
         said.read_to_string(&mut rest).expect("text");
@@ -448,7 +525,7 @@ fn a_payload_file_that_becomes_shorter() {
 /// A run that is ended from outside leaves nothing under the given name, and does not stand in the way of the next.
 #[test]
 fn a_run_that_is_ended() {
-    let room = Room::of_zeros(64);
+    let room = Room::of_zeros(Qam16, 64);
     let (mut child, _said) = begun(&room);
     child.kill().expect("it runs");
     child.wait().expect("it ends");
@@ -463,15 +540,15 @@ fn a_run_that_is_ended() {
         matches!(beside[..], [name] if name.starts_with("line.part-") && name.len() == 16),
         "{left:?}"
     );
-    room.sized("payload0", PAYLOAD);
-    room.sized("payload1", PAYLOAD);
+    room.sized("payload0", payload(Qam16));
+    room.sized("payload1", payload(Qam16));
     assert_eq!(room.run(&NAMES).out, line(1));
 }
 
 /// With standard descriptors closed, none of them becomes the line file's.
 #[test]
 fn closed_standard_descriptors() {
-    let (room, file) = filled(1, 6_300);
+    let (room, file) = filled(Qam16, 1, 6_300);
     for closed in ["<&-", ">&-", "2>&-", ">&- 2>&-", "<&- >&- 2>&-"] {
         let mut command = room.shell(&format!("exec {closed};"), &NAMES);
         printed(command.spawn().expect("the shell starts"));
@@ -484,100 +561,106 @@ fn closed_standard_descriptors() {
 /// What standard error says of a refusal, whole.
 #[test]
 fn why_it_refuses() {
-    let room = Room::of_zeros(1);
-    fs::create_dir(room.path("folder")).expect("a folder");
-    room.sized("short", PAYLOAD - 1);
-    room.sized("odd", PAYLOAD + 1);
-    room.sized("two", 2 * PAYLOAD);
-    room.sized("many", 65 * PAYLOAD);
-    let mut list = room.read("overhead");
-    list[443] = 16;
-    room.put("illegal", &list);
-    let long = "n".repeat(5_000);
-    let usage = "usage: linemake PAYLOAD0 PAYLOAD1 OVERHEAD LINE";
-    let none = "No such file or directory";
-    let [p, q, v, l] = NAMES;
-    for (arguments, number, why) in [
-        (&[][..], 1, usage.into()),
-        (&[p, q, v], 1, usage.into()),
-        (&[p, q, v, l, "more"], 1, usage.into()),
-        (&["none", q, v, l], 1, format!("none: {none}")),
-        (&["none", "gone", "", ""], 1, format!("none: {none}")),
-        (&[p, "gone", v, l], 1, format!("gone: {none}")),
-        (&["", q, v, l], 1, "argument 1: the name is empty".into()),
-        (&[p, q, v, ""], 1, "argument 4: the name is empty".into()),
-        (
-            &[p, &long, v, l],
-            1,
-            "argument 2: the name is too long".into(),
-        ),
-        (
-            &[p, q, v, &long],
-            1,
-            "argument 4: the name is too long".into(),
-        ),
-        (
-            &[p, q, v, &long[..256]],
-            1,
-            format!("{}: File name too long", &long[..256]),
-        ),
-        (&["folder", q, v, l], 1, "folder: not a regular file".into()),
-        (
-            &[p, "/dev/null", v, l],
-            1,
-            "/dev/null: not a regular file".into(),
-        ),
-        (
-            &["odd", "odd", v, l],
-            1,
-            "odd: 74593 bytes, expected a multiple of 74592".into(),
-        ),
-        (
-            &["short", "short", v, l],
-            1,
-            "short: 74591 bytes, expected at least 74592".into(),
-        ),
-        (
-            &[p, "two", v, l],
-            1,
-            "two: 149184 bytes, expected as many as the other payload file has, 74592".into(),
-        ),
-        (
-            &[p, q, "two", l],
-            1,
-            "two: 149184 bytes, expected 12288".into(),
-        ),
-        (&[p, q, v, "folder"], 1, "folder: Is a directory".into()),
-        (&[p, q, v, "folder/"], 1, "folder/: Is a directory".into()),
-        (&[p, q, v, "gone/line"], 1, format!("gone/line: {none}")),
-        (
-            &[p, q, v, "/dev/null"],
-            1,
-            "/dev/null: not a regular file".into(),
-        ),
-        (
-            &["many", "many", v, l],
-            2,
-            "many: 65 super-frames, expected at most 64".into(),
-        ),
-        (
-            &[p, q, "illegal", l],
-            5,
-            "illegal: a byte of 16 or more at index 443".into(),
-        ),
-    ] {
-        assert_eq!(
-            room.why(arguments, number),
-            format!("{why}\n"),
-            "{arguments:?}"
-        );
+    for profile in PROFILES {
+        let one = payload(profile);
+        let room = Room::of_zeros(profile, 1);
+        fs::create_dir(room.path("folder")).expect("a folder");
+        room.sized("short", one - 1);
+        room.sized("odd", one + 1);
+        room.sized("two", 2 * one);
+        room.sized("many", 65 * one);
+        let mut list = room.read("overhead");
+        list[443] = 16;
+        room.put("illegal", &list);
+        let long = "n".repeat(5_000);
+        let usage = "usage: linemake PAYLOAD0 PAYLOAD1 OVERHEAD LINE [qpsk]";
+        let none = "No such file or directory";
+        let [p, q, v, l] = NAMES;
+        for (arguments, number, why) in [
+            (&[][..], 1, usage.into()),
+            (&[p, q], 1, usage.into()),
+            (&[p, q, v, l, "more"], 1, usage.into()),
+            (&["none", q, v, l], 1, format!("none: {none}")),
+            (&["none", "gone", "", ""], 1, format!("none: {none}")),
+            (&[p, "gone", v, l], 1, format!("gone: {none}")),
+            (&["", q, v, l], 1, "argument 1: the name is empty".into()),
+            (&[p, q, v, ""], 1, "argument 4: the name is empty".into()),
+            (
+                &[p, &long, v, l],
+                1,
+                "argument 2: the name is too long".into(),
+            ),
+            (
+                &[p, q, v, &long],
+                1,
+                "argument 4: the name is too long".into(),
+            ),
+            (
+                &[p, q, v, &long[..256]],
+                1,
+                format!("{}: File name too long", &long[..256]),
+            ),
+            (&["folder", q, v, l], 1, "folder: not a regular file".into()),
+            (
+                &[p, "/dev/null", v, l],
+                1,
+                "/dev/null: not a regular file".into(),
+            ),
+            (
+                &["odd", "odd", v, l],
+                1,
+                format!("odd: {} bytes, expected a multiple of {one}", one + 1),
+            ),
+            (
+                &["short", "short", v, l],
+                1,
+                format!("short: {} bytes, expected at least {one}", one - 1),
+            ),
+            (
+                &[p, "two", v, l],
+                1,
+                format!(
+                    "two: {} bytes, expected as many as the other payload file has, {one}",
+                    2 * one
+                ),
+            ),
+            (
+                &[p, q, "two", l],
+                1,
+                format!("two: {} bytes, expected 12288", 2 * one),
+            ),
+            (&[p, q, v, "folder"], 1, "folder: Is a directory".into()),
+            (&[p, q, v, "folder/"], 1, "folder/: Is a directory".into()),
+            (&[p, q, v, "gone/line"], 1, format!("gone/line: {none}")),
+            (
+                &[p, q, v, "/dev/null"],
+                1,
+                "/dev/null: not a regular file".into(),
+            ),
+            (
+                &["many", "many", v, l],
+                2,
+                "many: 65 super-frames, expected at most 64".into(),
+            ),
+            (
+                &[p, q, "illegal", l],
+                5,
+                "illegal: a byte of 16 or more at index 443".into(),
+            ),
+        ] {
+            assert_eq!(
+                room.why(arguments, number),
+                format!("{why}\n"),
+                "{arguments:?}"
+            );
+        }
     }
 }
 
 /// An input under another name, as the name to write: nothing is touched.
 #[test]
 fn an_input_as_the_line_file() {
-    let room = Room::of_zeros(1);
+    let room = Room::of_zeros(Qam16, 1);
     let inputs = NAMES[..3].iter().map(|name| room.read(name));
     let inputs: Vec<_> = inputs.collect();
     fs::create_dir(room.path("folder")).expect("a folder");
@@ -609,7 +692,7 @@ fn an_input_as_the_line_file() {
 /// The file that a symbolic link leads to is replaced, and the link stays.
 #[test]
 fn a_symbolic_link_as_the_line_file() {
-    let (room, file) = filled(1, 6_400);
+    let (room, file) = filled(Qam16, 1, 6_400);
     fs::create_dir(room.path("folder")).expect("a folder");
     room.put("folder/kept", KEPT);
     let whole = room.path("folder/whole");
@@ -658,7 +741,7 @@ fn a_symbolic_link_as_the_line_file() {
 /// The mode of a file that is replaced stays.
 #[test]
 fn the_mode_of_a_file_that_is_replaced() {
-    let (room, file) = filled(1, 6_500);
+    let (room, file) = filled(Qam16, 1, 6_500);
     for mode in [0o600, 0o640, 0o666, 0o755] {
         room.put("line", KEPT);
         room.set_mode("line", mode);
@@ -673,7 +756,7 @@ fn the_mode_of_a_file_that_is_replaced() {
 #[test]
 fn files_that_are_not_permitted() {
     const OTHER: u32 = 65_534;
-    let room = Room::of_zeros(1);
+    let room = Room::of_zeros(Qam16, 1);
     fs::copy(program("linemake"), room.path("linemake")).expect("a copy");
     room.put("line", KEPT);
     room.put("secret", KEPT);
@@ -718,7 +801,7 @@ fn files_that_are_not_permitted() {
 /// Standard output that cannot be written is reported, and the file is there.
 #[test]
 fn no_room_for_the_output() {
-    let (room, file) = filled(1, 6_600);
+    let (room, file) = filled(Qam16, 1, 6_600);
     let mut command = room.shell("exec >/dev/full;", &NAMES);
     let given = printed(command.spawn().expect("the shell starts"));
     let why = "standard output: No space left on device\n";
@@ -732,9 +815,11 @@ fn no_room_for_the_output() {
 /// A megabyte of stack, its arguments and environment included, is enough.
 #[test]
 fn stack() {
-    let (room, file) = filled(2, 6_700);
-    let mut command = room.shell("ulimit -s 976 &&", &NAMES);
-    let given = printed(command.env_clear().spawn().expect("the shell starts"));
-    assert_eq!(given.out, line(2));
-    assert!(room.read("line") == file);
+    for profile in PROFILES {
+        let (room, file) = filled(profile, 2, 6_700);
+        let mut command = room.shell("ulimit -s 976 &&", &NAMES);
+        let given = printed(command.env_clear().spawn().expect("the shell starts"));
+        assert_eq!(given.out, line(2));
+        assert!(room.read("line") == file);
+    }
 }

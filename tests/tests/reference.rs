@@ -2,9 +2,9 @@
 
 use ofec_tests::cells;
 use ofec_tests::chain::places::{self, in_back, in_front, on_line, words_of, Name};
-use ofec_tests::chain::SUPERFRAME_PAIRS;
 use ofec_tests::frames::{self, SUBFRAMES, SUBFRAME_CELLS};
-use ofec_tests::interleaver::{source, BUFFER_BITS};
+use ofec_tests::interleaver::{source, BUFFER_BITS, PAIRS_BYTES};
+use ofec_tests::profile::{Profile, PROFILES};
 use ofec_tests::random::Random;
 use ofec_tests::rows::{self, Place, BIT_ROWS, FIRST_FULL_ROW};
 use ofec_tests::word::{self, Trial, Word, BACK, FREE_BITS, GENERATOR, WORD_BITS};
@@ -121,10 +121,30 @@ fn output_bits_come_from_every_place_once() {
 
 #[test]
 fn cells_are_legal_and_tell_their_byte() {
-    for byte in 0..=255 {
-        let cell = cells::cell(byte);
-        assert_eq!(cells::first_illegal(&cell), None);
-        assert_eq!(cells::byte(cell), byte);
+    for profile in PROFILES {
+        let symbols = 1 << profile.symbol_bits();
+        for symbol in (0..=255).take(symbols) {
+            let cell = cells::cell(profile, symbol);
+            assert_eq!(cells::first_illegal(profile, &cell), None);
+            assert_eq!(cells::symbol(profile, cell), symbol);
+        }
+        // Every legal cell is one of them.
+        assert_eq!(cells::legal_bytes(profile).len().pow(2), symbols);
+    }
+    assert_eq!(cells::legal_bytes(Profile::Qpsk), [5, 6, 9, 10]);
+}
+
+/// What is stated for a profile follows from its bits a symbol.
+#[test]
+fn sizes_of_the_profiles() {
+    for profile in PROFILES {
+        let symbols = profile.buffer_symbols();
+        assert_eq!(profile.symbol_bits() * symbols, BUFFER_BITS);
+        assert_eq!(profile.cells_bytes(), 2 * symbols);
+        assert_eq!(profile.buffers() * symbols, 172_032);
+        let pairs = profile.pairs();
+        assert_eq!(pairs * rows::PAIR_BYTES, profile.buffers() * PAIRS_BYTES);
+        assert_eq!(profile.payload_bytes(), pairs * rows::PAYLOAD_BYTES);
     }
 }
 
@@ -164,28 +184,31 @@ fn output_bit_of_a_place_is_the_one_that_comes_from_it() {
 
 #[test]
 fn bits_of_a_super_frame_fill_its_payload_cells() {
-    let mut seen = vec![0_u8; SUBFRAMES as usize * SUBFRAME_CELLS];
-    for word in places::words(SUPERFRAME_PAIRS) {
-        for place in (BACK..WORD_BITS).map(|k| word.bit(k)) {
-            for encoder in [0, 1] {
-                let at = on_line(encoder, place);
-                assert_eq!(seen[at.cell] >> at.bit & 1, 0);
-                seen[at.cell] |= 1 << at.bit;
-                // The same in the super-frame after the next.
-                let later = Place {
-                    row: place.row + 4 * SUPERFRAME_PAIRS as i64,
-                    ..place
-                };
-                let then = on_line(encoder, later);
-                assert_eq!(then.cell, at.cell + 2 * seen.len());
-                assert_eq!(then.bit, at.bit);
+    for profile in PROFILES {
+        let mut seen = vec![0_u8; SUBFRAMES as usize * SUBFRAME_CELLS];
+        for word in places::words(profile.pairs()) {
+            for place in (BACK..WORD_BITS).map(|k| word.bit(k)) {
+                for encoder in [0, 1] {
+                    let at = on_line(profile, encoder, place);
+                    assert_eq!(seen[at.cell] >> at.bit & 1, 0);
+                    seen[at.cell] |= 1 << at.bit;
+                    // The same in the super-frame after the next.
+                    let later = Place {
+                        row: place.row + 4 * profile.pairs() as i64,
+                        ..place
+                    };
+                    let then = on_line(profile, encoder, later);
+                    assert_eq!(then.cell, at.cell + 2 * seen.len());
+                    assert_eq!(then.bit, at.bit);
+                }
             }
         }
-    }
-    for (cell, &bits) in seen.iter().enumerate() {
-        let number = (cell / SUBFRAME_CELLS) as u32;
-        let overhead = frames::is_overhead(number, cell % SUBFRAME_CELLS);
-        assert_eq!(bits, if overhead { 0 } else { 255 });
+        let all = ((1 << profile.symbol_bits()) - 1) as u8;
+        for (cell, &bits) in seen.iter().enumerate() {
+            let number = (cell / SUBFRAME_CELLS) as u32;
+            let overhead = frames::is_overhead(number, cell % SUBFRAME_CELLS);
+            assert_eq!(bits, if overhead { 0 } else { all });
+        }
     }
 }
 

@@ -26,8 +26,9 @@ pub struct Outcome {
     pub refusal: u32,
     /// The call's own number; 0 if it has none, and 0 in a refusal unless the call says otherwise.
     pub value: u32,
-    /// In refusal 5, the index of the first illegal byte in its buffer; [`frame`](frame()) and
-    /// [`unframe`] look at the overhead list first. Otherwise 0, except in [`read_line`].
+    /// In refusal 5, the index of the first illegal byte in its buffer; [`frame`](frame()),
+    /// [`unframe`] and their QPSK twins look at the overhead list first. Otherwise 0, except in
+    /// [`read_line`].
     pub index: u64,
 }
 
@@ -105,6 +106,36 @@ unsafe extern "C" {
         frame_length: usize,
     ) -> Outcome;
     fn ofec_unframe(
+        number: u32,
+        frame: *const u8,
+        frame_length: usize,
+        overhead: *const u8,
+        overhead_length: usize,
+        payload: *mut u8,
+        payload_length: usize,
+    ) -> Outcome;
+    fn ofec_bits_to_cells_qpsk(
+        bits: *const u8,
+        bits_length: usize,
+        cells: *mut u8,
+        cells_length: usize,
+    ) -> Outcome;
+    fn ofec_cells_to_bits_qpsk(
+        cells: *const u8,
+        cells_length: usize,
+        bits: *mut u8,
+        bits_length: usize,
+    ) -> Outcome;
+    fn ofec_frame_qpsk(
+        number: u32,
+        payload: *const u8,
+        payload_length: usize,
+        overhead: *const u8,
+        overhead_length: usize,
+        frame: *mut u8,
+        frame_length: usize,
+    ) -> Outcome;
+    fn ofec_unframe_qpsk(
         number: u32,
         frame: *const u8,
         frame_length: usize,
@@ -239,6 +270,48 @@ pub fn frame(number: u32, payload: &[u8], overhead: &[u8], frame: &mut [u8]) -> 
 pub fn unframe(number: u32, frame: &[u8], overhead: &[u8], payload: &mut [u8]) -> Outcome {
     unsafe {
         ofec_unframe(
+            number,
+            frame.as_ptr(),
+            frame.len(),
+            overhead.as_ptr(),
+            overhead.len(),
+            payload.as_mut_ptr(),
+            payload.len(),
+        )
+    }
+}
+
+/// Maps `bits` of 21,504 bytes to `cells` of 86,016, by the profile QPSK.
+pub fn bits_to_cells_qpsk(bits: &[u8], cells: &mut [u8]) -> Outcome {
+    unsafe { ofec_bits_to_cells_qpsk(bits.as_ptr(), bits.len(), cells.as_mut_ptr(), cells.len()) }
+}
+
+/// Maps `cells` of 86,016 bytes to `bits` of 21,504, by the profile QPSK.
+pub fn cells_to_bits_qpsk(cells: &[u8], bits: &mut [u8]) -> Outcome {
+    unsafe { ofec_cells_to_bits_qpsk(cells.as_ptr(), cells.len(), bits.as_mut_ptr(), bits.len()) }
+}
+
+/// As [`frame`](frame()), with payload cells of the profile QPSK.
+pub fn frame_qpsk(number: u32, payload: &[u8], overhead: &[u8], frame: &mut [u8]) -> Outcome {
+    unsafe {
+        ofec_frame_qpsk(
+            number,
+            payload.as_ptr(),
+            payload.len(),
+            overhead.as_ptr(),
+            overhead.len(),
+            frame.as_mut_ptr(),
+            frame.len(),
+        )
+    }
+}
+
+/// As [`unframe`], with payload cells of the profile QPSK.
+///
+/// Value: the number of overhead cells that differ from the list.
+pub fn unframe_qpsk(number: u32, frame: &[u8], overhead: &[u8], payload: &mut [u8]) -> Outcome {
+    unsafe {
+        ofec_unframe_qpsk(
             number,
             frame.as_ptr(),
             frame.len(),

@@ -1,9 +1,11 @@
 //! The super-frame: 48 sub-frames of 3,712 cells, with overhead cells among the payload cells. The
-//! payload of a super-frame is the cells of eight buffers, one after the other.
+//! payload of a super-frame is the cells of eight buffers, or in QPSK of four, one after the other.
+//! The layout is the same in both profiles. A byte of an overhead cell is below 16 in both; one of a
+//! payload cell is legal by the profile ([`cells`](crate::cells)).
 
 use core::ops::Range;
 
-use crate::{Refusal, capi};
+use crate::{Profile, Refusal, capi};
 
 /// Sub-frames of a super-frame, numbered from 0.
 pub const SUBFRAMES: u32 = 48;
@@ -102,9 +104,50 @@ pub fn frame(
     overhead: &[u8],
     frame: &mut [u8],
 ) -> Result<(), Refusal> {
-    capi::frame(number, payload, overhead, frame)
-        .done()
-        .map(|_| ())
+    place(Profile::Qam16, number, payload, overhead, frame)
+}
+
+/// As [`frame`](frame()), with payload cells of QPSK: a byte of `payload` other than 5, 6, 9 and 10 is
+/// [`Refusal::OffGrid`].
+///
+/// ```
+/// use ofec::Refusal;
+/// use ofec::frame::*;
+///
+/// let overhead = [15; OVERHEAD_BYTES]; // overhead cells may have levels of 3
+/// let mut payload = [10; 7_172];
+/// let mut line = [0; FRAME_BYTES];
+/// frame_qpsk(1, &payload, &overhead, &mut line)?;
+/// assert_eq!(line[2 * 10..2 * 12], [15, 15, 10, 10]);
+///
+/// payload[700] = 15;
+/// let refused = frame_qpsk(1, &payload, &overhead, &mut line);
+/// assert_eq!(refused, Err(Refusal::OffGrid { index: 700 }));
+/// frame(1, &payload, &overhead, &mut line)?;
+/// # Ok::<(), ofec::Refusal>(())
+/// ```
+pub fn frame_qpsk(
+    number: u32,
+    payload: &[u8],
+    overhead: &[u8],
+    frame: &mut [u8],
+) -> Result<(), Refusal> {
+    place(Profile::Qpsk, number, payload, overhead, frame)
+}
+
+/// Frames by a profile.
+pub(crate) fn place(
+    profile: Profile,
+    number: u32,
+    payload: &[u8],
+    overhead: &[u8],
+    frame: &mut [u8],
+) -> Result<(), Refusal> {
+    let call = match profile {
+        Profile::Qam16 => capi::frame,
+        Profile::Qpsk => capi::frame_qpsk,
+    };
+    call(number, payload, overhead, frame).done().map(|_| ())
 }
 
 /// Unframes sub-frame `number`: the buffers of [`frame`](frame()), but the payload is written.
@@ -136,7 +179,50 @@ pub fn unframe(
     overhead: &[u8],
     payload: &mut [u8],
 ) -> Result<u32, Refusal> {
-    capi::unframe(number, frame, overhead, payload)
-        .done()
-        .map(|done| done.value)
+    extract(Profile::Qam16, number, frame, overhead, payload)
+}
+
+/// As [`unframe`], with payload cells of QPSK. Each byte of `frame` is legal by the rule of its own
+/// cell: below 16 in an overhead cell, and 5, 6, 9 or 10 in a payload cell.
+///
+/// ```
+/// use ofec::Refusal;
+/// use ofec::frame::*;
+///
+/// let overhead = [5; OVERHEAD_BYTES];
+/// let mut line = [5; FRAME_BYTES];
+/// line[2 * 10] = 0; // the last training cell
+///
+/// let mut received = [0; 7_172];
+/// assert_eq!(unframe_qpsk(47, &line, &overhead, &mut received)?, 1);
+/// assert_eq!(received, [5; 7_172]);
+///
+/// line[2 * 11] = 0; // the first payload cell
+/// let refused = unframe_qpsk(47, &line, &overhead, &mut received);
+/// assert_eq!(refused, Err(Refusal::OffGrid { index: 22 }));
+/// # Ok::<(), ofec::Refusal>(())
+/// ```
+pub fn unframe_qpsk(
+    number: u32,
+    frame: &[u8],
+    overhead: &[u8],
+    payload: &mut [u8],
+) -> Result<u32, Refusal> {
+    extract(Profile::Qpsk, number, frame, overhead, payload)
+}
+
+/// Unframes by a profile.
+pub(crate) fn extract(
+    profile: Profile,
+    number: u32,
+    frame: &[u8],
+    overhead: &[u8],
+    payload: &mut [u8],
+) -> Result<u32, Refusal> {
+    let call = match profile {
+        Profile::Qam16 => capi::unframe,
+        Profile::Qpsk => capi::unframe_qpsk,
+    };
+    let answer = call(number, frame, overhead, payload).done()?;
+    Ok(answer.value)
 }

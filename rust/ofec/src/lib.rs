@@ -1,4 +1,4 @@
-//! The oFEC line reference (16-QAM) for Rust: safe functions and types over the verified library.
+//! The oFEC line reference (16-QAM and QPSK) for Rust: safe functions and types over the verified library.
 //!
 //! Every function of that library is proved to meet its contract. This crate has slices where the
 //! library has pointers, and a [`Refusal`] where it has a number; its types carry a history or an
@@ -9,6 +9,7 @@
 //! | [`word`] | repair of a check word |
 //! | [`pair`] | [`Encoder`] and [`Receiver`]: pairs of rows over the ten pairs before |
 //! | [`interleaver`] | 21 pairs of each of two encoders to the bits of a buffer, and back |
+//! | [`profile`] | [`Profile`]: 16-QAM or QPSK, and the sizes that depend on it |
 //! | [`cells`] | a buffer's bits to cells, and back |
 //! | [`frame`] | payload and overhead cells to the sub-frames of a super-frame, and back |
 //! | [`superframe`] | all of these for a super-frame: payload to frames, and back |
@@ -16,10 +17,14 @@
 //! | [`refusal`] | why a call is refused |
 //! | [`capi`] | the C interface, call by call, on which the others stand |
 //!
-//! Each module has constants for the lengths of its buffers. A buffer of any other length is refused
-//! with [`Refusal::Misfit`] (except the payload of a sub-frame number of 48 or more, which is not
-//! measured). A refused call leaves every buffer and every state as it was. The library has no
-//! state of its own, so calls may run on several threads at once.
+//! A function that depends on the profile is there twice: `frame` is for 16-QAM and `frame_qpsk` for
+//! QPSK, and so on.
+//!
+//! Each module has constants for the lengths of its buffers, and [`Profile`] has those that depend on
+//! the profile. A buffer of any other length is refused with [`Refusal::Misfit`] (except the payload
+//! of a sub-frame number of 48 or more, which is not measured). A refused call leaves every buffer and
+//! every state as it was. The library has no state of its own, so calls may run on several threads at
+//! once.
 //!
 //! A pair over a line that flips two bits of one word:
 //!
@@ -55,11 +60,13 @@ pub mod frame;
 pub mod interleaver;
 pub mod line_file;
 pub mod pair;
+pub mod profile;
 pub mod refusal;
 pub mod superframe;
 pub mod word;
 
 pub use line_file::LineFile;
 pub use pair::{Encoder, Receiver};
+pub use profile::Profile;
 pub use refusal::Refusal;
 pub use word::Mark;

@@ -29,7 +29,8 @@ pub enum Refusal {
     CountSpent,
     /// 4: the sub-frame number is above 47, or the file does not have that super-frame.
     NoSuchFrame,
-    /// 5: an illegal byte in cells that the call reads, the overhead list first.
+    /// 5: an illegal byte in cells that the call reads, the overhead list first: a byte of 16 or more,
+    /// or in a payload cell of QPSK a level of -3 or 3.
     OffGrid {
         /// Where it first occurs in its buffer; [`frame`](crate::frame::frame) says how to tell which
         /// buffer that is.

@@ -1,12 +1,14 @@
 //! A refused call says why, and leaves every buffer and every state as it was.
 
-use ofec::cells::{self, CELLS_BYTES, bits_to_cells, cells_to_bits};
-use ofec::frame::{FRAME_BYTES, OVERHEAD_BYTES, SUPERFRAME_BYTES, frame, unframe};
+mod common;
+
+use common::BOTH;
+use ofec::frame::{FRAME_BYTES, OVERHEAD_BYTES, SUPERFRAME_BYTES, frame};
 use ofec::interleaver::{BITS_BYTES, PAIRS_BYTES, deinterleave, interleave};
 use ofec::line_file::{HEADER_BYTES, write_header};
 use ofec::pair::{CODED_BYTES, HISTORY_BYTES, PAYLOAD_BYTES, State};
 use ofec::word::{Reach, WORD_BYTES, repair};
-use ofec::{Encoder, LineFile, Mark, Receiver, Refusal, superframe};
+use ofec::{Encoder, LineFile, Mark, Profile, Receiver, Refusal};
 
 /// What stands in a buffer before a call.
 const LEFT: u8 = 0xa5;
@@ -49,20 +51,23 @@ fn a_misfit_leaves_every_buffer() {
         [BITS_BYTES, PAIRS_BYTES, PAIRS_BYTES],
         |[bits, pairs0, pairs1]| deinterleave(bits, pairs0, pairs1),
     );
-    misfits([cells::BITS_BYTES, CELLS_BYTES], |[bits, cells]| {
-        bits_to_cells(bits, cells)
-    });
-    misfits([CELLS_BYTES, cells::BITS_BYTES], |[cells, bits]| {
-        cells_to_bits(cells, bits)
-    });
-    misfits(
-        [7_172, OVERHEAD_BYTES, FRAME_BYTES],
-        |[payload, list, to]| frame(1, payload, list, to),
-    );
-    misfits(
-        [FRAME_BYTES, OVERHEAD_BYTES, 6_980],
-        |[from, list, payload]| unframe(0, from, list, payload),
-    );
+    for calls in BOTH {
+        let cells_bytes = calls.profile.cells_bytes();
+        misfits([BITS_BYTES, cells_bytes], |[bits, cells]| {
+            (calls.bits_to_cells)(bits, cells)
+        });
+        misfits([cells_bytes, BITS_BYTES], |[cells, bits]| {
+            (calls.cells_to_bits)(cells, bits)
+        });
+        misfits(
+            [7_172, OVERHEAD_BYTES, FRAME_BYTES],
+            |[payload, list, to]| (calls.frame)(1, payload, list, to),
+        );
+        misfits(
+            [FRAME_BYTES, OVERHEAD_BYTES, 6_980],
+            |[from, list, payload]| (calls.unframe)(0, from, list, payload),
+        );
+    }
     misfits([HEADER_BYTES], |[header]| write_header(1, header));
 }
 
@@ -156,10 +161,12 @@ fn from_48_on_the_payload_is_not_measured() {
     for length in [0, 1, 6_980, 7_172, 10_000] {
         let mut payload = vec![LEFT; length];
         for number in [48, u32::MAX] {
-            let refused = frame(number, &payload, &list, &mut line);
-            assert_eq!(refused, Err(Refusal::NoSuchFrame));
-            let refused = unframe(number, &line, &list, &mut payload);
-            assert_eq!(refused, Err(Refusal::NoSuchFrame));
+            for calls in BOTH {
+                let refused = (calls.frame)(number, &payload, &list, &mut line);
+                assert_eq!(refused, Err(Refusal::NoSuchFrame));
+                let refused = (calls.unframe)(number, &line, &list, &mut payload);
+                assert_eq!(refused, Err(Refusal::NoSuchFrame));
+            }
             assert!(payload.iter().chain(&line).all(|&byte| byte == LEFT));
         }
     }
@@ -167,83 +174,124 @@ fn from_48_on_the_payload_is_not_measured() {
 
 #[test]
 fn a_super_frame_that_is_a_misfit() {
-    use superframe::{CODED_BYTES, PAYLOAD_BYTES, WORDS, encode, make, receive, take_apart};
-    misfits([PAYLOAD_BYTES, CODED_BYTES], |[payload, coded]| {
-        let mut encoder = Encoder::new();
-        let answer = encode(&mut encoder, payload, coded);
-        assert_eq!(encoder, Encoder::new());
-        answer
-    });
-    for words in [WORDS - 1, WORDS, WORDS + 1] {
-        // Where the number of marks is wrong, one of the two calls fits but for that.
-        let length = if words == WORDS {
-            CODED_BYTES
-        } else {
-            CODED_BYTES - 1
-        };
-        misfits([length, PAYLOAD_BYTES], |[coded, payload]| {
-            let (mut receiver, mut marks) = (Receiver::new(), vec![Mark::TwoFlips; words]);
-            let answer = receive(&mut receiver, coded, payload, &mut marks);
-            assert_eq!(receiver, Receiver::new());
-            assert!(marks.iter().all(|&mark| mark == Mark::TwoFlips));
+    for calls in BOTH {
+        let profile = calls.profile;
+        let (payload_bytes, coded_bytes) = (profile.payload_bytes(), profile.coded_bytes());
+        misfits([payload_bytes, coded_bytes], |[payload, coded]| {
+            let mut encoder = Encoder::new();
+            let answer = (calls.encode)(&mut encoder, payload, coded);
+            assert_eq!(encoder, Encoder::new());
             answer
         });
+        let right = profile.words();
+        for words in [right - 1, right, right + 1] {
+            // Where the number of marks is wrong, one of the two calls fits but for that.
+            let length = if words == right {
+                coded_bytes
+            } else {
+                coded_bytes - 1
+            };
+            misfits([length, payload_bytes], |[coded, payload]| {
+                let (mut receiver, mut marks) = (Receiver::new(), vec![Mark::TwoFlips; words]);
+                let answer = (calls.receive)(&mut receiver, coded, payload, &mut marks);
+                assert_eq!(receiver, Receiver::new());
+                assert!(marks.iter().all(|&mark| mark == Mark::TwoFlips));
+                answer
+            });
+        }
+        misfits(
+            [coded_bytes, coded_bytes, OVERHEAD_BYTES, SUPERFRAME_BYTES],
+            |[coded0, coded1, list, frames]| (calls.make)([coded0, coded1], list, frames),
+        );
+        misfits(
+            [SUPERFRAME_BYTES, OVERHEAD_BYTES, coded_bytes, coded_bytes],
+            |[frames, list, coded0, coded1]| (calls.take_apart)(frames, list, [coded0, coded1]),
+        );
     }
-    misfits(
-        [CODED_BYTES, CODED_BYTES, OVERHEAD_BYTES, SUPERFRAME_BYTES],
-        |[coded0, coded1, list, frames]| make([coded0, coded1], list, frames),
-    );
-    misfits(
-        [SUPERFRAME_BYTES, OVERHEAD_BYTES, CODED_BYTES, CODED_BYTES],
-        |[frames, list, coded0, coded1]| take_apart(frames, list, [coded0, coded1]),
-    );
 }
 
 #[test]
 fn a_super_frame_with_too_few_pairs_left() {
-    use superframe::{CODED_BYTES, PAIRS, PAYLOAD_BYTES, WORDS, encode, receive};
-    let last = u32::MAX - PAIRS as u32;
     let state = |pair| State {
         history: [1; HISTORY_BYTES],
         pair,
     };
-    let (mut payload, mut coded) = (vec![LEFT; PAYLOAD_BYTES], vec![LEFT; CODED_BYTES]);
-    let mut marks = vec![Mark::TwoFlips; WORDS];
-    for pair in [last + 1, u32::MAX] {
-        let mut encoder = Encoder::resume(state(pair));
-        let refused = encode(&mut encoder, &payload, &mut coded);
-        assert_eq!(refused, Err(Refusal::CountSpent));
-        assert_eq!(encoder.state(), &state(pair));
-        let mut receiver = Receiver::resume(state(pair));
-        let refused = receive(&mut receiver, &coded, &mut payload, &mut marks);
-        assert_eq!(refused, Err(Refusal::CountSpent));
-        assert_eq!(receiver.state(), &state(pair));
-    }
-    assert!(payload.iter().chain(&coded).all(|&byte| byte == LEFT));
-    assert!(marks.iter().all(|&mark| mark == Mark::TwoFlips));
+    for calls in BOTH {
+        let profile = calls.profile;
+        let last = u32::MAX - profile.pairs() as u32;
+        let mut payload = vec![LEFT; profile.payload_bytes()];
+        let mut coded = vec![LEFT; profile.coded_bytes()];
+        let mut marks = vec![Mark::TwoFlips; profile.words()];
+        for pair in [last + 1, u32::MAX] {
+            let mut encoder = Encoder::resume(state(pair));
+            let refused = (calls.encode)(&mut encoder, &payload, &mut coded);
+            assert_eq!(refused, Err(Refusal::CountSpent));
+            assert_eq!(encoder.state(), &state(pair));
+            let mut receiver = Receiver::resume(state(pair));
+            let refused = (calls.receive)(&mut receiver, &coded, &mut payload, &mut marks);
+            assert_eq!(refused, Err(Refusal::CountSpent));
+            assert_eq!(receiver.state(), &state(pair));
+        }
+        assert!(payload.iter().chain(&coded).all(|&byte| byte == LEFT));
+        assert!(marks.iter().all(|&mark| mark == Mark::TwoFlips));
 
-    let mut encoder = Encoder::resume(state(last));
-    encode(&mut encoder, &payload, &mut coded).expect("the last pairs");
-    assert_eq!(encoder.state().pair, u32::MAX);
+        let mut encoder = Encoder::resume(state(last));
+        (calls.encode)(&mut encoder, &payload, &mut coded).expect("the last pairs");
+        assert_eq!(encoder.state().pair, u32::MAX);
+    }
 }
 
 #[test]
 fn a_super_frame_with_an_illegal_byte() {
-    use superframe::{CODED_BYTES, make, take_apart};
-    let (coded, mut list) = (vec![0; CODED_BYTES], [0; OVERHEAD_BYTES]);
-    let mut frames = vec![LEFT; SUPERFRAME_BYTES];
-    list[12_287] = 16;
-    let off_grid = |index| Err(Refusal::OffGrid { index });
-    assert_eq!(make([&coded, &coded], &list, &mut frames), off_grid(12_287));
-    assert!(frames.iter().all(|&byte| byte == LEFT));
+    for calls in BOTH {
+        let profile = calls.profile;
+        let (coded, mut list) = (vec![0; profile.coded_bytes()], [0; OVERHEAD_BYTES]);
+        let mut frames = vec![LEFT; SUPERFRAME_BYTES];
+        list[12_287] = 16;
+        let off_grid = |index| Err(Refusal::OffGrid { index });
+        let refused = (calls.make)([&coded, &coded], &list, &mut frames);
+        assert_eq!(refused, off_grid(12_287));
+        assert!(frames.iter().all(|&byte| byte == LEFT));
 
-    let (mut coded0, mut coded1) = (vec![LEFT; CODED_BYTES], vec![LEFT; CODED_BYTES]);
-    frames.fill(0);
-    (frames[356_351], frames[200_000]) = (255, 16);
-    for (byte, index) in [(16, 12_287), (15, 200_000)] {
-        list[12_287] = byte;
-        let refused = take_apart(&frames, &list, [&mut coded0, &mut coded1]);
-        assert_eq!(refused.map(|_| ()), off_grid(index));
+        let [mut coded0, mut coded1] = [0; 2].map(|_| vec![LEFT; profile.coded_bytes()]);
+        frames.fill(5);
+        (frames[356_351], frames[200_000]) = (255, 16);
+        for (byte, index) in [(16, 12_287), (15, 200_000)] {
+            list[12_287] = byte;
+            let refused = (calls.take_apart)(&frames, &list, [&mut coded0, &mut coded1]);
+            assert_eq!(refused.map(|_| ()), off_grid(index));
+        }
+        assert!(coded0.iter().chain(&coded1).all(|&byte| byte == LEFT));
+        // A level of 3: in an overhead cell, and then in a payload cell, which is legal in 16-QAM.
+        (frames[356_351], frames[200_000], frames[7_424]) = (5, 5, 15);
+        frames[7_424 + 2 * 11] = 15;
+        let answer = (calls.take_apart)(&frames, &list, [&mut coded0, &mut coded1]);
+        if profile == Profile::Qpsk {
+            assert_eq!(answer.map(|_| ()), off_grid(7_424 + 2 * 11));
+            assert!(coded0.iter().chain(&coded1).all(|&byte| byte == LEFT));
+            frames[7_424 + 2 * 11] = 5;
+            let answer = (calls.take_apart)(&frames, &list, [&mut coded0, &mut coded1]);
+            assert_eq!(answer, Ok(6_144));
+        } else {
+            assert_eq!(answer, Ok(6_144));
+        }
     }
-    assert!(coded0.iter().chain(&coded1).all(|&byte| byte == LEFT));
+}
+
+#[test]
+fn a_level_of_3_in_a_payload_cell() {
+    let (list, mut line) = ([12; OVERHEAD_BYTES], [LEFT; FRAME_BYTES]);
+    for calls in BOTH {
+        let expected = match calls.profile {
+            Profile::Qam16 => Ok(()),
+            Profile::Qpsk => Err(Refusal::OffGrid { index: 4_321 }),
+        };
+        let mut cells = vec![10; calls.profile.cells_bytes()];
+        let mut payload = [10; 7_172];
+        (cells[4_321], payload[4_321]) = (2, 2);
+        let answer = (calls.cells_to_bits)(&cells, &mut [0; BITS_BYTES]);
+        assert_eq!(answer, expected);
+        let answer = (calls.frame)(9, &payload, &list, &mut line);
+        assert_eq!(answer, expected);
+    }
 }

@@ -1,16 +1,15 @@
-//! Two payload streams through a line file with errors, and back: call by call, and super-frame by
-//! super-frame.
+//! Two payload streams through a line file with errors, and back, in both profiles: call by call, and
+//! super-frame by super-frame.
 
-use ofec::cells::{CELLS_BYTES, bits_to_cells, cells_to_bits};
-use ofec::frame::{FRAME_BYTES, OVERHEAD_BYTES, SUBFRAMES, frame, payload_bytes, unframe};
+mod common;
+
+use common::{BOTH, Calls};
+use ofec::frame::{FRAME_BYTES, OVERHEAD_BYTES, SUBFRAMES, SUPERFRAME_BYTES, payload_bytes};
 use ofec::interleaver::{BITS_BYTES, PAIRS_BYTES, deinterleave, interleave};
 use ofec::line_file::{HEADER_BYTES, write_header};
 use ofec::pair::{CODED_BYTES, PAYLOAD_BYTES};
-use ofec::{Encoder, LineFile, Mark, Receiver, Refusal, superframe};
+use ofec::{Encoder, LineFile, Mark, Profile, Receiver, Refusal};
 
-/// Pairs of each encoder in a super-frame.
-const PAIRS: usize = 168;
-const BUFFERS: usize = 8;
 /// One cell in so many has a wrong bit of X: few enough that every word can be repaired.
 const CELLS_PER_ERROR: usize = 499;
 
@@ -24,9 +23,9 @@ fn bytes(seed: u32, count: usize) -> Vec<u8> {
     (0..count).map(|_| next()).collect()
 }
 
-fn encode(payload: &[u8]) -> Result<Vec<u8>, Refusal> {
+fn encode(profile: Profile, payload: &[u8]) -> Result<Vec<u8>, Refusal> {
     let mut encoder = Encoder::new();
-    let mut coded = vec![0; PAIRS * CODED_BYTES];
+    let mut coded = vec![0; profile.coded_bytes()];
     for (payload, place) in payload
         .chunks(PAYLOAD_BYTES)
         .zip(coded.chunks_mut(CODED_BYTES))
@@ -36,14 +35,15 @@ fn encode(payload: &[u8]) -> Result<Vec<u8>, Refusal> {
     Ok(coded)
 }
 
-fn send(payloads: [&[u8]; 2], overhead: &[u8]) -> Result<Vec<u8>, Refusal> {
-    let coded = [encode(payloads[0])?, encode(payloads[1])?];
-    let mut cells = vec![0; BUFFERS * CELLS_BYTES];
-    for (buffer, place) in cells.chunks_mut(CELLS_BYTES).enumerate() {
+fn send(calls: Calls, payloads: [&[u8]; 2], overhead: &[u8]) -> Result<Vec<u8>, Refusal> {
+    let profile = calls.profile;
+    let coded = [encode(profile, payloads[0])?, encode(profile, payloads[1])?];
+    let mut cells = vec![0; profile.buffers() * profile.cells_bytes()];
+    for (buffer, place) in cells.chunks_mut(profile.cells_bytes()).enumerate() {
         let [pairs0, pairs1] = [0, 1].map(|e| &coded[e][buffer * PAIRS_BYTES..][..PAIRS_BYTES]);
         let mut bits = [0; BITS_BYTES];
         interleave(pairs0, pairs1, &mut bits)?;
-        bits_to_cells(&bits, place)?;
+        (calls.bits_to_cells)(&bits, place)?;
     }
 
     let mut file = vec![0; HEADER_BYTES];
@@ -53,7 +53,7 @@ fn send(payloads: [&[u8]; 2], overhead: &[u8]) -> Result<Vec<u8>, Refusal> {
     for number in 0..SUBFRAMES {
         let (payload, after) = rest.split_at(payload_bytes(number).expect("below 48"));
         let mut place = [0; FRAME_BYTES];
-        frame(number, payload, overhead, &mut place)?;
+        (calls.frame)(number, payload, overhead, &mut place)?;
         file.extend(place);
         rest = after;
     }
@@ -61,20 +61,20 @@ fn send(payloads: [&[u8]; 2], overhead: &[u8]) -> Result<Vec<u8>, Refusal> {
 }
 
 /// The payloads, the flips and the overhead cells that differ.
-fn receive(line: LineFile) -> Result<([Vec<u8>; 2], u32, u32), Refusal> {
+fn receive(calls: Calls, line: LineFile) -> Result<([Vec<u8>; 2], u32, u32), Refusal> {
     let (mut cells, mut differing) = (Vec::new(), 0);
     for number in 0..SUBFRAMES {
         let mut payload = vec![0; payload_bytes(number).expect("below 48")];
         let stretch = line.subframe(0, number)?;
-        differing += unframe(number, stretch, line.overhead(), &mut payload)?;
+        differing += (calls.unframe)(number, stretch, line.overhead(), &mut payload)?;
         cells.extend(payload);
     }
 
     let mut receivers = [Receiver::new(), Receiver::new()];
     let (mut payloads, mut flips) = ([Vec::new(), Vec::new()], 0);
-    for cells in cells.chunks(CELLS_BYTES) {
+    for cells in cells.chunks(calls.profile.cells_bytes()) {
         let mut bits = [0; BITS_BYTES];
-        cells_to_bits(cells, &mut bits)?;
+        (calls.cells_to_bits)(cells, &mut bits)?;
         let [mut pairs0, mut pairs1] = [[0; PAIRS_BYTES]; 2];
         deinterleave(&bits, &mut pairs0, &mut pairs1)?;
         for (encoder, pairs) in [pairs0, pairs1].iter().enumerate() {
@@ -94,38 +94,41 @@ fn receive(line: LineFile) -> Result<([Vec<u8>; 2], u32, u32), Refusal> {
 
 #[test]
 fn payloads_come_back_over_a_line_with_errors() -> Result<(), Refusal> {
-    let payloads = [1, 2].map(|seed| bytes(seed, PAIRS * PAYLOAD_BYTES));
-    let overhead: Vec<u8> = bytes(3, OVERHEAD_BYTES)
-        .iter()
-        .map(|byte| byte >> 4)
-        .collect();
-    let mut file = send([&payloads[0], &payloads[1]], &overhead)?;
+    for calls in BOTH {
+        let payloads = [1, 2].map(|seed| bytes(seed, calls.profile.payload_bytes()));
+        let overhead: Vec<u8> = bytes(3, OVERHEAD_BYTES)
+            .iter()
+            .map(|byte| byte >> 4)
+            .collect();
+        let mut file = send(calls, [&payloads[0], &payloads[1]], &overhead)?;
 
-    let (back, flips, differing) = receive(LineFile::open(&file)?)?;
-    assert!(back == payloads);
-    assert_eq!((flips, differing), (0, 0));
+        let (back, flips, differing) = receive(calls, LineFile::open(&file)?)?;
+        assert!(back == payloads);
+        assert_eq!((flips, differing), (0, 0));
 
-    let mut wrong = 0;
-    for cells in file[HEADER_BYTES + OVERHEAD_BYTES..].chunks_mut(2 * CELLS_PER_ERROR) {
-        cells[0] ^= 1;
-        wrong += 1;
+        let mut wrong = 0;
+        for cells in file[HEADER_BYTES + OVERHEAD_BYTES..].chunks_mut(2 * CELLS_PER_ERROR) {
+            cells[0] ^= 3; // Q with the other sign
+            wrong += 1;
+        }
+        let (back, flips, differing) = receive(calls, LineFile::open(&file)?)?;
+        assert!(back == payloads);
+        assert!(flips + differing == wrong && differing > 0);
     }
-    let (back, flips, differing) = receive(LineFile::open(&file)?)?;
-    assert!(back == payloads);
-    assert!(flips + differing == wrong && differing > 0);
     Ok(())
 }
 
 /// The payloads, the flips and the overhead cells that differ, by the calls for a super-frame.
-fn receive_superframe(line: LineFile) -> Result<([Vec<u8>; 2], u32, u32), Refusal> {
-    let [mut coded0, mut coded1] = [0xa5, 0x5a].map(|left| vec![left; superframe::CODED_BYTES]);
+fn receive_superframe(calls: Calls, line: LineFile) -> Result<([Vec<u8>; 2], u32, u32), Refusal> {
+    let profile = calls.profile;
+    let [mut coded0, mut coded1] = [0xa5, 0x5a].map(|left| vec![left; profile.coded_bytes()]);
     let coded = [&mut coded0[..], &mut coded1[..]];
-    let differing = superframe::take_apart(line.superframe(0)?, line.overhead(), coded)?;
+    let differing = (calls.take_apart)(line.superframe(0)?, line.overhead(), coded)?;
     let (mut payloads, mut flips) = ([Vec::new(), Vec::new()], 0);
     for (payload, coded) in payloads.iter_mut().zip([coded0, coded1]) {
-        let mut marks = [Mark::Lost; superframe::WORDS];
-        *payload = vec![0xa5; superframe::PAYLOAD_BYTES];
-        superframe::receive(&mut Receiver::new(), &coded, payload, &mut marks)?;
+        let mut marks = vec![Mark::Lost; profile.words()];
+        *payload = vec![0xa5; profile.payload_bytes()];
+        (calls.receive)(&mut Receiver::new(), &coded, payload, &mut marks)?;
         flips += marks.iter().filter_map(|mark| mark.flips()).sum::<u32>();
         assert!(!marks.contains(&Mark::Lost));
     }
@@ -134,27 +137,29 @@ fn receive_superframe(line: LineFile) -> Result<([Vec<u8>; 2], u32, u32), Refusa
 
 #[test]
 fn a_super_frame_at_once_is_its_calls_one_by_one() -> Result<(), Refusal> {
-    let payloads = [4, 5].map(|seed| bytes(seed, PAIRS * PAYLOAD_BYTES));
-    let mut overhead = bytes(6, OVERHEAD_BYTES);
-    overhead.iter_mut().for_each(|byte| *byte >>= 4);
-    let mut file = send([&payloads[0], &payloads[1]], &overhead)?;
+    for calls in BOTH {
+        let profile = calls.profile;
+        let payloads = [4, 5].map(|seed| bytes(seed, profile.payload_bytes()));
+        let mut overhead = bytes(6, OVERHEAD_BYTES);
+        overhead.iter_mut().for_each(|byte| *byte >>= 4);
+        let mut file = send(calls, [&payloads[0], &payloads[1]], &overhead)?;
 
-    let mut coded = [vec![0xa5; superframe::CODED_BYTES], Vec::new()];
-    coded[1] = coded[0].clone();
-    for (payload, coded) in payloads.iter().zip(&mut coded) {
-        let mut encoder = Encoder::new();
-        superframe::encode(&mut encoder, payload, coded)?;
-        assert!(*coded == encode(payload)?);
-        assert_eq!(encoder.state().pair, 168);
-    }
-    let mut frames = vec![0xa5; superframe::BUFFERS * CELLS_BYTES + OVERHEAD_BYTES];
-    superframe::make([&coded[0], &coded[1]], &overhead, &mut frames)?;
-    assert!(frames == file[HEADER_BYTES + OVERHEAD_BYTES..]);
+        let mut coded = [0; 2].map(|_| vec![0xa5; profile.coded_bytes()]);
+        for (payload, coded) in payloads.iter().zip(&mut coded) {
+            let mut encoder = Encoder::new();
+            (calls.encode)(&mut encoder, payload, coded)?;
+            assert!(*coded == encode(profile, payload)?);
+            assert_eq!(encoder.state().pair as usize, profile.pairs());
+        }
+        let mut frames = vec![0xa5; SUPERFRAME_BYTES];
+        (calls.make)([&coded[0], &coded[1]], &overhead, &mut frames)?;
+        assert!(frames == file[HEADER_BYTES + OVERHEAD_BYTES..]);
 
-    for cells in file[HEADER_BYTES + OVERHEAD_BYTES..].chunks_mut(2 * CELLS_PER_ERROR) {
-        cells[1] ^= 4;
+        for cells in file[HEADER_BYTES + OVERHEAD_BYTES..].chunks_mut(2 * CELLS_PER_ERROR) {
+            cells[1] ^= 12; // I with the other sign
+        }
+        let line = LineFile::open(&file)?;
+        assert!(receive_superframe(calls, line)? == receive(calls, line)?);
     }
-    let line = LineFile::open(&file)?;
-    assert!(receive_superframe(line)? == receive(line)?);
     Ok(())
 }

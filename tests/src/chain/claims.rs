@@ -3,6 +3,7 @@
 use crate::bits;
 use crate::chain::places::{on_line, read, words, words_of, Name, Rows};
 use crate::chain::receiving::Received;
+use crate::profile::Profile;
 use crate::rows::{payload_bit, Place, FIRST_FULL_ROW, MARKS};
 use crate::word::{BACK, FREE_BITS, LOST, WORD_BITS};
 
@@ -42,11 +43,11 @@ pub enum Out {
 }
 
 /// Every bit of an encoder, read backwards from the frames as they were sent.
-pub fn check_frames(encoder: usize, sent: &Rows, frames: &[u8]) -> Vec<Breach> {
+pub fn check_frames(profile: Profile, encoder: usize, sent: &Rows, frames: &[u8]) -> Vec<Breach> {
     let mut breaches = Vec::new();
     for word in words(sent.pairs()) {
         for place in (BACK..WORD_BITS).map(|k| word.bit(k)) {
-            if read(frames, on_line(encoder, place)) != sent.get(place) {
+            if read(profile, frames, on_line(profile, encoder, place)) != sent.get(place) {
                 breaches.push(Breach::Frame { encoder, place });
             }
         }

@@ -1,8 +1,12 @@
-//! What the line does: it puts any legal cell for any cell.
+//! What the line does: it puts any legal cell for any cell, each by the rule of its own.
 
+use std::ops::Range;
+
+use crate::cells::legal_bytes;
 use crate::chain::places::{flip, in_back, in_front, index, on_line, words, Name, PAIR_BITS};
-use crate::chain::{SUPERFRAME_BYTES, SUPERFRAME_PAIRS};
-use crate::frames::{is_overhead, FRAME_BYTES, SUBFRAMES, SUBFRAME_CELLS};
+use crate::chain::SUPERFRAME_BYTES;
+use crate::frames::{self, is_overhead, SUBFRAMES, SUBFRAME_CELLS};
+use crate::profile::Profile;
 use crate::random::Random;
 use crate::rows::{Place, BIT_ROWS, MARKS};
 use crate::word::WORD_BITS;
@@ -36,26 +40,24 @@ pub enum Damage {
 }
 
 impl Damage {
-    pub fn apply(&self, frames: &mut [u8], random: &mut Random) {
+    pub fn apply(&self, profile: Profile, frames: &mut [u8], random: &mut Random) {
         let cells = frames.len() / 2;
         match *self {
             Damage::Cells(count) => {
                 for _ in 0..count {
-                    another_cell(frames, random.between(0, cells), random);
+                    another_cell(profile, frames, random.between(0, cells), random);
                 }
             }
             Damage::Overhead(percent) => {
                 for cell in 0..cells {
-                    let number = cell / SUBFRAME_CELLS % SUBFRAMES as usize;
-                    if is_overhead(number as u32, cell % SUBFRAME_CELLS)
-                        && random.between(0, 100) < percent
-                    {
-                        another_cell(frames, cell, random);
+                    let (number, within) = subframe(cell);
+                    if is_overhead(number, within) && random.between(0, 100) < percent {
+                        another_cell(profile, frames, cell, random);
                     }
                 }
             }
             Damage::Words { count, wrong } => {
-                let mut loads = Loads::new(frames, wrong);
+                let mut loads = Loads::new(profile, frames, wrong);
                 for _ in 0..count {
                     let (encoder, word) = loads.any_word(random);
                     let wrong = random.between(1, wrong + 1);
@@ -63,7 +65,7 @@ impl Damage {
                 }
             }
             Damage::AllWords(wrong) => {
-                let mut loads = Loads::new(frames, wrong);
+                let mut loads = Loads::new(profile, frames, wrong);
                 let mut all: Vec<(usize, Name)> = words(loads.pairs)
                     .flat_map(|word| [(0, word), (1, word)])
                     .collect();
@@ -76,15 +78,16 @@ impl Damage {
             Damage::Errors(rate) => {
                 for cell in 0..cells {
                     if random.between(0, MILLION) < rate {
-                        another_cell(frames, cell, random);
+                        another_cell(profile, frames, cell, random);
                     }
                 }
             }
             Damage::Steps(rate) => {
-                for byte in frames.iter_mut() {
+                for (index, byte) in frames.iter_mut().enumerate() {
                     for size in [1, 4] {
                         if random.between(0, MILLION) < rate {
-                            *byte = stepped(*byte, size, random.bit());
+                            let rule = rule(profile, index / 2);
+                            *byte = stepped(rule, *byte, size, random.bit());
                         }
                     }
                 }
@@ -93,51 +96,74 @@ impl Damage {
                 for _ in 0..count {
                     let length = random.between(1, most + 1);
                     let start = random.between(0, cells - length);
-                    garbage(&mut frames[2 * start..2 * (start + length)], random);
+                    garbage(profile, frames, start..start + length, random);
                 }
             }
             Damage::BurstInEachBuffer { cells: most } => {
-                // Buffers begin every six sub-frames, to within a hundred cells.
-                for start in (0..cells).step_by(SUPERFRAME_CELLS / 8) {
+                // Buffers begin every six sub-frames, or every twelve, to within a hundred cells.
+                let apart = SUPERFRAME_CELLS / profile.buffers();
+                for start in (0..cells).step_by(apart) {
                     let length = random.between(1, most + 1);
-                    let start = start + random.between(1_000, 6 * SUBFRAME_CELLS - 1_000 - length);
-                    garbage(&mut frames[2 * start..2 * (start + length)], random);
+                    let start = start + random.between(1_000, apart - 1_000 - length);
+                    garbage(profile, frames, start..start + length, random);
                 }
             }
             Damage::Garbage(ref subframes) => {
                 for subframe in subframes {
-                    garbage(&mut frames[FRAME_BYTES * subframe..][..FRAME_BYTES], random);
+                    let start = SUBFRAME_CELLS * subframe;
+                    garbage(profile, frames, start..start + SUBFRAME_CELLS, random);
                 }
             }
         }
     }
 }
 
-/// Another legal cell for a cell: X, Y or both are others.
-fn another_cell(frames: &mut [u8], cell: usize, random: &mut Random) {
-    let before = 16 * frames[2 * cell] + frames[2 * cell + 1];
-    let after = before.wrapping_add(random.between(1, 256) as u8);
-    frames[2 * cell] = after / 16;
-    frames[2 * cell + 1] = after % 16;
+/// The number of a cell's sub-frame, and the cell's number in it; cells are numbered from the line's start.
+fn subframe(cell: usize) -> (u32, usize) {
+    let number = cell / SUBFRAME_CELLS % SUBFRAMES as usize;
+    (number as u32, cell % SUBFRAME_CELLS)
 }
 
-fn garbage(cells: &mut [u8], random: &mut Random) {
-    cells.copy_from_slice(&random.cells(cells.len()));
+/// The profile by whose rule a cell is legal.
+fn rule(profile: Profile, cell: usize) -> Profile {
+    let (number, within) = subframe(cell);
+    frames::rule(profile, number, within)
+}
+
+/// Another legal cell for a cell: X, Y or both are others.
+fn another_cell(profile: Profile, frames: &mut [u8], cell: usize, random: &mut Random) {
+    let legal = legal_bytes(rule(profile, cell));
+    let place = |byte: u8| legal.iter().position(|&other| other == byte);
+    let [x, y] = [0, 1].map(|half| place(frames[2 * cell + half]).expect("a legal cell"));
+    let before = legal.len() * x + y;
+    let after = (before + random.between(1, legal.len().pow(2))) % legal.len().pow(2);
+    frames[2 * cell] = legal[after / legal.len()];
+    frames[2 * cell + 1] = legal[after % legal.len()];
+}
+
+/// Any legal cells in place of these.
+fn garbage(profile: Profile, frames: &mut [u8], cells: Range<usize>, random: &mut Random) {
+    for cell in cells {
+        frames[2 * cell..][..2].copy_from_slice(&random.payload(rule(profile, cell), 2));
+    }
 }
 
 /// I (size 4) or Q (size 1) of a cell's byte moved by one level; an end level has only one way to go.
-fn stepped(byte: u8, size: u8, up: bool) -> u8 {
+fn stepped(profile: Profile, byte: u8, size: u8, up: bool) -> u8 {
+    let mut levels = legal_bytes(profile).iter().map(|byte| byte % 4);
     let level = byte / size % 4;
-    match (level, up) {
-        (0, _) => byte + size,
-        (3, _) => byte - size,
-        (_, true) => byte + size,
-        (_, false) => byte - size,
+    let lowest = levels.clone().all(|other| level <= other);
+    let highest = levels.all(|other| other <= level);
+    if lowest || up && !highest {
+        byte + size
+    } else {
+        byte - size
     }
 }
 
 /// The wrong received bits of each word, as damage to words goes on.
 struct Loads {
+    profile: Profile,
     pairs: usize,
     limit: usize,
     /// By encoder and number of the word.
@@ -147,9 +173,10 @@ struct Loads {
 }
 
 impl Loads {
-    fn new(frames: &[u8], limit: usize) -> Self {
-        let pairs = SUPERFRAME_PAIRS * (frames.len() / SUPERFRAME_BYTES);
+    fn new(profile: Profile, frames: &[u8], limit: usize) -> Self {
+        let pairs = profile.pairs() * (frames.len() / SUPERFRAME_BYTES);
         Loads {
+            profile,
             pairs,
             limit,
             wrong: [0; 2].map(|_| vec![0; MARKS * pairs]),
@@ -159,6 +186,7 @@ impl Loads {
 
     fn any_word(&self, random: &mut Random) -> (usize, Name) {
         let rows = 2 * self.pairs;
+        let of_superframe = 2 * self.profile.pairs();
         let ends = [
             0,
             1,
@@ -171,8 +199,8 @@ impl Loads {
             41,
             42,
             43,
-            335,
-            336 % rows,
+            of_superframe - 1,
+            of_superframe % rows,
             rows - 2,
             rows - 1,
         ];
@@ -221,7 +249,7 @@ impl Loads {
         for word in holders {
             wrong[word] += 1;
         }
-        flip(frames, on_line(encoder, place));
+        flip(self.profile, frames, on_line(self.profile, encoder, place));
     }
 }
 

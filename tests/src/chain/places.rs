@@ -5,9 +5,8 @@ use std::sync::LazyLock;
 
 use crate::bits;
 use crate::cells;
-use crate::chain::SUPERFRAME_BUFFERS;
 use crate::frames::{is_overhead, SUBFRAMES, SUBFRAME_CELLS};
-use crate::interleaver::BUFFER_BYTES;
+use crate::profile::Profile;
 use crate::rows::{payload_bit, word_bit, Place, BIT_ROWS, FIRST_FULL_ROW, MARKS, PAYLOAD_BYTES};
 use crate::word::{self, BACK, FREE_BITS};
 
@@ -17,7 +16,7 @@ const BUFFER_ROWS: usize = 42;
 const ROW_BITS: usize = 2_048;
 pub const PAIR_BITS: usize = 2 * ROW_BITS;
 
-/// Bit `bit` (c0 to c7) of a cell, the cells being numbered from the line's start, overhead too.
+/// Bit `bit` (c0 on) of a cell's symbol, the cells being numbered from the line's start, overhead too.
 #[derive(Debug, PartialEq, Eq, Clone, Copy)]
 pub struct LineBit {
     pub cell: usize,
@@ -35,15 +34,16 @@ static PAYLOAD_CELLS: LazyLock<Vec<usize>> = LazyLock::new(|| {
 });
 
 /// Where an encoder's bit stands on the line.
-pub fn on_line(encoder: usize, place: Place) -> LineBit {
+pub fn on_line(profile: Profile, encoder: usize, place: Place) -> LineBit {
     let row = place.row as usize;
     let n = output_bit(encoder, row % BUFFER_ROWS, place);
     let buffer = row / BUFFER_ROWS;
-    let payload_cell = buffer % SUPERFRAME_BUFFERS * BUFFER_BYTES + n / 8;
-    let superframe = buffer / SUPERFRAME_BUFFERS;
+    let in_superframe = buffer % profile.buffers();
+    let payload_cell = in_superframe * profile.buffer_symbols() + n / profile.symbol_bits();
+    let superframe = buffer / profile.buffers();
     LineBit {
         cell: superframe * SUBFRAMES as usize * SUBFRAME_CELLS + PAYLOAD_CELLS[payload_cell],
-        bit: n % 8,
+        bit: n % profile.symbol_bits(),
     }
 }
 
@@ -69,15 +69,19 @@ fn cell(frames: &[u8], number: usize) -> [u8; 2] {
 }
 
 /// The bit that the cells give there.
-pub fn read(frames: &[u8], at: LineBit) -> bool {
-    bits::get(&[cells::byte(cell(frames, at.cell))], at.bit)
+pub fn read(profile: Profile, frames: &[u8], at: LineBit) -> bool {
+    cells::symbol(profile, cell(frames, at.cell)) & power(profile, at) != 0
 }
 
 /// Puts the cell that differs in this bit alone.
-pub fn flip(frames: &mut [u8], at: LineBit) {
-    let mut byte = [cells::byte(cell(frames, at.cell))];
-    bits::flip(&mut byte, at.bit);
-    frames[2 * at.cell..][..2].copy_from_slice(&cells::cell(byte[0]));
+pub fn flip(profile: Profile, frames: &mut [u8], at: LineBit) {
+    let symbol = cells::symbol(profile, cell(frames, at.cell)) ^ power(profile, at);
+    frames[2 * at.cell..][..2].copy_from_slice(&cells::cell(profile, symbol));
+}
+
+/// The symbol in which this bit alone is 1.
+fn power(profile: Profile, at: LineBit) -> u8 {
+    1 << (profile.symbol_bits() - 1 - at.bit)
 }
 
 /// The word of (R, r).
@@ -167,12 +171,13 @@ impl Rows {
     }
 
     /// The bits that the cells give for an encoder's first `pairs` pairs.
-    pub fn on_line(encoder: usize, pairs: usize, frames: &[u8]) -> Self {
+    pub fn on_line(profile: Profile, encoder: usize, pairs: usize, frames: &[u8]) -> Self {
         let mut rows = Rows(vec![false; PAIR_BITS * pairs]);
         for name in words(pairs) {
             for k in BACK..word::WORD_BITS {
                 let place = name.bit(k);
-                rows.0[index(place)] = read(frames, on_line(encoder, place));
+                let at = on_line(profile, encoder, place);
+                rows.0[index(place)] = read(profile, frames, at);
             }
         }
         rows

@@ -1,15 +1,15 @@
 //! From frames to payload: unframing, bits, taking apart, two lists of receiving calls.
 
 use crate::bits;
-use crate::cells::CELLS_BYTES;
 use crate::chain::calls::Calls;
 use crate::chain::places::{index, PAIR_BITS};
 use crate::chain::refused::{refused, refused_framing, refused_misfit, refused_pair, spoil};
 use crate::chain::sending::{numbered, order, List};
-use crate::chain::{difference, Difference, SUPERFRAME_BUFFERS, SUPERFRAME_BYTES};
-use crate::frames::{payload_bytes, FRAME_BYTES};
+use crate::chain::{difference, Difference, SUPERFRAME_BYTES};
+use crate::frames::{payload_bytes, rule, FRAME_BYTES};
 use crate::interleaver::{BUFFER_BYTES, PAIRS_BYTES};
 use crate::outcome::{Outcome, MISFIT};
+use crate::profile::Profile;
 use crate::random::Random;
 use crate::rows::{Place, HISTORY_BYTES, MARKS, PAIR_BYTES, PAYLOAD_BYTES};
 
@@ -36,9 +36,15 @@ impl Taken {
 }
 
 /// Takes whole super-frames off the line.
-pub fn take(calls: &Calls, frames: &[u8], overhead: &[u8], random: &mut Random) -> Taken {
-    let (differing, cells) = unframe(calls, frames, overhead, random);
-    let bits = cells_to_bits(calls, &cells, random);
+pub fn take(
+    calls: &Calls,
+    profile: Profile,
+    frames: &[u8],
+    overhead: &[u8],
+    random: &mut Random,
+) -> Taken {
+    let (differing, cells) = unframe(calls, profile, frames, overhead, random);
+    let bits = cells_to_bits(calls, profile, &cells, random);
     let pairs = deinterleave(calls, &bits, random);
     Taken {
         differing,
@@ -50,21 +56,26 @@ pub fn take(calls: &Calls, frames: &[u8], overhead: &[u8], random: &mut Random) 
 
 fn unframe(
     calls: &Calls,
+    profile: Profile,
     frames: &[u8],
     overhead: &[u8],
     random: &mut Random,
 ) -> (Vec<u32>, Vec<u8>) {
     let superframes = frames.len() / SUPERFRAME_BYTES;
-    let mut cells = random.bytes(superframes * SUPERFRAME_BUFFERS * CELLS_BYTES);
+    let mut cells = random.bytes(superframes * profile.buffers() * profile.cells_bytes());
     let mut differing = Vec::new();
     let mut rest = &mut cells[..];
     for (number, frame) in numbered(superframes).zip(frames.chunks(FRAME_BYTES)) {
         let place;
         (place, rest) = rest.split_at_mut(payload_bytes(number));
         if random.bit() {
-            refused_framing(calls.unframe, number, [frame, overhead], place, random);
+            let call = |number, [frame, overhead, payload]: [&mut [u8]; 3]| {
+                (calls.unframe)(profile, number, frame, overhead, payload)
+            };
+            let rule = |index| rule(profile, number, index / 2);
+            refused_framing(call, rule, number, [frame, overhead], place, random);
         }
-        let outcome = (calls.unframe)(number, frame, overhead, place);
+        let outcome = (calls.unframe)(profile, number, frame, overhead, place);
         assert_eq!(outcome, Outcome::accepted(outcome.value));
         differing.push(outcome.value);
     }
@@ -72,10 +83,11 @@ fn unframe(
     (differing, cells)
 }
 
-fn cells_to_bits(calls: &Calls, cells: &[u8], random: &mut Random) -> Vec<u8> {
-    let mut bits = random.bytes(cells.len() / 2);
-    for (cells, place) in cells.chunks(CELLS_BYTES).zip(bits.chunks_mut(BUFFER_BYTES)) {
-        let call = |[cells, bits]: [&mut [u8]; 2]| (calls.cells_to_bits)(cells, bits);
+fn cells_to_bits(calls: &Calls, profile: Profile, cells: &[u8], random: &mut Random) -> Vec<u8> {
+    let buffers = cells.chunks(profile.cells_bytes());
+    let mut bits = random.bytes(BUFFER_BYTES * buffers.len());
+    for (cells, place) in buffers.zip(bits.chunks_mut(BUFFER_BYTES)) {
+        let call = |[cells, bits]: [&mut [u8]; 2]| (calls.cells_to_bits)(profile, cells, bits);
         let mut copy = cells.to_vec();
         match random.between(0, 3) {
             0 => {
@@ -83,12 +95,12 @@ fn cells_to_bits(calls: &Calls, cells: &[u8], random: &mut Random) -> Vec<u8> {
                 refused_misfit(Outcome::refused(MISFIT), own, random, call);
             }
             1 => {
-                let expected = spoil(&mut copy, random);
+                let expected = spoil(&mut copy, |_| profile, random);
                 refused(expected, [&mut copy, &mut *place], call);
             }
             _ => {}
         }
-        let outcome = (calls.cells_to_bits)(cells, place);
+        let outcome = (calls.cells_to_bits)(profile, cells, place);
         assert_eq!(outcome, Outcome::accepted(0));
     }
     bits

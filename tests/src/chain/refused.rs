@@ -3,11 +3,10 @@
 
 use std::hint::black_box;
 
-use crate::cells::GRID;
-use crate::chain::calls::Framing;
 use crate::compare::misfit;
-use crate::frames::{own_overhead, SUBFRAMES};
+use crate::frames::{own_overhead, OVERHEAD, SUBFRAMES};
 use crate::outcome::{Outcome, COUNT_SPENT, MISFIT, NO_SUCH_FRAME};
+use crate::profile::Profile;
 use crate::random::Random;
 use crate::rows::SPENT;
 
@@ -72,9 +71,11 @@ pub fn refused_pair<const N: usize>(
     refused_misfit(expected, own, random, |lent| call(lent, number));
 }
 
-/// Framing or unframing: wrong lengths, a number above 47, or an illegal byte in list or cells.
+/// Framing or unframing: wrong lengths, a number above 47, or an illegal byte in list or cells. The rule
+/// is that of each byte of what is read beside the list.
 pub fn refused_framing(
-    call: Framing,
+    call: impl Fn(u32, [&mut [u8]; 3]) -> Outcome,
+    rule: impl Fn(usize) -> Profile,
     number: u32,
     [read, overhead]: [&[u8]; 2],
     written: &mut [u8],
@@ -85,9 +86,7 @@ pub fn refused_framing(
         0 => {
             let own = [&mut read, &mut overhead, written];
             let expected = Outcome::refused(MISFIT);
-            return refused_misfit(expected, own, random, |[read, overhead, written]| {
-                call(number, read, overhead, written)
-            });
+            return refused_misfit(expected, own, random, |lent| call(number, lent));
         }
         1 => {
             let above = [SUBFRAMES, SUBFRAMES | random.next_u64() as u32];
@@ -99,27 +98,21 @@ pub fn refused_framing(
         2 => {
             let own = own_overhead(number);
             let index = random.between(own.start, own.end);
-            overhead[index] = illegal(random);
+            overhead[index] = random.illegal(OVERHEAD);
             if random.bit() {
-                read[0] = illegal(random);
+                read[0] = random.illegal(rule(0));
             }
             (Outcome::off_grid(index), number)
         }
-        _ => (spoil(&mut read, random), number),
+        _ => (spoil(&mut read, rule, random), number),
     };
     let lent = [&mut read, &mut overhead, written];
-    refused(expected, lent, |[read, overhead, written]| {
-        call(number, read, overhead, written)
-    });
+    refused(expected, lent, |lent| call(number, lent));
 }
 
-/// Puts an illegal byte anywhere, and says how the call that reads it is refused.
-pub fn spoil(cells: &mut [u8], random: &mut Random) -> Outcome {
+/// Puts a byte anywhere that is illegal there, and says how the call that reads it is refused.
+pub fn spoil(cells: &mut [u8], rule: impl Fn(usize) -> Profile, random: &mut Random) -> Outcome {
     let index = random.between(0, cells.len());
-    cells[index] = illegal(random);
+    cells[index] = random.illegal(rule(index));
     Outcome::off_grid(index)
-}
-
-fn illegal(random: &mut Random) -> u8 {
-    random.between(usize::from(GRID), 256) as u8
 }

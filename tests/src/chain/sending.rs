@@ -1,12 +1,12 @@
 //! From payload to frames: two lists of encoding calls, interleaving, cells, framing.
 
-use crate::cells::CELLS_BYTES;
 use crate::chain::calls::Calls;
 use crate::chain::refused::{refused_framing, refused_misfit, refused_pair};
-use crate::chain::{difference, Difference, SUPERFRAME_BUFFERS, SUPERFRAME_BYTES};
+use crate::chain::{difference, Difference, SUPERFRAME_BYTES};
 use crate::frames::{payload_bytes, FRAME_BYTES, SUBFRAMES};
 use crate::interleaver::{BUFFER_BYTES, PAIRS_BYTES};
 use crate::outcome::{Outcome, MISFIT};
+use crate::profile::Profile;
 use crate::random::Random;
 use crate::rows::{HISTORY_BYTES, PAIR_BYTES, PAYLOAD_BYTES};
 
@@ -41,7 +41,13 @@ impl Sent {
 
 /// Sends both payloads, whole super-frames of equal number. What is lent for writing, the refused calls
 /// and the order of the two lists' calls are random.
-pub fn send(calls: &Calls, payloads: [&[u8]; 2], overhead: &[u8], random: &mut Random) -> Sent {
+pub fn send(
+    calls: &Calls,
+    profile: Profile,
+    payloads: [&[u8]; 2],
+    overhead: &[u8],
+    random: &mut Random,
+) -> Sent {
     let pairs = payloads.map(|payload| payload.len() / PAYLOAD_BYTES);
     let mut coded = pairs.map(|pairs| random.bytes(PAIR_BYTES * pairs));
     let mut histories = [Vec::new(), Vec::new()];
@@ -61,8 +67,8 @@ pub fn send(calls: &Calls, payloads: [&[u8]; 2], overhead: &[u8], random: &mut R
         list.refused_encoding(calls, &payload, &mut place, random);
     }
     let bits = interleave(calls, &coded, random);
-    let cells = bits_to_cells(calls, &bits, random);
-    let frames = frame(calls, &cells, overhead, random);
+    let cells = bits_to_cells(calls, profile, &bits, random);
+    let frames = frame(calls, profile, &cells, overhead, random);
     Sent {
         coded,
         histories,
@@ -143,33 +149,43 @@ fn interleave(calls: &Calls, coded: &[Vec<u8>; 2], random: &mut Random) -> Vec<u
     bits
 }
 
-fn bits_to_cells(calls: &Calls, bits: &[u8], random: &mut Random) -> Vec<u8> {
-    let mut cells = random.bytes(2 * bits.len());
-    for (bits, place) in bits.chunks(BUFFER_BYTES).zip(cells.chunks_mut(CELLS_BYTES)) {
+fn bits_to_cells(calls: &Calls, profile: Profile, bits: &[u8], random: &mut Random) -> Vec<u8> {
+    let buffers = bits.chunks(BUFFER_BYTES);
+    let mut cells = random.bytes(profile.cells_bytes() * buffers.len());
+    for (bits, place) in buffers.zip(cells.chunks_mut(profile.cells_bytes())) {
         if random.bit() {
             let own = [&mut bits.to_vec(), &mut *place];
             let expected = Outcome::refused(MISFIT);
             refused_misfit(expected, own, random, |[bits, cells]| {
-                (calls.bits_to_cells)(bits, cells)
+                (calls.bits_to_cells)(profile, bits, cells)
             });
         }
-        let outcome = (calls.bits_to_cells)(bits, place);
+        let outcome = (calls.bits_to_cells)(profile, bits, place);
         assert_eq!(outcome, Outcome::accepted(0));
     }
     cells
 }
 
-fn frame(calls: &Calls, cells: &[u8], overhead: &[u8], random: &mut Random) -> Vec<u8> {
-    let superframes = cells.len() / (SUPERFRAME_BUFFERS * CELLS_BYTES);
+fn frame(
+    calls: &Calls,
+    profile: Profile,
+    cells: &[u8],
+    overhead: &[u8],
+    random: &mut Random,
+) -> Vec<u8> {
+    let superframes = cells.len() / (profile.buffers() * profile.cells_bytes());
     let mut frames = random.bytes(SUPERFRAME_BYTES * superframes);
     let mut rest = cells;
     for (number, place) in numbered(superframes).zip(frames.chunks_mut(FRAME_BYTES)) {
         let own;
         (own, rest) = rest.split_at(payload_bytes(number));
         if random.bit() {
-            refused_framing(calls.frame, number, [own, overhead], place, random);
+            let call = |number, [payload, overhead, frame]: [&mut [u8]; 3]| {
+                (calls.frame)(profile, number, payload, overhead, frame)
+            };
+            refused_framing(call, |_| profile, number, [own, overhead], place, random);
         }
-        let outcome = (calls.frame)(number, own, overhead, place);
+        let outcome = (calls.frame)(profile, number, own, overhead, place);
         assert_eq!(outcome, Outcome::accepted(0));
     }
     assert!(rest.is_empty());

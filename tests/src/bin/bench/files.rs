@@ -4,16 +4,19 @@ use std::fs;
 use std::path::{Path, PathBuf};
 use std::process::Command;
 
-use ofec_tests::cells::{bits_to_cells, CELLS_BYTES};
+use ofec_tests::cells::bits_to_cells;
 use ofec_tests::chain::sending::numbered;
-use ofec_tests::chain::{SUPERFRAME_BUFFERS, SUPERFRAME_PAIRS};
 use ofec_tests::frames::{frame, payload_bytes, FRAME_BYTES, OVERHEAD_BYTES};
 use ofec_tests::interleaver::{interleave, BUFFER_BYTES, PAIRS_BYTES};
 use ofec_tests::line_file::Header;
+use ofec_tests::profile::Profile;
 use ofec_tests::random::Random;
-use ofec_tests::rows::{encode_pair, PAIR_BYTES, PAYLOAD_BYTES};
+use ofec_tests::rows::{encode_pair, PAIR_BYTES};
 
 use crate::rows::encode_all;
+
+/// The profile of these line files.
+const PROFILE: Profile = Profile::Qam16;
 
 /// A program of target/bin, if it is built.
 pub fn program(name: &str) -> Option<PathBuf> {
@@ -39,7 +42,7 @@ impl Files {
         };
         fs::create_dir_all(&files.folder).expect("a temporary folder");
         for name in ["payload0", "payload1"] {
-            let payload = random.bytes(superframes * SUPERFRAME_PAIRS * PAYLOAD_BYTES);
+            let payload = random.bytes(superframes * PROFILE.payload_bytes());
             fs::write(files.path(name), payload).expect("a payload file");
         }
         fs::write(files.path("overhead"), random.cells(OVERHEAD_BYTES)).expect("the overhead list");
@@ -77,16 +80,16 @@ impl Files {
     pub fn make_apart(&self) {
         let overhead = self.read("overhead");
         let [coded0, coded1] = ["payload0", "payload1"].map(|name| {
-            let mut coded = vec![0; self.superframes * SUPERFRAME_PAIRS * PAIR_BYTES];
+            let mut coded = vec![0; self.superframes * PROFILE.pairs() * PAIR_BYTES];
             encode_all(encode_pair, &self.read(name), &mut coded);
             coded
         });
-        let mut cells = vec![0; self.superframes * SUPERFRAME_BUFFERS * CELLS_BYTES];
+        let mut cells = vec![0; self.superframes * PROFILE.buffers() * PROFILE.cells_bytes()];
         let pairs = coded0.chunks(PAIRS_BYTES).zip(coded1.chunks(PAIRS_BYTES));
-        for ((pairs0, pairs1), place) in pairs.zip(cells.chunks_mut(CELLS_BYTES)) {
+        for ((pairs0, pairs1), place) in pairs.zip(cells.chunks_mut(PROFILE.cells_bytes())) {
             let mut bits = [0; BUFFER_BYTES];
             interleave(pairs0, pairs1, &mut bits);
-            bits_to_cells(&bits, place);
+            bits_to_cells(PROFILE, &bits, place);
         }
         let mut line = Header::written(self.superframes as u32).to_bytes().to_vec();
         line.extend(&overhead);
@@ -95,7 +98,7 @@ impl Files {
             let payload;
             (payload, rest) = rest.split_at(payload_bytes(number));
             let mut place = [0; FRAME_BYTES];
-            frame(number, payload, &overhead, &mut place);
+            frame(PROFILE, number, payload, &overhead, &mut place);
             line.extend(place);
         }
         fs::write(self.path("line-apart"), line).expect("a line file");

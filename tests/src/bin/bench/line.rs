@@ -1,11 +1,13 @@
 //! The calls of the line, each by itself.
 
 use ofec_tests::capi;
-use ofec_tests::cells::{self, CELLS_BYTES};
-use ofec_tests::chain::calls::{Framing, LIBRARY};
+use ofec_tests::cells;
+use ofec_tests::chain::calls::Framing;
 use ofec_tests::frames::{self, payload_bytes, FRAME_BYTES, OVERHEAD_BYTES, SUBFRAMES};
 use ofec_tests::interleaver::{self, BUFFER_BYTES, PAIRS_BYTES};
+use ofec_tests::library;
 use ofec_tests::outcome::Outcome;
+use ofec_tests::profile::{Profile, PROFILES};
 use ofec_tests::random::Random;
 
 use crate::for_speed::interleaver::{by_rows, packed};
@@ -31,41 +33,95 @@ pub fn run(random: &mut Random) {
         |[pairs0, pairs1]| done(same_structure::deinterleave(&bits, pairs0, pairs1)),
     );
 
-    three(
-        "bits to cells, a buffer",
-        vec![0; CELLS_BYTES],
-        |cells| done(capi::bits_to_cells(&bits, cells)),
-        |cells| done(cells::bits_to_cells(&bits, cells)),
-        |cells| done(same_structure::bits_to_cells(&bits, cells)),
-    );
+    for profile in PROFILES {
+        let stages = Stages::new(profile, random);
+        three(
+            &stages.name("bits to cells, a buffer"),
+            vec![0; profile.cells_bytes()],
+            |cells| done(library::bits_to_cells(profile, &stages.bits, cells)),
+            |cells| done(cells::bits_to_cells(profile, &stages.bits, cells)),
+            |cells| done(same_structure::bits_to_cells(profile, &stages.bits, cells)),
+        );
+        three(
+            &stages.name("cells to bits, a buffer"),
+            vec![0; BUFFER_BYTES],
+            |bits| done(library::cells_to_bits(profile, &stages.cells, bits)),
+            |bits| done(cells::cells_to_bits(profile, &stages.cells, bits)),
+            |bits| done(same_structure::cells_to_bits(profile, &stages.cells, bits)),
+        );
+        three(
+            &stages.name("frame a super-frame"),
+            vec![0; SUBFRAMES as usize * FRAME_BYTES],
+            |frames| stages.frame_all(library::frame, frames),
+            |frames| stages.frame_all(frames::frame, frames),
+            |frames| stages.frame_all(same_structure::frame, frames),
+        );
+        three(
+            &stages.name("unframe a super-frame"),
+            (vec![0; stages.payload.len()], 0),
+            |out| stages.unframe_all(library::unframe, out),
+            |out| stages.unframe_all(frames::unframe, out),
+            |out| stages.unframe_all(same_structure::unframe, out),
+        );
+    }
+}
 
-    let cells = random.cells(CELLS_BYTES);
-    three(
-        "cells to bits, a buffer",
-        vec![0; BUFFER_BYTES],
-        |bits| done(capi::cells_to_bits(&cells, bits)),
-        |bits| done(cells::cells_to_bits(&cells, bits)),
-        |bits| done(same_structure::cells_to_bits(&cells, bits)),
-    );
+/// What the stages from bits to frames read, of one profile.
+struct Stages {
+    profile: Profile,
+    bits: Vec<u8>,
+    cells: Vec<u8>,
+    /// The payload cells and the overhead list of a super-frame.
+    payload: Vec<u8>,
+    overhead: Vec<u8>,
+    /// The frames of a super-frame with other cells.
+    received: Vec<u8>,
+}
 
-    let overhead = random.cells(OVERHEAD_BYTES);
-    let payload = random.cells(8 * CELLS_BYTES);
-    three(
-        "frame a super-frame",
-        vec![0; SUBFRAMES as usize * FRAME_BYTES],
-        |frames| frame_all(LIBRARY.frame, &payload, &overhead, frames),
-        |frames| frame_all(frames::frame, &payload, &overhead, frames),
-        |frames| frame_all(same_structure::frame, &payload, &overhead, frames),
-    );
+impl Stages {
+    fn new(profile: Profile, random: &mut Random) -> Self {
+        Stages {
+            profile,
+            bits: random.bytes(BUFFER_BYTES),
+            cells: random.payload(profile, profile.cells_bytes()),
+            payload: random.payload(profile, profile.buffers() * profile.cells_bytes()),
+            overhead: random.cells(OVERHEAD_BYTES),
+            received: (0..SUBFRAMES)
+                .flat_map(|number| random.frame(profile, number))
+                .collect(),
+        }
+    }
 
-    let received = random.cells(SUBFRAMES as usize * FRAME_BYTES);
-    three(
-        "unframe a super-frame",
-        (vec![0; 8 * CELLS_BYTES], 0),
-        |out| unframe_all(LIBRARY.unframe, &received, &overhead, out),
-        |out| unframe_all(frames::unframe, &received, &overhead, out),
-        |out| unframe_all(same_structure::unframe, &received, &overhead, out),
-    );
+    /// The name of a row.
+    fn name(&self, work: &str) -> String {
+        match self.profile {
+            Profile::Qam16 => work.to_string(),
+            Profile::Qpsk => format!("{work}, QPSK"),
+        }
+    }
+
+    fn frame_all(&self, frame: Framing, frames: &mut [u8]) {
+        let mut payload = &self.payload[..];
+        for (number, place) in (0..).zip(frames.chunks_mut(FRAME_BYTES)) {
+            let own;
+            (own, payload) = payload.split_at(payload_bytes(number));
+            done(frame(self.profile, number, own, &self.overhead, place));
+        }
+    }
+
+    /// The payload of a super-frame, and how many of its overhead cells differ.
+    fn unframe_all(&self, unframe: Framing, out: &mut (Vec<u8>, u32)) {
+        let (payload, differing) = out;
+        let mut payload = &mut payload[..];
+        *differing = 0;
+        for (number, frame) in (0..).zip(self.received.chunks(FRAME_BYTES)) {
+            let own;
+            (own, payload) = payload.split_at_mut(payload_bytes(number));
+            let answer = unframe(self.profile, number, frame, &self.overhead, own);
+            assert_eq!(answer.refusal, 0);
+            *differing += answer.value;
+        }
+    }
 }
 
 /// The calls for which there is Rust code written for speed.
@@ -97,49 +153,45 @@ pub fn beside_speed(random: &mut Random) {
         ],
     );
 
-    for_speed(
-        "bits to cells, a buffer",
-        vec![0; CELLS_BYTES],
-        [
-            &|cells| done(capi::bits_to_cells(bits, cells)),
-            &|cells| done(same_structure::bits_to_cells(bits, cells)),
-            &|cells| done(fast::cells::bits_to_cells(bits, cells)),
-        ],
-    );
-
-    let cells = random.cells(CELLS_BYTES);
-    for_speed(
-        "cells to bits, a buffer",
-        vec![0; BUFFER_BYTES],
-        [
-            &|bits| done(capi::cells_to_bits(&cells, bits)),
-            &|bits| done(same_structure::cells_to_bits(&cells, bits)),
-            &|bits| done(fast::cells::cells_to_bits(&cells, bits)),
-        ],
-    );
-
-    let overhead = random.cells(OVERHEAD_BYTES);
-    let payload = random.cells(8 * CELLS_BYTES);
-    for_speed(
-        "frame a super-frame",
-        vec![0; SUBFRAMES as usize * FRAME_BYTES],
-        [
-            &|frames| frame_all(LIBRARY.frame, &payload, &overhead, frames),
-            &|frames| frame_all(same_structure::frame, &payload, &overhead, frames),
-            &|frames| frame_all(fast::frames::frame, &payload, &overhead, frames),
-        ],
-    );
-
-    let received = random.cells(SUBFRAMES as usize * FRAME_BYTES);
-    for_speed(
-        "unframe a super-frame",
-        (vec![0; 8 * CELLS_BYTES], 0),
-        [
-            &|out| unframe_all(LIBRARY.unframe, &received, &overhead, out),
-            &|out| unframe_all(same_structure::unframe, &received, &overhead, out),
-            &|out| unframe_all(fast::frames::unframe, &received, &overhead, out),
-        ],
-    );
+    for profile in PROFILES {
+        let stages = Stages::new(profile, random);
+        for_speed(
+            &stages.name("bits to cells, a buffer"),
+            vec![0; profile.cells_bytes()],
+            [
+                &|cells| done(library::bits_to_cells(profile, &stages.bits, cells)),
+                &|cells| done(same_structure::bits_to_cells(profile, &stages.bits, cells)),
+                &|cells| done(fast::cells::bits_to_cells(profile, &stages.bits, cells)),
+            ],
+        );
+        for_speed(
+            &stages.name("cells to bits, a buffer"),
+            vec![0; BUFFER_BYTES],
+            [
+                &|bits| done(library::cells_to_bits(profile, &stages.cells, bits)),
+                &|bits| done(same_structure::cells_to_bits(profile, &stages.cells, bits)),
+                &|bits| done(fast::cells::cells_to_bits(profile, &stages.cells, bits)),
+            ],
+        );
+        for_speed(
+            &stages.name("frame a super-frame"),
+            vec![0; SUBFRAMES as usize * FRAME_BYTES],
+            [
+                &|frames| stages.frame_all(library::frame, frames),
+                &|frames| stages.frame_all(same_structure::frame, frames),
+                &|frames| stages.frame_all(fast::frames::frame, frames),
+            ],
+        );
+        for_speed(
+            &stages.name("unframe a super-frame"),
+            (vec![0; stages.payload.len()], 0),
+            [
+                &|out| stages.unframe_all(library::unframe, out),
+                &|out| stages.unframe_all(same_structure::unframe, out),
+                &|out| stages.unframe_all(fast::frames::unframe, out),
+            ],
+        );
+    }
 }
 
 fn sized<const N: usize>(bytes: &[u8]) -> &[u8; N] {
@@ -152,26 +204,4 @@ fn sized_mut<const N: usize>(bytes: &mut [u8]) -> &mut [u8; N] {
 
 fn done(answer: impl Into<Outcome>) {
     assert_eq!(answer.into().refusal, 0);
-}
-
-fn frame_all(frame: Framing, mut payload: &[u8], overhead: &[u8], frames: &mut [u8]) {
-    for (number, place) in (0..).zip(frames.chunks_mut(FRAME_BYTES)) {
-        let own;
-        (own, payload) = payload.split_at(payload_bytes(number));
-        done(frame(number, own, overhead, place));
-    }
-}
-
-/// The payload of a super-frame, and how many of its overhead cells differ.
-fn unframe_all(unframe: Framing, frames: &[u8], overhead: &[u8], out: &mut (Vec<u8>, u32)) {
-    let (payload, differing) = out;
-    let mut payload = &mut payload[..];
-    *differing = 0;
-    for (number, frame) in (0..).zip(frames.chunks(FRAME_BYTES)) {
-        let own;
-        (own, payload) = payload.split_at_mut(payload_bytes(number));
-        let answer = unframe(number, frame, overhead, own);
-        assert_eq!(answer.refusal, 0);
-        *differing += answer.value;
-    }
 }

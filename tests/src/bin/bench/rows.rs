@@ -9,7 +9,7 @@ use ofec_tests::word::LOST;
 use crate::same_structure;
 use crate::table::three;
 
-/// Pairs of a super-frame: 21 of each encoder in each of eight buffers.
+/// Pairs of a super-frame of 16-QAM: 21 of each encoder in each of eight buffers.
 pub const PAIRS: usize = 336;
 
 /// Gives a line about the damage.

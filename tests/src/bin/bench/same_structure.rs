@@ -10,14 +10,18 @@
 #![allow(
     clippy::needless_range_loop,
     clippy::manual_memcpy,
-    clippy::assign_op_pattern
+    clippy::assign_op_pattern,
+    clippy::manual_div_ceil,
+    clippy::manual_is_multiple_of
 )]
 
 use ofec_tests::outcome::{Outcome, COUNT_SPENT, MISFIT, NO_SUCH_FRAME};
+use ofec_tests::profile::Profile;
 
 mod block_core;
 mod cells_core;
 mod frame_core;
+mod mapping_core;
 mod pair_core;
 mod pair_words_core;
 mod word;
@@ -93,24 +97,36 @@ pub fn deinterleave(bits: &[u8], pairs0: &mut [u8], pairs1: &mut [u8]) -> Outcom
 }
 
 #[inline(never)]
-pub fn bits_to_cells(bits: &[u8], cells: &mut [u8]) -> Outcome {
-    let (Ok(bits), Ok(cells)) = (bits.try_into(), cells.try_into()) else {
+pub fn bits_to_cells(profile: Profile, bits: &[u8], cells: &mut [u8]) -> Outcome {
+    let Ok(bits) = bits.try_into() else {
         return Outcome::refused(MISFIT);
     };
-    cells_core::map(bits, cells);
+    if cells.len() != profile.cells_bytes() {
+        return Outcome::refused(MISFIT);
+    }
+    match profile {
+        Profile::Qam16 => mapping_core::qam16::map(bits, cells.try_into().expect("measured")),
+        Profile::Qpsk => mapping_core::qpsk::map(bits, cells.try_into().expect("measured")),
+    }
     Outcome::accepted(0)
 }
 
 #[inline(never)]
-pub fn cells_to_bits(cells: &[u8], bits: &mut [u8]) -> Outcome {
-    let (Ok(whole), Ok(bits)) = (cells.try_into(), bits.try_into()) else {
+pub fn cells_to_bits(profile: Profile, cells: &[u8], bits: &mut [u8]) -> Outcome {
+    let Ok(bits) = bits.try_into() else {
         return Outcome::refused(MISFIT);
     };
-    let at = cells_core::first_illegal(cells);
+    if cells.len() != profile.cells_bytes() {
+        return Outcome::refused(MISFIT);
+    }
+    let at = cells_core::first_illegal_payload(profile, cells);
     if at < cells.len() {
         return Outcome::off_grid(at);
     }
-    cells_core::demap(whole, bits);
+    match profile {
+        Profile::Qam16 => mapping_core::qam16::demap(cells.try_into().expect("measured"), bits),
+        Profile::Qpsk => mapping_core::qpsk::demap(cells.try_into().expect("measured"), bits),
+    }
     Outcome::accepted(0)
 }
 
@@ -137,12 +153,18 @@ fn judge(number: u32, overhead: &[u8], frame: &[u8], payload: &[u8]) -> Outcome 
 }
 
 #[inline(never)]
-pub fn frame(number: u32, payload: &[u8], overhead: &[u8], frame: &mut [u8]) -> Outcome {
+pub fn frame(
+    profile: Profile,
+    number: u32,
+    payload: &[u8],
+    overhead: &[u8],
+    frame: &mut [u8],
+) -> Outcome {
     let judged = judge(number, overhead, frame, payload);
     if judged.refusal != 0 {
         return judged;
     }
-    let to = cells_core::first_illegal(payload);
+    let to = cells_core::first_illegal_payload(profile, payload);
     if to < payload.len() {
         return Outcome::off_grid(to);
     }
@@ -152,12 +174,18 @@ pub fn frame(number: u32, payload: &[u8], overhead: &[u8], frame: &mut [u8]) -> 
 }
 
 #[inline(never)]
-pub fn unframe(number: u32, frame: &[u8], overhead: &[u8], payload: &mut [u8]) -> Outcome {
+pub fn unframe(
+    profile: Profile,
+    number: u32,
+    frame: &[u8],
+    overhead: &[u8],
+    payload: &mut [u8],
+) -> Outcome {
     let judged = judge(number, overhead, frame, payload);
     if judged.refusal != 0 {
         return judged;
     }
-    let to = cells_core::first_illegal(frame);
+    let to = frame_core::first_illegal(profile, number, frame);
     if to < frame.len() {
         return Outcome::off_grid(to);
     }

@@ -1,6 +1,7 @@
 //! Random arguments, legal and illegal.
 
-use ofec_tests::cells::GRID;
+use ofec_tests::frames::OVERHEAD;
+use ofec_tests::profile::Profile;
 use ofec_tests::random::Random;
 
 /// One time in so many.
@@ -38,19 +39,24 @@ pub fn to_write(length: usize, random: &mut Random) -> Vec<u8> {
     lent(bytes, random)
 }
 
-/// Puts illegal bytes among cells, now and then.
-pub fn spoil_rarely(cells: &mut [u8], random: &mut Random) {
+/// Puts illegal bytes among cells, now and then; the rule of each byte is given.
+pub fn spoil_rarely(cells: &mut [u8], rule: impl Fn(usize) -> Profile, random: &mut Random) {
     if rarely(4, random) {
         for _ in 0..random.between(1, 4) {
             let index = random.between(0, cells.len());
-            cells[index] = random.between(usize::from(GRID), 256) as u8;
+            cells[index] = random.illegal(rule(index));
         }
     }
 }
 
-/// Cells to be read, now and then with illegal bytes or of another length.
-pub fn cells(length: usize, random: &mut Random) -> Vec<u8> {
-    let mut cells = random.cells(length);
-    spoil_rarely(&mut cells, random);
+/// Payload cells to be read, now and then with illegal bytes or of another length.
+pub fn payload(profile: Profile, length: usize, random: &mut Random) -> Vec<u8> {
+    let mut cells = random.payload(profile, length);
+    spoil_rarely(&mut cells, |_| profile, random);
     lent(cells, random)
+}
+
+/// The same for overhead cells.
+pub fn overhead(length: usize, random: &mut Random) -> Vec<u8> {
+    payload(OVERHEAD, length, random)
 }

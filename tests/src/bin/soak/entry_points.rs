@@ -1,6 +1,7 @@
 //! The entry points of `include/ofec.h`.
 
 use ofec_tests::outcome::{BAD_HEADER, COUNT_SPENT, MISFIT, NO_SUCH_FRAME, OFF_GRID};
+use ofec_tests::profile::Profile::{Qam16, Qpsk};
 
 use crate::round::Round;
 use crate::{file, line, pairs};
@@ -28,7 +29,7 @@ const fn entry_point(
     }
 }
 
-pub const ENTRY_POINTS: [EntryPoint; 12] = [
+pub const ENTRY_POINTS: [EntryPoint; 16] = [
     entry_point("ofec_repair_word", &[MISFIT], pairs::repair_word),
     entry_point(
         "ofec_encode_pair",
@@ -42,21 +43,35 @@ pub const ENTRY_POINTS: [EntryPoint; 12] = [
     ),
     entry_point("ofec_interleave", &[MISFIT], line::interleave),
     entry_point("ofec_deinterleave", &[MISFIT], line::deinterleave),
-    entry_point("ofec_bits_to_cells", &[MISFIT], line::bits_to_cells),
-    entry_point(
-        "ofec_cells_to_bits",
-        &[MISFIT, OFF_GRID],
-        line::cells_to_bits,
-    ),
-    entry_point(
-        "ofec_frame",
-        &[MISFIT, NO_SUCH_FRAME, OFF_GRID],
-        line::frame,
-    ),
+    entry_point("ofec_bits_to_cells", &[MISFIT], |round| {
+        line::bits_to_cells(Qam16, round)
+    }),
+    entry_point("ofec_cells_to_bits", &[MISFIT, OFF_GRID], |round| {
+        line::cells_to_bits(Qam16, round)
+    }),
+    entry_point("ofec_frame", &[MISFIT, NO_SUCH_FRAME, OFF_GRID], |round| {
+        line::frame(Qam16, round)
+    }),
     entry_point(
         "ofec_unframe",
         &[MISFIT, NO_SUCH_FRAME, OFF_GRID],
-        line::unframe,
+        |round| line::unframe(Qam16, round),
+    ),
+    entry_point("ofec_bits_to_cells_qpsk", &[MISFIT], |round| {
+        line::bits_to_cells(Qpsk, round)
+    }),
+    entry_point("ofec_cells_to_bits_qpsk", &[MISFIT, OFF_GRID], |round| {
+        line::cells_to_bits(Qpsk, round)
+    }),
+    entry_point(
+        "ofec_frame_qpsk",
+        &[MISFIT, NO_SUCH_FRAME, OFF_GRID],
+        |round| line::frame(Qpsk, round),
+    ),
+    entry_point(
+        "ofec_unframe_qpsk",
+        &[MISFIT, NO_SUCH_FRAME, OFF_GRID],
+        |round| line::unframe(Qpsk, round),
     ),
     entry_point("ofec_open_line", &[MISFIT, BAD_HEADER], file::open_line),
     entry_point(

@@ -1,13 +1,15 @@
 //! Interleaver, cells and super-frame.
 
 use ofec_tests::capi;
-use ofec_tests::cells::{self, CELLS_BYTES};
+use ofec_tests::cells;
 use ofec_tests::compare::agreed;
-use ofec_tests::frames::{self, payload_bytes, FRAME_BYTES, OVERHEAD_BYTES, SUBFRAMES};
+use ofec_tests::frames::{self, payload_bytes, rule, FRAME_BYTES, OVERHEAD_BYTES, SUBFRAMES};
 use ofec_tests::interleaver::{self, BUFFER_BYTES, PAIRS_BYTES};
+use ofec_tests::library;
+use ofec_tests::profile::Profile;
 use ofec_tests::random::Random;
 
-use crate::draw::{any_number, cells, lent, rarely, spoil_rarely, to_write};
+use crate::draw::{any_number, lent, overhead, payload, rarely, spoil_rarely, to_write};
 use crate::entry_points::Verdict;
 use crate::round::Round;
 
@@ -33,51 +35,51 @@ pub fn deinterleave(Round { random, .. }: &mut Round) -> Verdict {
     Ok(outcome.refusal)
 }
 
-pub fn bits_to_cells(Round { random, .. }: &mut Round) -> Verdict {
+pub fn bits_to_cells(profile: Profile, Round { random, .. }: &mut Round) -> Verdict {
     let bits = lent(random.bytes(BUFFER_BYTES), random);
-    let cells = to_write(CELLS_BYTES, random);
+    let cells = to_write(profile.cells_bytes(), random);
     let (outcome, _) = agreed(
         [&bits, &cells],
-        |[bits, cells]| capi::bits_to_cells(bits, cells),
-        |[bits, cells]| cells::bits_to_cells(bits, cells),
+        |[bits, cells]| library::bits_to_cells(profile, bits, cells),
+        |[bits, cells]| cells::bits_to_cells(profile, bits, cells),
     )?;
     Ok(outcome.refusal)
 }
 
-pub fn cells_to_bits(Round { random, .. }: &mut Round) -> Verdict {
-    let cells = cells(CELLS_BYTES, random);
+pub fn cells_to_bits(profile: Profile, Round { random, .. }: &mut Round) -> Verdict {
+    let cells = payload(profile, profile.cells_bytes(), random);
     let bits = to_write(BUFFER_BYTES, random);
     let (outcome, _) = agreed(
         [&cells, &bits],
-        |[cells, bits]| capi::cells_to_bits(cells, bits),
-        |[cells, bits]| cells::cells_to_bits(cells, bits),
+        |[cells, bits]| library::cells_to_bits(profile, cells, bits),
+        |[cells, bits]| cells::cells_to_bits(profile, cells, bits),
     )?;
     Ok(outcome.refusal)
 }
 
-pub fn frame(Round { random, .. }: &mut Round) -> Verdict {
+pub fn frame(profile: Profile, Round { random, .. }: &mut Round) -> Verdict {
     let number = any_subframe(random);
-    let payload = cells(payload_length(number, random), random);
-    let overhead = cells(OVERHEAD_BYTES, random);
+    let payload = payload(profile, payload_length(number, random), random);
+    let overhead = overhead(OVERHEAD_BYTES, random);
     let frame = to_write(FRAME_BYTES, random);
     let (outcome, _) = agreed(
         [&payload, &overhead, &frame],
-        |[payload, overhead, frame]| capi::frame(number, payload, overhead, frame),
-        |[payload, overhead, frame]| frames::frame(number, payload, overhead, frame),
+        |[payload, overhead, frame]| library::frame(profile, number, payload, overhead, frame),
+        |[payload, overhead, frame]| frames::frame(profile, number, payload, overhead, frame),
     )
     .map_err(|difference| format!("number {number}, {difference}"))?;
     Ok(outcome.refusal)
 }
 
-pub fn unframe(Round { random, .. }: &mut Round) -> Verdict {
+pub fn unframe(profile: Profile, Round { random, .. }: &mut Round) -> Verdict {
     let number = any_subframe(random);
-    let overhead = cells(OVERHEAD_BYTES, random);
-    let frame = framed_with_errors(number, &overhead, random);
+    let overhead = overhead(OVERHEAD_BYTES, random);
+    let frame = framed_with_errors(profile, number, &overhead, random);
     let payload = to_write(payload_length(number, random), random);
     let (outcome, _) = agreed(
         [&frame, &overhead, &payload],
-        |[frame, overhead, payload]| capi::unframe(number, frame, overhead, payload),
-        |[frame, overhead, payload]| frames::unframe(number, frame, overhead, payload),
+        |[frame, overhead, payload]| library::unframe(profile, number, frame, overhead, payload),
+        |[frame, overhead, payload]| frames::unframe(profile, number, frame, overhead, payload),
     )
     .map_err(|difference| format!("number {number}, {difference}"))?;
     Ok(outcome.refusal)
@@ -103,18 +105,24 @@ fn payload_length(number: u32, random: &mut Random) -> usize {
 }
 
 /// Any cells, or a frame with this list in which some cells are others, now and then illegal ones.
-fn framed_with_errors(number: u32, overhead: &[u8], random: &mut Random) -> Vec<u8> {
-    let mut frame = random.cells(FRAME_BYTES);
+fn framed_with_errors(
+    profile: Profile,
+    number: u32,
+    overhead: &[u8],
+    random: &mut Random,
+) -> Vec<u8> {
+    let rule = |index| rule(profile, number, index / 2);
+    let mut frame = random.frame(profile, number);
     if !rarely(3, random) {
         let length = payload_length(number, random);
-        let payload = random.cells(length);
+        let payload = random.payload(profile, length);
         // Refused where the list has illegal cells: then the frame is any cells.
-        frames::frame(number, &payload, overhead, &mut frame);
+        frames::frame(profile, number, &payload, overhead, &mut frame);
         for _ in 0..random.between(0, 300) {
             let index = random.between(0, FRAME_BYTES);
-            frame[index] = random.cells(1)[0];
+            frame[index] = random.legal(rule(index));
         }
     }
-    spoil_rarely(&mut frame, random);
+    spoil_rarely(&mut frame, rule, random);
     lent(frame, random)
 }

@@ -37,12 +37,12 @@ impl Tally {
 
 impl fmt::Display for Tally {
     fn fmt(&self, f: &mut fmt::Formatter<'_>) -> fmt::Result {
-        write!(f, "{:20}{:>10}", "", "done")?;
+        write!(f, "{:24}{:>10}", "", "done")?;
         for refusal in 1..ANSWERS {
             write!(f, "{:>10}", format!("refusal {refusal}"))?;
         }
         for (entry_point, counts) in ENTRY_POINTS.iter().zip(&self.counts) {
-            write!(f, "\n{:20}", entry_point.name)?;
+            write!(f, "\n{:24}", entry_point.name)?;
             for (refusal, count) in (0..).zip(counts) {
                 if refusal == 0 || entry_point.refusals.contains(&refusal) {
                     write!(f, "{count:>10}")?;

@@ -1,8 +1,10 @@
 //! Sub-frames by runs: what stands before the first whole group in two copies, then a pilot and 31 payload cells at a time.
 
+use ofec_tests::frames::OVERHEAD;
 use ofec_tests::outcome::{Outcome, MISFIT, NO_SUCH_FRAME};
+use ofec_tests::profile::Profile;
 
-use super::cells::first_illegal;
+use super::cells::{any_flaw, first_illegal, flaw};
 
 /// Bytes of a sub-frame below the edge, and of its payload before the first whole group.
 fn edge(number: u32) -> (usize, usize) {
@@ -30,19 +32,54 @@ fn own(number: u32, overhead: &[u8], frame: usize, payload: usize) -> Result<&[u
         return Err(Outcome::refused(MISFIT));
     }
     let own = &overhead[start..][..length];
-    match first_illegal(own) {
+    match first_illegal(OVERHEAD, own) {
         Some(index) => Err(Outcome::off_grid(start + index)),
         None => Ok(own),
     }
 }
 
+/// The index of a frame's first byte that is illegal for its cell, searched only where there is one: overhead and payload apart, if the
+/// profile has a rule for each.
+#[inline(always)]
+fn first_illegal_of_frame(profile: Profile, number: u32, frame: &[u8]) -> Option<usize> {
+    if profile == OVERHEAD {
+        return first_illegal(OVERHEAD, frame);
+    }
+    let (low, rest) = edge(number);
+    let (head, groups) = frame.split_at(low + rest);
+    let (head, payload) = head.split_at(low);
+    // The flaws of each place of a group, which is two bytes of a pilot and then payload.
+    let (mut pilots, mut flaws) = (0, [0; 62]);
+    for group in groups.as_chunks::<64>().0 {
+        pilots |= group[0] | group[1];
+        for place in 0..62 {
+            flaws[place] |= flaw(Profile::Qpsk, group[place + 2]);
+        }
+    }
+    let any = pilots >= 16 || flaws != [0; 62];
+    if !any && !any_flaw(OVERHEAD, head) && !any_flaw(profile, payload) {
+        return None;
+    }
+    (0..frame.len()).find(|&index| {
+        let in_overhead = index < low || index >= low + rest && index % 64 < 2;
+        let rule = if in_overhead { OVERHEAD } else { profile };
+        flaw(rule, frame[index]) != 0
+    })
+}
+
 #[inline(never)]
-pub fn frame(number: u32, payload: &[u8], overhead: &[u8], frame: &mut [u8]) -> Outcome {
+pub fn frame(
+    profile: Profile,
+    number: u32,
+    payload: &[u8],
+    overhead: &[u8],
+    frame: &mut [u8],
+) -> Outcome {
     let own = match own(number, overhead, frame.len(), payload.len()) {
         Ok(own) => own,
         Err(refused) => return refused,
     };
-    if let Some(index) = first_illegal(payload) {
+    if let Some(index) = first_illegal(profile, payload) {
         return Outcome::off_grid(index);
     }
     let (low, rest) = edge(number);
@@ -59,12 +96,18 @@ pub fn frame(number: u32, payload: &[u8], overhead: &[u8], frame: &mut [u8]) -> 
 }
 
 #[inline(never)]
-pub fn unframe(number: u32, frame: &[u8], overhead: &[u8], payload: &mut [u8]) -> Outcome {
+pub fn unframe(
+    profile: Profile,
+    number: u32,
+    frame: &[u8],
+    overhead: &[u8],
+    payload: &mut [u8],
+) -> Outcome {
     let own = match own(number, overhead, frame.len(), payload.len()) {
         Ok(own) => own,
         Err(refused) => return refused,
     };
-    if let Some(index) = first_illegal(frame) {
+    if let Some(index) = first_illegal_of_frame(profile, number, frame) {
         return Outcome::off_grid(index);
     }
     let (low, rest) = edge(number);
