@@ -31,8 +31,7 @@
 #define OFEC_HISTORY_BYTES 5120             /* the ten coded pairs before, oldest first */
 #define OFEC_PAIRS_BYTES 10752              /* a buffer's coded pairs of one encoder */
 #define OFEC_BITS_BYTES 21504               /* a buffer's bits */
-#define OFEC_CELLS_BYTES 43008              /* a buffer's cells in 16-QAM, */
-#define OFEC_QPSK_CELLS_BYTES 86016         /* and in QPSK */
+#define OFEC_CELLS_BYTES 43008              /* a buffer's cells in 16-QAM; in QPSK they are twice as many */
 #define OFEC_FRAME_BYTES 7424               /* a sub-frame */
 #define OFEC_FRAME_PAYLOAD_BYTES 7172       /* the payload cells of a sub-frame from 1 to 47, */
 #define OFEC_FIRST_FRAME_PAYLOAD_BYTES 6980 /* and those of sub-frame 0 */
@@ -43,14 +42,12 @@
 #define OFEC_SUPERFRAME_BYTES 356352        /* a super-frame in a line file */
 
 /* Counts. */
-#define OFEC_BUFFER_PAIRS 21           /* pairs of one encoder in a buffer */
-#define OFEC_SUPERFRAME_BUFFERS 8      /* buffers in a super-frame of 16-QAM, */
-#define OFEC_QPSK_SUPERFRAME_BUFFERS 4 /* and of QPSK */
-#define OFEC_SUPERFRAME_PAIRS 168      /* pairs of each encoder in a super-frame of 16-QAM, */
-#define OFEC_QPSK_SUPERFRAME_PAIRS 84  /* and of QPSK */
-#define OFEC_SUBFRAMES 48              /* sub-frames in a super-frame */
-#define OFEC_MOST_SUPERFRAMES 64       /* the most super-frames that a line file can have */
-#define OFEC_LOST 3                    /* the mark of a lost word; a lower mark is the number of flips */
+#define OFEC_BUFFER_PAIRS 21      /* pairs of one encoder in a buffer */
+#define OFEC_SUPERFRAME_BUFFERS 8 /* buffers in a super-frame of 16-QAM; in QPSK half as many */
+#define OFEC_SUPERFRAME_PAIRS 168 /* pairs of each encoder in a super-frame of 16-QAM; in QPSK half as many */
+#define OFEC_SUBFRAMES 48         /* sub-frames in a super-frame */
+#define OFEC_MOST_SUPERFRAMES 64  /* the most super-frames that a line file can have */
+#define OFEC_LOST 3               /* the mark of a lost word; a lower mark is the number of flips */
 
 /* Why a call is refused, in the order of the tests. */
 enum ofec_refusal {

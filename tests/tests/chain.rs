@@ -239,7 +239,8 @@ fn damage_within_the_limit() {
             Run::new(profile, 11_500, 1, &[Damage::Errors(300)]),
             Run::new(profile, 11_600, 1, &[Damage::Steps(500)]),
             Run::new(profile, 11_700, 1, &[burst]).other_list(),
-            Run::new(profile, 11_800, 1, &[three, Damage::Overhead(100)]).first([1, 80]),
+            Run::new(profile, 11_800, 1, &[three, Damage::Overhead(100)])
+                .first([1, profile.pairs().min(100)]),
         ];
         let all = make(&runs, WITHIN_SUPERFRAMES);
         for (run, ran) in runs.iter().zip(&all) {

@@ -285,6 +285,7 @@ fn the_word_behind_the_names() {
     let [p, q, v, l] = NAMES;
     for names in [
         &["qpsk"][..],
+        &[p, q, v],
         &[p, q, "qpsk"],
         &["qpsk", p, q, v, l],
         &[p, q, v, "qpsk", l],

@@ -78,9 +78,9 @@ fn worst(cells: &[u8]) -> u8
 fn search_flaw(cells: &[u8]) -> usize
     ensures { λ r. ⌜ r ≡ firstIllegal (payloadRule qpsk) (now (cells .entry)) ⌝ }
 {
-    for i in 0..cells.len() {
-        if flaw(cells[i]) != 0 {
-            return i;
+    for j in 0..cells.len() {
+        if flaw(cells[j]) != 0 {
+            return j;
         }
     }
     cells.len()

@@ -13,10 +13,10 @@ use Rattle.cells_core.proofs.legal.search_flaw.Tie as tie
 ruleset kit = (needs, seek, flawed)
 
 abbrev Inv-loop : tie.InvT-loop
-Inv-loop cells i₀ i-end i = Seeking 0 (payloadRule qpsk) cells i
+Inv-loop cells j₀ j-end j = Seeking 0 (payloadRule qpsk) cells j
 
 abbrev μ-loop : tie.MeasureT-loop
-μ-loop cells i₀ i-end i = length cells - i
+μ-loop cells j₀ j-end j = length cells - j
 
 pub search-flaw-spec : {M : Type 1} → statement M
 unfolding firstIllegal
@@ -29,7 +29,7 @@ search-flaw-spec =
     (λ c. search kit)  -- shared-slice-read-flaw
     (λ c κs. search kit)  -- flaw-requires
     (λ c. search kit)  -- returns
-    (λ c. search kit)  -- add-i
+    (λ c. search kit)  -- add-j
     (λ c. search kit)  -- loop-less
     (λ c. search kit)  -- loop-again
     (λ c. search kit))  -- returns-2
