@@ -42,7 +42,7 @@ install:
 	$(INSTALL) -m 644 include/ofec.h "$(DESTDIR)$(INCLUDEDIR)/ofec.h"
 	$(INSTALL) -m 644 target/staticlib/libcapi.a "$(DESTDIR)$(LIBDIR)/libcapi.a"
 	@printf '%s\n' 'prefix=$(PREFIX)' 'includedir=$(INCLUDEDIR:$(PREFIX)/%=$${prefix}/%)' \
-	  'libdir=$(LIBDIR:$(PREFIX)/%=$${prefix}/%)' '' 'Name: ofec' 'Description: Verified reference for the oFEC optical line (16-QAM)' \
+	  'libdir=$(LIBDIR:$(PREFIX)/%=$${prefix}/%)' '' 'Name: ofec' 'Description: Verified reference for the oFEC optical line (16-QAM and QPSK)' \
 	  'Version: $(VERSION)' 'Cflags: -I$${includedir}' 'Libs: -L$${libdir} -lcapi' > "$(DESTDIR)$(LIBDIR)/pkgconfig/ofec.pc"
 	$(INSTALL) -m 755 $(PROGRAMS:%=target/bin/%) $(wildcard bin/ofec) "$(DESTDIR)$(BINDIR)"
 
