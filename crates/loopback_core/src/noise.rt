@@ -80,7 +80,12 @@ fn strike_one(profile: Profile, u: usize, line: &mut [u8])
     requires { ⌜ (u < 160) × (length (now line) ≡ 356352) ⌝ }
     ensures { λ _. ⌜ now (line .exit) ≡ strikeOne profile u (now (line .entry)) ⌝ }
 {
-    replace(profile, line, carrier(struck(profile, u / 10, u % 2, u / 2 % 5)), u * 7);
+    replace(
+        profile,
+        line,
+        carrier(struck(profile, u / 10, u % 2, u / 2 % 5)),
+        u * 7,
+    );
 }
 
 // Strikes those of super-frame q.

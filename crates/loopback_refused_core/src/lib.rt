@@ -32,7 +32,7 @@ fn encode_spent(history: &mut [u8]) -> Answer
     pair::encode_pair(&payload, &mut coded, history, SPENT)
 }
 
-// Both, for each pair of a super-frame.
+// Both, for each of 168 pairs.
 pub fn refuse_encodings(history: &mut [u8], counts: &mut [u32])
     requires { ⌜ (length (now history) ≡ 5120) × (length (now counts) ≡ 41) ⌝ }
     ensures { λ _. ⌜ (now (history .exit) ≡ now (history .entry)) × (now (counts .exit) ≡ eachStep 168 (λ k. refusedTwo) (now (counts .entry))) ⌝ }

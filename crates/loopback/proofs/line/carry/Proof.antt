@@ -11,8 +11,8 @@ carry-spec =
     (tie.spec
     (λ c κs. search needs)  -- overhead-requires
     (λ c κs. search needs)  -- refuse-framing-requires
-    (λ c. search needs)  -- slice-aggregate-carry-both
-    (λ c κs. search needs)  -- carry-both-requires
+    (λ c. search needs)  -- slice-aggregate-carry-all
+    (λ c κs. search needs)  -- carry-all-requires
     (λ c. search needs)  -- same-length
     (λ c. search needs)  -- same-length-2
     (λ c. (search (needs, off-list), search (needs, counted-list))))  -- returns
