@@ -22,13 +22,12 @@ ghost use Rattle.loopback_core.specs.Tally.{answered};
 ghost use Rattle.loopback.specs.Line.{damagedLine, pairsOff, lineIn, allOff, allCounted};
 ghost use Rattle.loopback.specs.Sent.{sentPart};
 
-// An overhead list that is drawn.
-fn overhead() -> [u8; 12288]
-    ensures { λ r. ⌜ (r ≡ drawnList) × Legal overheadRule r ⌝ }
+// Draws an overhead list.
+fn draw_list(list: &mut [u8])
+    requires { ⌜ length (now list) ≡ 12288 ⌝ }
+    ensures { λ _. ⌜ (now (list .exit) ≡ drawnList) × Legal overheadRule (now (list .exit)) ⌝ }
 {
-    let mut list = [0u8; 12288];
-    random::fill(&mut list, 4294967295, 16);
-    list
+    random::fill(list, 4294967295, 16);
 }
 
 // Room for the coded pairs of an encoder in a super-frame: all of it in 16-QAM, half of it in QPSK.
@@ -113,7 +112,8 @@ pub fn carry(profile: Profile, encoder: u32, got: &mut [u8], counts: &mut [u32])
     requires { ⌜ (encoder < 2) × (length (now got) ≡ 172032) × (length (now counts) ≡ 41) ⌝ }
     ensures { λ _. ⌜ (now (got .exit) ≡ allOff profile drawnList encoder) × (now (counts .exit) ≡ allCounted profile drawnList (answered (Refused (OffGrid 0)) (answered (Refused NoSuchFrame) (now (counts .entry))))) ⌝ }
 {
-    let list = overhead();
+    let mut list = [0u8; 12288];
+    draw_list(&mut list);
     refuse_framing(profile, counts);
     carry_all(profile, encoder, &list, got, counts);
 }
