@@ -6,14 +6,12 @@ use mathlib.Core.Logic.{_≢_}
 use Prim.Native.Nat.{ℕ, _+_, _-_, _*_, _/_, _%_, _<_, _≤_}
 use native.Mathlib.Omega.{arith}
 use borrow.Rule.Slice.PartMut.{putMid}
-use lib.Dec.{lit<}
 use lib.ListN.{length}
 use mir.Syntax.{w64}
 use mir.Val.{Fits}
 use Rattle.profile.specs.declared.Profile.{Profile}
 use Rattle.profile.specs.declared.Profile.the-variants.{Qam16, Qpsk}
 use Rattle.bits.specs.Filling.{Blocks, blocks-none, blocks-next, blocks-done}
-use Rattle.bits.specs.Lists.{tabulate}
 use Rattle.bits.specs.Parts.{part, byteOfEach, endToEnd}
 use Rattle.bits.specs.PartLaws.{part-length, part-long, endToEnd-length, endToEnd-at, each-block}
 use Rattle.calls.specs.declared.Answer.{Answer}
@@ -32,7 +30,6 @@ use Rattle.superframe_spec.specs.Apart.{takenPairs, differingAll, lineRule, tak
 use Rattle.superframe_spec.specs.ApartLaws.{apart-done}
 use Rattle.loopback_core.specs.Noise.{superframesOf, damaged}
 use Rattle.loopback_core.specs.NoiseLaws.{buffers-most, damaged-legal}
-use Rattle.loopback_core.specs.Steps.{eachStep}
 use Rattle.loopback_core.specs.StepLaws.{Stepping, step-none, step-more, step-done}
 use Rattle.loopback_core.specs.Tally.{tallySum}
 use Rattle.loopback.specs.Sent.{sentIn, sentPart}

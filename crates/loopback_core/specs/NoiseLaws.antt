@@ -15,7 +15,7 @@ use mir.Syntax.{w64}
 use mir.Val.{Fits}
 use Rattle.profile.specs.declared.Profile.{Profile}
 use Rattle.profile.specs.declared.Profile.the-variants.{Qam16, Qpsk}
-use Rattle.bits.specs.Tests.{every, each}
+use Rattle.bits.specs.Tests.{each}
 use Rattle.bits.specs.TestLaws.{either}
 use Rattle.cells_spec.specs.Modulation.{Modulation, cellsPerBuffer}
 use Rattle.cells_spec.specs.Profiles.{qam16, qpsk, modulation}
@@ -93,7 +93,7 @@ pub strike-one : (f : Profile) (u : ℕ) (d d′ : List ℕ) (x cell : ℕ) → 
 unfolding strikeOne
 strike-one f u d d′ x cell ex ec is = is ∙ ap (λ c. replaced f c (u * 7) d) (ec ∙ ap carrier ex)
 
--- Those of super-frame q, n of them.
+-- A super-frame has at most eight buffers.
 pub buffers-most : (f : Profile) → modulation f .bits ≤ 8
 unfolding modulation qam16 qpsk
 buffers-most Qam16 = omega arith
@@ -107,19 +107,19 @@ unfolding superframesOf modulation qam16 qpsk
 strike-inside Qam16 q v lq lv = omega arith
 strike-inside Qpsk q v lq lv = omega arith
 
-module _ (f : Profile) (q n : ℕ) (lq : q < superframesOf (modulation f)) (en : n ≡ modulation f .bits * 10) where
-  module _ (v : ℕ) (lv : v < n) where
-    pub strike-below : q * n + v < 160
-    strike-below = rw en (strike-inside f q v lq (omega arith))
+-- The code has n for the number of cells that are struck in a super-frame.
+module _ (f : Profile) (q n v : ℕ) (lq : q < superframesOf (modulation f)) (en : n ≡ modulation f .bits * 10) (lv : v < n) where
+  pub strike-below : q * n + v < 160
+  strike-below = rw en (strike-inside f q v lq (omega arith))
 
-    pub strike-fits : Fits w64 (q * n + v)
-    strike-fits = record { fits = omega (arith, strike-below) }
+  pub strike-fits : Fits w64 (q * n + v)
+  strike-fits = record { fits = omega (arith, strike-below) }
 
-    pub strike-start-fits : Fits w64 (q * n)
-    strike-start-fits = record { fits = omega (arith, strike-below) }
+  pub strike-start-fits : Fits w64 (q * n)
+  strike-start-fits = record { fits = omega (arith, strike-below) }
 
-    pub strike-next-fits : Fits w64 (v + 1)
-    strike-next-fits = record { fits = omega (arith, buffers-most f) }
+  pub strike-next-fits : Fits w64 (v + 1)
+  strike-next-fits = record { fits = omega (arith, buffers-most f) }
 
 pub strike-more : (f : Profile) (q n : ℕ) (before d : List ℕ) (v : ℕ) (d′ : List ℕ) → n ≡ modulation f .bits * 10
     → Stepping (strike f q) n before v d
