@@ -5,17 +5,21 @@ use mathlib.Core.List.{List}
 use mathlib.Core.Logic.{_≢_}
 use Prim.Native.Nat.{ℕ, _+_, _-_, _*_, _/_, _%_, _<_, _≤_}
 use native.Mathlib.Omega.{arith}
-use lib.Dec.{lit<}
+use borrow.Rule.Slice.PartMut.{putMid}
 use lib.ListN.{length}
-use Rattle.bits.specs.Lists.{tabulate}
+use mir.Syntax.{w64}
+use mir.Val.{Fits}
+use Rattle.profile.specs.declared.Profile.{Profile}
+use Rattle.profile.specs.declared.Profile.the-variants.{Qam16, Qpsk}
+use Rattle.bits.specs.Filling.{Blocks, blocks-none, blocks-next, blocks-done}
 use Rattle.bits.specs.Parts.{part, byteOfEach, endToEnd}
-use Rattle.bits.specs.PartLaws.{part-length, endToEnd-length, endToEnd-at, each-block}
+use Rattle.bits.specs.PartLaws.{part-length, part-long, endToEnd-length, endToEnd-at, each-block}
 use Rattle.calls.specs.declared.Answer.{Answer}
 use Rattle.calls.specs.Answers.{valueOr}
 use Rattle.interleaver_spec.specs.Calls.{Deinterleaved, afterDeinterleave}
 use Rattle.cells_spec.specs.Modulation.{Modulation, cellsPerBuffer}
-use Rattle.cells_spec.specs.Profiles.{qam16}
-use Rattle.cells_spec.specs.ModulationLaws.{buffer-whole}
+use Rattle.cells_spec.specs.Profiles.{qam16, qpsk, modulation}
+use Rattle.cells_spec.specs.ModulationLaws.{width-pos, buffer-whole}
 use Rattle.cells_spec.specs.Cells.{overheadRule, Legal}
 use Rattle.cells_spec.specs.CellLaws.{none-illegal}
 use Rattle.frame_spec.specs.Frames.{payloadCells, payloadStart, ownOverhead, frameRule}
@@ -24,12 +28,12 @@ use Rattle.superframe_spec.specs.Superframe.{payloadOfPairs, subFrame, framesEn
 use Rattle.superframe_spec.specs.SuperframeLaws.{part-legal, payload-legal, payload-within}
 use Rattle.superframe_spec.specs.Apart.{takenPairs, differingAll, lineRule, takenApart, takeApart}
 use Rattle.superframe_spec.specs.ApartLaws.{apart-done}
-use Rattle.loopback_core.specs.Noise.{damaged}
-use Rattle.loopback_core.specs.NoiseLaws.{damaged-legal}
-use Rattle.loopback_core.specs.Steps.{eachStep}
+use Rattle.loopback_core.specs.Noise.{superframesOf, damaged}
+use Rattle.loopback_core.specs.NoiseLaws.{buffers-most, damaged-legal}
+use Rattle.loopback_core.specs.StepLaws.{Stepping, step-none, step-more, step-done}
 use Rattle.loopback_core.specs.Tally.{tallySum}
-use Rattle.loopback.specs.Sent.{sentIn}
-use Rattle.loopback.specs.Line.{damagedLine, pairsOff, Taken, lineIn, allOff, lineCounted}
+use Rattle.loopback.specs.Sent.{sentIn, sentPart}
+use Rattle.loopback.specs.Line.{damagedLine, pairsOff, Taken, lineIn, allOff, lineCounted, allCounted}
 
 -- ---- legal
 
@@ -66,30 +70,76 @@ module _ (p : Modulation) (pairs0 pairs1 list : List ℕ) (ll : length list ≡ 
       sub-frame-long : (s : ℕ) → length (subFrame (payloadOfPairs p pairs0 pairs1) list s) ≡ 7424
       sub-frame-long s = framed-length s _ _
 
+-- ---- the sizes of super-frames
+
+run-end : (f : Profile) (q : ℕ) → q < superframesOf (modulation f)
+    → q * (modulation f .bits * 10752) + modulation f .bits * 10752 ≤ 172032
+unfolding superframesOf modulation qam16 qpsk
+run-end Qam16 q l = omega arith
+run-end Qpsk q l = omega arith
+
+run-whole : (f : Profile) → superframesOf (modulation f) * (modulation f .bits * 10752) ≡ 172032
+unfolding superframesOf modulation qam16 qpsk
+run-whole Qam16 = refl
+run-whole Qpsk = refl
+
+-- The code has n for the bytes of an encoder's pairs in a super-frame.
+module _ (f : Profile) (q n : ℕ) (lq : q < superframesOf (modulation f)) (en : n ≡ modulation f .bits * 10752) where
+  part-end : q * n + n ≤ 172032
+  part-end = rw en (run-end f q lq)
+
+  pub part-fits : Fits w64 (q * n)
+  part-fits = record { fits = omega (arith, part-end) }
+
+  pub part-end-fits : Fits w64 (q * n + n)
+  part-end-fits = record { fits = omega (arith, part-end) }
+
+  pub part-inside : (m : ℕ) → m ≡ 172032 → q * n + n ≤ m
+  part-inside m em = omega (arith, part-end)
+
+  pub part-whole : (coded : List ℕ) (a b : ℕ) → length coded ≡ 172032 → a ≡ q * n → b ≡ a + n → n ≡ length (part a (b - a) coded)
+  part-whole coded a b lc ea eb = sym (part-long a b n coded eb (omega (arith, part-end)))
+
+pub pairs-most : (f : Profile) (n m : ℕ) → n ≡ modulation f .bits * 10752 → m ≡ 86016 → n ≤ m
+pairs-most f n m en em = omega (arith, buffers-most f)
+
+pub ruleset part-sizes = (part-fits, part-end-fits, part-inside, part-whole)
+
+-- What an encoder sends in super-frame q.
+pub sent-part : (f : Profile) (e q n a b : ℕ) (coded d : List ℕ) → n ≡ modulation f .bits * 10752 → a ≡ q * n → b ≡ a + n
+    → coded ≡ endToEnd 2 86016 (sentIn e) → d ≡ part a (b - a) coded
+    → d ≡ sentPart f e q
+unfolding sentPart
+sent-part f e q n a b coded d en ea eb ec ed =
+    let size : b - a ≡ n = omega arith in
+    ed ∙ ap₂ (λ x y. part x y coded) (ea ∙ ap (λ x. q * x) en) (size ∙ en)
+    ∙ ap (λ s. part (q * (modulation f .bits * 10752)) (modulation f .bits * 10752) s) ec
+
 -- ---- one super-frame
 
-pub line-made : (list : List ℕ) (q : ℕ) (coded0 coded1 a b : List ℕ) → a ≡ superframe qam16 coded0 coded1 list → b ≡ damaged q a
-    → b ≡ damagedLine list q coded0 coded1
+pub line-made : (f : Profile) (list : List ℕ) (q : ℕ) (coded0 coded1 a b : List ℕ) → a ≡ superframe (modulation f) coded0 coded1 list
+    → b ≡ damaged f q a
+    → b ≡ damagedLine f list q coded0 coded1
 unfolding damagedLine
-line-made list q coded0 coded1 a b e f = f ∙ ap (damaged q) e
+line-made f list q coded0 coded1 a b e d = d ∙ ap (damaged f q) e
 
 -- What comes off the damaged frames of coded pairs, which a file leaves as they were.
-module _ (q : ℕ) (coded0 coded1 list made frames got0 got1 x y : List ℕ) (r : Answer) (is : made ≡ damagedLine list q coded0 coded1) (kept : frames ≡ made)
-    (ll : length list ≡ 12288) (hl : Legal overheadRule list) (t : afterDeinterleave r x y ≡ takeApart qam16 frames list got0 got1) where
+module _ (f : Profile) (q : ℕ) (coded0 coded1 list made frames got0 got1 x y : List ℕ) (r : Answer) (is : made ≡ damagedLine f list q coded0 coded1) (kept : frames ≡ made)
+    (ll : length list ≡ 12288) (hl : Legal overheadRule list) (t : afterDeinterleave r x y ≡ takeApart (modulation f) frames list got0 got1) where
   abbrev line : List ℕ
-  line = damagedLine list q coded0 coded1
+  line = damagedLine f list q coded0 coded1
 
-  legal : Legal (lineRule qam16) line
+  legal : Legal (lineRule (modulation f)) line
   unfolding damagedLine
-  legal = damaged-legal q (superframe qam16 coded0 coded1 list) (superframe-legal qam16 coded0 coded1 list ll hl)
+  legal = damaged-legal f q (superframe (modulation f) coded0 coded1 list) (superframe-legal (modulation f) coded0 coded1 list ll hl)
 
-  carried : afterDeinterleave r x y ≡ takenApart qam16 line list
+  carried : afterDeinterleave r x y ≡ takenApart (modulation f) line list
   carried =
-      t ∙ ap (λ l. takeApart qam16 l list got0 got1) (kept ∙ is)
-      ∙ sym (apart-done qam16 line list got0 got1 _ refl (none-illegal overheadRule list hl) _ refl (none-illegal (lineRule qam16) line legal) _ refl)
+      t ∙ ap (λ l. takeApart (modulation f) l list got0 got1) (kept ∙ is)
+      ∙ sym (apart-done (modulation f) line list got0 got1 _ refl (none-illegal overheadRule list hl) _ refl (none-illegal (lineRule (modulation f)) line legal) _ refl)
 
   -- The differing cells and both encoders' pairs.
-  pub line-carried : (v : ℕ) → v ≡ valueOr r 0 → Taken (damagedLine list q coded0 coded1) list v x y
+  pub line-carried : (v : ℕ) → v ≡ valueOr r 0 → Taken f (damagedLine f list q coded0 coded1) list v x y
   unfolding pairsOff
   line-carried v e =
       record {
@@ -99,51 +149,111 @@ module _ (q : ℕ) (coded0 coded1 list made frames got0 got1 x y : List ℕ) (r 
       }
 
 -- The same of what encoder e and the other one send, in the order of the encoders.
-module _ (list : List ℕ) (q e : ℕ) (own other : List ℕ) (eo : own ≡ sentIn e q) (et : other ≡ sentIn (1 - e) q) where
+module _ (f : Profile) (list : List ℕ) (q e : ℕ) (own other : List ℕ) (eo : own ≡ sentPart f e q) (et : other ≡ sentPart f (1 - e) q) where
   module _ (h : e ≡ 0) where
-    first-line : damagedLine list q own other ≡ lineIn list q
+    first-line : damagedLine f list q own other ≡ lineIn f list q
     unfolding lineIn
-    first-line = let one : 1 - e ≡ 1 = omega arith in ap₂ (damagedLine list q) (eo ∙ ap (λ n. sentIn n q) h) (et ∙ ap (λ n. sentIn n q) one)
+    first-line = let one : 1 - e ≡ 1 = omega arith in ap₂ (damagedLine f list q) (eo ∙ ap (λ n. sentPart f n q) h) (et ∙ ap (λ n. sentPart f n q) one)
 
-    pub first-taken : {v : ℕ} {x y : List ℕ} → Taken (damagedLine list q own other) list v x y
-        → (v ≡ differingAll (lineIn list q) list) × (x ≡ pairsOff (lineIn list q) e)
-    first-taken t = (t .differing ∙ ap (λ l. differingAll l list) first-line, t .off0 ∙ ap₂ pairsOff first-line (sym h))
+    pub first-taken : {v : ℕ} {x y : List ℕ} → Taken f (damagedLine f list q own other) list v x y
+        → (v ≡ differingAll (lineIn f list q) list) × (x ≡ pairsOff f (lineIn f list q) e)
+    first-taken t = (t .differing ∙ ap (λ l. differingAll l list) first-line, t .off0 ∙ ap₂ (pairsOff f) first-line (sym h))
 
   module _ (l : e < 2) (h : e ≢ 0) where
-    second-line : damagedLine list q other own ≡ lineIn list q
+    second-line : damagedLine f list q other own ≡ lineIn f list q
     unfolding lineIn
     second-line =
         let one : e ≡ 1 = omega arith in
         let zero : 1 - e ≡ 0 = omega arith in
-        ap₂ (damagedLine list q) (et ∙ ap (λ n. sentIn n q) zero) (eo ∙ ap (λ n. sentIn n q) one)
+        ap₂ (damagedLine f list q) (et ∙ ap (λ n. sentPart f n q) zero) (eo ∙ ap (λ n. sentPart f n q) one)
 
-    pub second-taken : {v : ℕ} {x y : List ℕ} → Taken (damagedLine list q other own) list v x y
-        → (v ≡ differingAll (lineIn list q) list) × (y ≡ pairsOff (lineIn list q) e)
+    pub second-taken : {v : ℕ} {x y : List ℕ} → Taken f (damagedLine f list q other own) list v x y
+        → (v ≡ differingAll (lineIn f list q) list) × (y ≡ pairsOff f (lineIn f list q) e)
     second-taken t =
         let one : 1 ≡ e = omega arith in
-        (t .differing ∙ ap (λ l. differingAll l list) second-line, t .off1 ∙ ap₂ pairsOff second-line one)
+        (t .differing ∙ ap (λ l. differingAll l list) second-line, t .off1 ∙ ap₂ (pairsOff f) second-line one)
 
 -- ---- super-frames end to end
 
-pub off-block : (list : List ℕ) (q e : ℕ) (ys : List ℕ) → ys ≡ pairsOff (lineIn list q) e
-    → ys ≡ tabulate 86016 (λ i. byteOfEach 86016 (λ s. pairsOff (lineIn list s) e) (q * 86016 + i))
-unfolding pairsOff takenPairs qam16
-off-block list q e ys is = each-block (λ s. pairsOff (lineIn list s) e) 86016 q ys (lit< tt) (ap length is ∙ endToEnd-length 8 10752 _) is
+pairs-long : (f : Profile) (list : List ℕ) (q e : ℕ) → length (pairsOff f (lineIn f list q) e) ≡ modulation f .bits * 10752
+unfolding pairsOff takenPairs
+pairs-long f list q e = endToEnd-length (modulation f .bits) 10752 _
 
-pub line-counted : (list : List ℕ) (q n : ℕ) (d d′ : List ℕ) → n ≡ differingAll (lineIn list q) list → d′ ≡ tallySum 7 n d
-    → d′ ≡ lineCounted list q d
-unfolding lineCounted
-line-counted list q n d d′ en is = is ∙ ap (λ m. tallySum 7 m d) en
+-- The invariant of the loop over the n super-frames, each with c bytes of an encoder's pairs: the first q are carried.
+pub record Carrying (f : Profile) (list : List ℕ) (e : ℕ) (before : List ℕ) (n c q : ℕ) (got counts : List ℕ) : Type 0 where
+  pub number : n ≡ superframesOf (modulation f)
+  pub size : c ≡ modulation f .bits * 10752
+  pub blocks : Blocks (byteOfEach (modulation f .bits * 10752) (λ s. pairsOff f (lineIn f list s) e)) (modulation f .bits * 10752) (superframesOf (modulation f)) q got
+  pub counting : Stepping (lineCounted f list) (superframesOf (modulation f)) before q counts
 
-pub off-whole : (list : List ℕ) (e : ℕ) (d : List ℕ) → d ≡ tabulate 172032 (byteOfEach 86016 (λ q. pairsOff (lineIn list q) e))
-    → d ≡ allOff list e
-unfolding allOff endToEnd
-off-whole list e d is = is
+pub size-fits : (f : Profile) (b : ℕ) → b ≡ modulation f .bits → Fits w64 (b * 10752)
+size-fits f b e = record { fits = omega (arith, buffers-most f) }
+
+pub carrying-none : (f : Profile) (list : List ℕ) (e : ℕ) (before : List ℕ) (n b : ℕ) (got : List ℕ) → n ≡ superframesOf (modulation f)
+    → b ≡ modulation f .bits
+    → length got ≡ 172032
+    → Carrying f list e before n (b * 10752) 0 got before
+carrying-none f list e before n b got en eb lg =
+    record {
+      number = en;
+      size = ap (λ x. x * 10752) eb;
+      blocks = blocks-none _ _ _ got (lg ∙ sym (run-whole f));
+      counting = step-none _ _ before;
+    }
+
+module _ {f : Profile} {list : List ℕ} {e : ℕ} {before : List ℕ} {n c q : ℕ} {got counts : List ℕ} (s : Carrying f list e before n c q got counts) where
+  pub carrying-same : (m : ℕ) → m ≡ 172032 → length got ≡ m
+  carrying-same m em = s .blocks .filled .long ∙ run-whole f ∙ sym em
+
+  module _ (lq : q < n) where
+    pub carrying-below : q < superframesOf (modulation f)
+    carrying-below = omega (arith, s .number)
+
+    pub carrying-fits : Fits w64 (q * c)
+    carrying-fits = part-fits f q c carrying-below (s .size)
+
+    pub carrying-end-fits : Fits w64 (q * c + c)
+    carrying-end-fits = part-end-fits f q c carrying-below (s .size)
+
+    pub carrying-inside : (m : ℕ) → m ≡ length got → q * c + c ≤ m
+    carrying-inside m em = part-inside f q c carrying-below (s .size) m (em ∙ carrying-same 172032 refl)
+
+    -- The part from a to b is lent, which is that of super-frame q.
+    module _ (a b : ℕ) (ea : a ≡ q * c) (eb : b ≡ a + c) where
+      pub carrying-lent : length (part a (b - a) got) ≡ modulation f .bits * 10752
+      carrying-lent = part-long a b c got eb (omega (arith, carrying-inside (length got) refl)) ∙ s .size
+
+      pub carrying-more : (v : ℕ) (ys counts′ : List ℕ) → v ≡ differingAll (lineIn f list q) list → ys ≡ pairsOff f (lineIn f list q) e
+          → counts′ ≡ tallySum 7 v counts
+          → Carrying f list e before n c (q + 1) (putMid a (b - a) got ys) counts′
+      unfolding lineCounted
+      carrying-more v ys counts′ ev ey ec =
+          record {
+            number = s .number;
+            size = s .size;
+            blocks = blocks-next a b ys (s .blocks) carrying-below (ea ∙ ap (λ x. q * x) (s .size)) (eb ∙ ap (λ x. a + x) (s .size))
+                (each-block (λ k. pairsOff f (lineIn f list k) e) (modulation f .bits * 10752) q ys size-pos (ap length ey ∙ pairs-long f list q e) ey);
+            counting = step-more counts′ (s .counting) carrying-below (ec ∙ ap (λ m. tallySum 7 m counts) ev);
+          }
+        where
+          size-pos : 0 < modulation f .bits * 10752
+          size-pos = omega (arith, width-pos (modulation f))
+
+  module _ (l : n ≤ q) where
+    pub carrying-done : got ≡ allOff f list e
+    unfolding allOff endToEnd
+    carrying-done = blocks-done _ (s .blocks) (omega (arith, s .number)) refl
+
+    pub carrying-counted : counts ≡ allCounted f list before
+    unfolding allCounted
+    carrying-counted = step-done (s .counting) (omega (arith, s .number))
+
+pub ruleset carrying = (size-fits, carrying-none, carrying-same, carrying-below, carrying-fits, carrying-end-fits, carrying-inside, carrying-lent, carrying-more, carrying-done, carrying-counted)
 
 -- With a list that is known by another name.
-module _ (list known : List ℕ) (el : list ≡ known) where
-  pub off-list : (e : ℕ) (d : List ℕ) → d ≡ allOff list e → d ≡ allOff known e
-  off-list e d is = is ∙ ap (λ l. allOff l e) el
+module _ (f : Profile) (list known : List ℕ) (el : list ≡ known) where
+  pub off-list : (e : ℕ) (d : List ℕ) → d ≡ allOff f list e → d ≡ allOff f known e
+  off-list e d is = is ∙ ap (λ l. allOff f l e) el
 
-  pub counted-list : (d d₁ d₂ : List ℕ) → d₁ ≡ d → d₂ ≡ eachStep 2 (lineCounted list) d₁ → d₂ ≡ eachStep 2 (lineCounted known) d
-  counted-list d d₁ d₂ e₁ is = is ∙ ap₂ (λ l x. eachStep 2 (lineCounted l) x) el e₁
+  pub counted-list : (d d₁ d₂ : List ℕ) → d₁ ≡ d → d₂ ≡ allCounted f list d₁ → d₂ ≡ allCounted f known d
+  counted-list d d₁ d₂ e₁ is = is ∙ ap₂ (allCounted f) el e₁

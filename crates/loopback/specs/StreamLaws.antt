@@ -1,4 +1,4 @@
--- Laws of what is sent and received, super-frame by super-frame and pair by pair.
+-- Laws of what is sent and received, half by half and pair by pair.
 -- Assumes nothing.
 use mathlib.Core.Path.{_≡_, refl, sym, ap, ap₂, _∙_}
 use mathlib.Core.List.{List}
@@ -25,7 +25,7 @@ use Rattle.loopback.specs.Sent.{sentIn}
 use Rattle.loopback.specs.Received.{wordIn, keptWord, payloadWord, codedCounted, payloadCounted, wordCompared, pairCompared}
 use Rattle.loopback.specs.Received.{pairTaken, nextReceived}
 
--- ---- the history before each super-frame
+-- ---- the history before each half
 
 pub before-none : (c : Coder) (m : ℕ) (S : ℕ → List ℕ) → replicate 5120 0 ≡ historyBefore c m S 0
 unfolding historyBefore fresh
@@ -46,15 +46,6 @@ unfolding sentIn givenOver
 sent-block e q h ys is es =
     each-block (sentIn e) 86016 q ys (lit< tt) (ap length es ∙ endToEnd-length 168 512 _) (es ∙ ap (λ x. codedOf 168 x (168 * q) (payloadIn e q)) is)
 
--- A super-frame after those before it.
-pub sent-one : (e q i : ℕ) (h ys : List ℕ) → h ≡ historyBefore pairEncoder 168 (payloadIn e) i → i ≤ q → q ≤ i
-    → ys ≡ codedOf 168 h (168 * q) (payloadIn e q)
-    → ys ≡ sentIn e q
-unfolding sentIn
-sent-one e q i h ys is l m es =
-    let same : i ≡ q = omega arith in
-    es ∙ ap (λ x. codedOf 168 x (168 * q) (payloadIn e q)) (is ∙ ap (historyBefore pairEncoder 168 (payloadIn e)) same)
-
 -- From payload that is known by another name.
 module _ (e q : ℕ) (h s ys : List ℕ) (es : s ≡ payloadIn e q) where
   pub coded-of : (g : List ℕ) → encodeBuffers ys g ≡ encodeStream 168 h (168 * q) s → ys ≡ codedOf 168 h (168 * q) (payloadIn e q)
@@ -64,10 +55,10 @@ module _ (e q : ℕ) (h s ys : List ℕ) (es : s ≡ payloadIn e q) where
       → ys ≡ historyOver pairEncoder 168 h (168 * q) (payloadIn e q)
   history-of c is = ap (λ (b : EncodeBuffers). b .history) is ∙ ap (historyOver pairEncoder 168 h (168 * q)) es
 
--- A super-frame sent, after refused calls that leave the history.
+-- A half sent, after refused calls that leave the history.
 module _ (e q : ℕ) (h h₁ ys : List ℕ) (is : h ≡ historyBefore pairEncoder 168 (payloadIn e) q) (left : h₁ ≡ h) where
-  pub stream-frame-block : ys ≡ codedOf 168 h₁ (168 * q) (payloadIn e q) → ys ≡ tabulate 86016 (λ i. byteOfEach 86016 (sentIn e) (q * 86016 + i))
-  stream-frame-block es = sent-block e q h₁ ys (left ∙ is) es
+  pub half-block : ys ≡ codedOf 168 h₁ (168 * q) (payloadIn e q) → ys ≡ tabulate 86016 (λ i. byteOfEach 86016 (sentIn e) (q * 86016 + i))
+  half-block es = sent-block e q h₁ ys (left ∙ is) es
 
 -- ---- the words of a pair
 

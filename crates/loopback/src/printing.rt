@@ -38,6 +38,12 @@ fn print(text: &[u8], counts: &[u32; 41], from: usize) {
     }
 }
 
+// Prints that the counts of QPSK follow.
+pub fn print_qpsk() {
+    let none = [0u32; 41];
+    print(b"qpsk\n", &none, 0);
+}
+
 // Prints what an encoder did.
 pub fn print_encoder(counts: &[u32; 41]) {
     print(

@@ -1,16 +1,20 @@
-// Sending: the pairs of an encoder, super-frame by super-frame.
+// Sending: the pairs of an encoder, in two halves of 168.
 use crate::printing::print_encoder;
 use loopback_core::counts::add;
 use loopback_core::random;
 use loopback_refused_core::refuse_encodings;
+use pair_words_core::history::copy;
+use profile::Profile;
 ghost use mathlib.Core.Path.{_≡_};
 ghost use Prim.Native.Nat.{_*_, _<_};
 ghost use lib.ListN.{length, replicate};
 ghost use Rattle.bits.specs.Parts.{endToEnd};
+ghost use Rattle.cells_spec.specs.Profiles.{modulation};
 ghost use Rattle.pair_spec.specs.Stream.{pairEncoder as encoderOf, codedOf, historyOver};
+ghost use Rattle.loopback_core.specs.Noise.{superframesOf};
 ghost use Rattle.loopback_core.specs.Random.{payloadIn};
 ghost use Rattle.loopback_core.specs.Steps.{eachStep};
-ghost use Rattle.loopback.specs.Sent.{sentIn, frameSent};
+ghost use Rattle.loopback.specs.Sent.{sentIn, sentPart, halfSent};
 
 // The 336 coded pairs of an encoder.
 type Coded = [u8; 172032];
@@ -21,7 +25,7 @@ pub fn blank_coded() -> Coded
     [0u8; 172032]
 }
 
-// The payload of an encoder in a super-frame.
+// The payload of an encoder in a half.
 type Payload = [u8; 74592];
 
 fn blank() -> Payload
@@ -30,7 +34,7 @@ fn blank() -> Payload
     [0u8; 74592]
 }
 
-// That of super-frame q.
+// That of half q.
 fn draw(encoder: u32, q: u32, payload: &mut [u8])
     requires { ⌜ (encoder < 2) × (q < 2) × (length (now payload) ≡ 74592) ⌝ }
     ensures { λ _. ⌜ now (payload .exit) ≡ payloadIn encoder q ⌝ }
@@ -52,10 +56,10 @@ fn encode_next(encoder: u32, q: u32, history: &mut [u8], coded: &mut [u8])
     pair_stream::encode(168, &payload, 168 * q, history, coded);
 }
 
-// The coded pairs of two super-frames, each after refused calls.
+// The coded pairs of both halves, each after refused calls.
 fn encode_both(encoder: u32, coded: &mut [u8], counts: &mut [u32])
     requires { ⌜ (encoder < 2) × (length (now coded) ≡ 172032) × (length (now counts) ≡ 41) ⌝ }
-    ensures { λ _. ⌜ (now (coded .exit) ≡ endToEnd 2 86016 (sentIn encoder)) × (now (counts .exit) ≡ eachStep 2 (λ q. frameSent) (now (counts .entry))) ⌝ }
+    ensures { λ _. ⌜ (now (coded .exit) ≡ endToEnd 2 86016 (sentIn encoder)) × (now (counts .exit) ≡ eachStep 2 (λ q. halfSent) (now (counts .entry))) ⌝ }
 {
     let mut history = [0u8; 5120];
     for q in 0..2 {
@@ -75,19 +79,20 @@ pub fn encode_again(encoder: u32, coded: &mut [u8])
     encode_both(encoder, coded, &mut counts);
 }
 
-// those of super-frame q alone, after those before it;
-pub fn encode_one(encoder: u32, q: u32, coded: &mut [u8])
-    requires { ⌜ (encoder < 2) × (q < 2) × (length (now coded) ≡ 86016) ⌝ }
-    ensures { λ _. ⌜ now (coded .exit) ≡ sentIn encoder q ⌝ }
+// those of super-frame q alone;
+pub fn encode_part(profile: Profile, encoder: u32, q: usize, pairs: &mut [u8])
+    requires { ⌜ (encoder < 2) × (q < superframesOf (modulation profile)) × (length (now pairs) ≡ modulation profile .bits * 10752) ⌝ }
+    ensures { λ _. ⌜ now (pairs .exit) ≡ sentPart profile encoder q ⌝ }
 {
-    let mut history = [0u8; 5120];
-    for i in 0..q {
-        encode_next(encoder, i, &mut history, coded);
-    }
-    encode_next(encoder, q, &mut history, coded);
+    let mut coded = blank_coded();
+    encode_again(encoder, &mut coded);
+    let n = pairs.len();
+    let a = q * n;
+    let e = a + n;
+    copy(&coded[a..e], pairs);
 }
 
-// and those of both, with a print of what was done.
+// and all, with a print of what was done.
 pub fn encode(encoder: u32, coded: &mut [u8])
     requires { ⌜ (encoder < 2) × (length (now coded) ≡ 172032) ⌝ }
     ensures { λ _. ⌜ now (coded .exit) ≡ endToEnd 2 86016 (sentIn encoder) ⌝ }

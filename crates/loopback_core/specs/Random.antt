@@ -14,7 +14,7 @@ stateAt stream (suc i) = (stateAt stream i * 1103515245 + 12345) % 2147483648
 unfoldable pub drawn : ℕ → ℕ → ℕ → ℕ
 drawn stream d i = stateAt stream (suc i) / 65536 % 256 / d
 
--- The payload of pair k of an encoder, a stream of its own; and of super-frame q.
+-- The payload of pair k of an encoder, a stream of its own; and of half q of a run, 168 pairs.
 unfoldable pub pairPayload : ℕ → ℕ → List ℕ
 pairPayload encoder k = tabulate 444 (drawn (k * 2 + encoder) 1)
 

@@ -14,7 +14,7 @@ use Rattle.calls.specs.Calls.{After, after}
 use Rattle.calls.specs.CallLaws.{is-misfit, no-misfit, no-sub-frame, sub-frame, tests, call-refused}
 use Rattle.bits.specs.Count.{count}
 use Rattle.bits.specs.Seeking.{seek-none, seek-hit}
-use Rattle.cells_spec.specs.Profiles.{qam16}
+use Rattle.cells_spec.specs.Modulation.{Modulation}
 use Rattle.cells_spec.specs.Cells.{overheadRule, firstIllegal}
 use Rattle.frame_spec.specs.Frames.{payloadCells, overheadStart, ownOverhead}
 use Rattle.frame_spec.specs.FrameLaws.{own-length, own-at}
@@ -65,8 +65,8 @@ module _ (r : Answer) (y m h coded payload marks history : List ℕ) (P : ℕ) (
     pub receive-late-keeps : h ≡ history
     receive-late-keeps = ap (λ (x : Received). x .written .history) receive-left
 
-module _ (r : Answer) (d payload list frame : List ℕ) (lo : length list ≡ 12288) (lf : length frame ≡ 7424) where
-  pub frame-beyond : after r d ≡ frameCall qam16 48 payload list frame → r ≡ Refused NoSuchFrame
+module _ (p : Modulation) (r : Answer) (d payload list frame : List ℕ) (lo : length list ≡ 12288) (lf : length frame ≡ 7424) where
+  pub frame-beyond : after r d ≡ frameCall p 48 payload list frame → r ≡ Refused NoSuchFrame
   unfolding subFrameTests
   frame-beyond is =
       let beyond : 47 < 48 = omega arith in
@@ -75,7 +75,7 @@ module _ (r : Answer) (d payload list frame : List ℕ) (lo : length list ≡ 12
       (no-misfit _ _ _ _ lo (no-misfit _ _ _ _ lf (payload-unmeasured 48 payload _ _ beyond (no-sub-frame _ _ beyond))))))
 
   -- The first byte of the list is illegal.
-  pub frame-off-grid : after r d ≡ frameCall qam16 0 payload list frame → length payload ≡ 6980 → getD list 0 0 ≡ 16
+  pub frame-off-grid : after r d ≡ frameCall p 0 payload list frame → length payload ≡ 6980 → getD list 0 0 ≡ 16
       → r ≡ Refused (OffGrid 0)
   unfolding firstIllegal overheadRule overheadStart count subFrameTests
   frame-off-grid is lp e =

@@ -2,6 +2,7 @@
 // `pair` and `frame`; `loopback_core` counts them.
 use calls::Answer;
 use loopback_core::counts::answered;
+use profile::Profile;
 ghost use mathlib.Core.Path.{_≡_};
 ghost use lib.ListN.{length};
 ghost use Rattle.calls.specs.declared.Answer.the-variants.{Refused};
@@ -31,7 +32,7 @@ fn encode_spent(history: &mut [u8]) -> Answer
     pair::encode_pair(&payload, &mut coded, history, SPENT)
 }
 
-// Both, for each pair of a super-frame.
+// Both, for each of 168 pairs.
 pub fn refuse_encodings(history: &mut [u8], counts: &mut [u32])
     requires { ⌜ (length (now history) ≡ 5120) × (length (now counts) ≡ 41) ⌝ }
     ensures { λ _. ⌜ (now (history .exit) ≡ now (history .entry)) × (now (counts .exit) ≡ eachStep 168 (λ k. refusedTwo) (now (counts .entry))) ⌝ }
@@ -73,30 +74,30 @@ pub fn refuse_receiving(history: &mut [u8], counts: &mut [u32])
 }
 
 // A call of framing for a sub-frame that there is not.
-fn frame_beyond() -> Answer
+fn frame_beyond(profile: Profile) -> Answer
     ensures { λ r. ⌜ r ≡ Refused NoSuchFrame ⌝ }
 {
     let list = [0u8; 12288];
     let all = &list[..];
     let mut frame = [0u8; 7424];
-    frame::frame(48, all, all, &mut frame)
+    frame::frame(profile, 48, all, all, &mut frame)
 }
 
 // One with an illegal overhead list.
-fn frame_off_grid() -> Answer
+fn frame_off_grid(profile: Profile) -> Answer
     ensures { λ r. ⌜ r ≡ Refused (OffGrid 0) ⌝ }
 {
     let list = [16u8; 12288];
     let all = &list[..];
     let mut frame = [0u8; 7424];
-    frame::frame(0, &all[0..6980], all, &mut frame)
+    frame::frame(profile, 0, &all[0..6980], all, &mut frame)
 }
 
 // Both.
-pub fn refuse_framing(counts: &mut [u32])
+pub fn refuse_framing(profile: Profile, counts: &mut [u32])
     requires { ⌜ length (now counts) ≡ 41 ⌝ }
     ensures { λ _. ⌜ now (counts .exit) ≡ answered (Refused (OffGrid 0)) (answered (Refused NoSuchFrame) (now (counts .entry))) ⌝ }
 {
-    answered(counts, frame_beyond());
-    answered(counts, frame_off_grid());
+    answered(counts, frame_beyond(profile));
+    answered(counts, frame_off_grid(profile));
 }

@@ -15,4 +15,4 @@ frame-off-grid-spec =
     (λ c. search needs)  -- part-frame-end
     (λ c. search needs)  -- slice-aggregate-frame
     (λ c κs. search needs)  -- frame-requires
-    (λ c. frame-off-grid _ _ _ _ _ (search needs) (search needs) (c .before .frame2 .ensures) (search needs) (search needs)))  -- returns
+    (λ c. frame-off-grid _ _ _ _ _ _ (search needs) (search needs) (c .before .frame2 .ensures) (search needs) (search needs)))  -- returns

@@ -19,7 +19,7 @@ transmit-spec =
     (λ c κs. search needs)  -- value-or-requires
     (λ c. search needs)  -- same-length
     (λ c. search needs)  -- same-length-2
-    (λ c. first-taken _ _ _ _ _ (search needs) (search needs) (search needs) (line-carried _ _ _ _ _ _ _ _ _ _ _ (c .before .before .before .before .before .before .before .before .before .before .before .before .before .send .ensures) (c .before .before .before .before .before .before .before .before .before .before .pass .ensures) (search needs) (search needs) (c .before .before .before .before .before .take-apart .ensures) _ (c .value-or .ensures)))  -- returns
+    (λ c. first-taken _ _ _ _ _ _ (search needs) (search needs) (search needs) (line-carried _ _ _ _ _ _ _ _ _ _ _ _ (c .before .before .before .before .before .before .before .before .before .before .before .before .before .send .ensures) (c .before .before .before .before .before .before .before .before .before .before .pass .ensures) (search needs) (search needs) (c .before .before .before .before .before .take-apart .ensures) _ (c .value-or .ensures)))  -- returns
     (λ c. search needs)  -- slice-aggregate-send-2
     (λ c κs. search needs)  -- send-requires-2
     (λ c. search needs)  -- slice-aggregate-pass-2
@@ -29,4 +29,4 @@ transmit-spec =
     (λ c κs. search needs)  -- value-or-requires-2
     (λ c. search needs)  -- same-length-3
     (λ c. search needs)  -- same-length-4
-    (λ c. second-taken _ _ _ _ _ (search needs) (search needs) (search needs) (search needs) (line-carried _ _ _ _ _ _ _ _ _ _ _ (c .before .before .before .before .before .before .before .before .before .before .before .before .before .send2 .ensures) (c .before .before .before .before .before .before .before .before .before .before .pass2 .ensures) (search needs) (search needs) (c .before .before .before .before .before .take-apart2 .ensures) _ (c .value-or2 .ensures))))  -- returns-2
+    (λ c. second-taken _ _ _ _ _ _ (search needs) (search needs) (search needs) (search needs) (line-carried _ _ _ _ _ _ _ _ _ _ _ _ (c .before .before .before .before .before .before .before .before .before .before .before .before .before .send2 .ensures) (c .before .before .before .before .before .before .before .before .before .before .pass2 .ensures) (search needs) (search needs) (c .before .before .before .before .before .take-apart2 .ensures) _ (c .value-or2 .ensures))))  -- returns-2

@@ -1,4 +1,4 @@
--- `loopback::sending::encode_both` meets its contract: one super-frame a turn.
+-- `loopback::sending::encode_both` meets its contract: one half a turn.
 -- Assumes nothing.
 use mathlib.Core.Path.{_≡_, refl, _∙_}
 use lib.ListN.{length}
@@ -8,10 +8,10 @@ use Rattle.bits.specs.Parts.{byteOfEach}
 use Rattle.bits.specs.PartLaws.{part-long}
 use Rattle.pair_spec.specs.Stream.{pairEncoder as encoderOf, historyBefore}
 use Rattle.loopback_core.specs.Random.{payloadIn}
-use Rattle.loopback.specs.Sent.{sentIn, frameSent}
+use Rattle.loopback.specs.Sent.{sentIn, halfSent}
 use Rattle.loopback_core.specs.StepLaws.{Stepping, step-none, step-more, step-done}
 use Rattle.bits.specs.PartLaws.{is-endToEnd}
-use Rattle.loopback.specs.StreamLaws.{before-none, before-more, stream-frame-block}
+use Rattle.loopback.specs.StreamLaws.{before-none, before-more, half-block}
 use borrow.Author.Needs.{needs}
 use Rattle.loopback.proofs.sending.encode_both.Statement.{statement}
 use Rattle.loopback.proofs.sending.encode_both.Tie as tie
@@ -19,7 +19,7 @@ use Rattle.loopback.proofs.sending.encode_both.Tie as tie
 ruleset kit = (needs, by-blocks, before-none, step-none, step-done, is-endToEnd)
 
 abbrev Inv-loop : tie.InvT-loop
-Inv-loop encoder coded₀ counts₀ history₀ q₀ coded counts history q = (length history ≡ 5120) × (length counts ≡ 41) × Blocks (byteOfEach 86016 (sentIn encoder)) 86016 2 q coded × (history ≡ historyBefore encoderOf 168 (payloadIn encoder) q) × Stepping (λ i. frameSent) 2 counts₀ q counts
+Inv-loop encoder coded₀ counts₀ history₀ q₀ coded counts history q = (length history ≡ 5120) × (length counts ≡ 41) × Blocks (byteOfEach 86016 (sentIn encoder)) 86016 2 q coded × (history ≡ historyBefore encoderOf 168 (payloadIn encoder) q) × Stepping (λ i. halfSent) 2 counts₀ q counts
 
 abbrev μ-loop : tie.MeasureT-loop
 μ-loop encoder coded₀ counts₀ history₀ q₀ coded counts history q = 2 - q
@@ -49,7 +49,7 @@ encode-both-spec =
     let made = c .before .before .before .encode-next .ensures in (
       search needs,
       search needs,
-      blocks-next {d = l .coded} (l .q * 86016) (l .q * 86016 + 86016) _ (l .inv .2) (search needs) refl refl (stream-frame-block _ _ _ _ _ (l .inv .3) (left .0) (made .0)),
+      blocks-next {d = l .coded} (l .q * 86016) (l .q * 86016 + 86016) _ (l .inv .2) (search needs) refl refl (half-block _ _ _ _ _ (l .inv .3) (left .0) (made .0)),
       before-more _ _ _ _ _ _ _ (left .0 ∙ l .inv .3) refl (made .1),
       step-more _ (l .inv .4) (search needs) (left .1),
     ))  -- loop-again

@@ -13,10 +13,10 @@ use Rattle.loopback_core.proofs.noise.strike_cell.Tie as tie
 ruleset kit = (needs, step-none, step-done, strike-cell)
 
 abbrev Inv-loop : tie.InvT-loop
-Inv-loop cell n line₀ s₀ line s = (length line ≡ 356352) × Stepping (strikeCell cell) n line₀ s line
+Inv-loop profile cell n line₀ s₀ line s = (length line ≡ 356352) × Stepping (strikeCell profile cell) n line₀ s line
 
 abbrev μ-loop : tie.MeasureT-loop
-μ-loop cell n line₀ s₀ line s = n - s
+μ-loop profile cell n line₀ s₀ line s = n - s
 
 pub strike-cell-spec : {M : Type 1} → statement M
 strike-cell-spec =
