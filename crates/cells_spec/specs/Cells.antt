@@ -1,5 +1,6 @@
--- Cells, over a profile. Symbol i of a buffer of bits is its bits from w i on, w being the bits of a symbol: a byte for w = 8, and for
--- w = 4 the upper half of a byte, then the lower. Its cell is cell i of the buffer's cells.
+-- Cells, over a profile. Symbol i of a buffer of bits is its bits from w i on, w being the bits of a symbol: a byte for w = 8 (01: "A
+-- byte's bits c0 (most significant) to c7 are one symbol"), and for w = 4 half a byte (02, E1: "A byte holds two symbols, upper half
+-- first"). Its cell is cell i of the buffer's cells.
 -- Assumes nothing.
 use mathlib.Core.Path.{_≡_}
 use mathlib.Core.Bool.{Bool, false}

@@ -1,4 +1,4 @@
--- Laws of a profile: its sizes, and a symbol and its cell give each other back.
+-- Laws of a modulation: its sizes, and a symbol and its cell give each other back.
 -- Assumes nothing.
 use mathlib.Core.Path.{_≡_, refl, sym, subst, _∙_}
 use mathlib.Core.Bool.{false}

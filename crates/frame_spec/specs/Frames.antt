@@ -57,7 +57,8 @@ framed s payload own = tabulate 7424 (frameAt s payload own)
 
 -- ---- legal cells
 
--- A frame is judged cell by cell: an illegal byte of cell m of sub-frame s, by the rule of overhead or by the profile's rule of payload, ..
+-- A frame is judged cell by cell: an illegal byte of cell m of sub-frame s, by the rule of overhead or by the profile's rule of payload
+-- (02, E1: "Framing and overhead cells keep their layout. A payload cell with a level of −3 or 3 is illegal in this profile"), ..
 unfoldable pub cellRule : Modulation → ℕ → ℕ → ℕ → Bool
 cellRule p s m v = cond (isOverhead s m) (leb 16 v) (p .illegal v)
 

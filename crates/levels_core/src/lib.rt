@@ -1,5 +1,5 @@
-// Workers: the levels of a bit pair, by a table, and its inverse (01: "A bit pair gives the level: 00 is −3"), and the level of a bit (02,
-// E1: "0 is level −1"). Over `cells_spec`; `mapping_core` makes cells of levels.
+// Workers: the levels of a bit pair, by a table, and its inverse (01: "A bit pair gives the level: 00 is −3"), and the level of a bit
+// (02, E1: "0 is level −1 and 1 is level 1"). Over `cells_spec`; `mapping_core` makes cells of levels.
 ghost use mathlib.Core.Path.{_≡_};
 ghost use Prim.Native.Nat.{_/_, _%_, _<_};
 ghost use Rattle.cells_spec.specs.Levels.{Level, level, ordinal};
