@@ -1,12 +1,11 @@
-// The calls `frame` and `unframe`, by sub-frame and for either profile: 01, "Super-frame", and 02, E1. Over `frame_core`, by the
-// definitions of `frame_spec`.
+// The calls `frame` and `unframe`, by sub-frame and for either profile: 01, "Super-frame", and 02, E1. Over `frame_core` and
+// `frame_legal_core`, by the definitions of `frame_spec`.
 use calls::Answer;
 use calls::Refusal;
 use cells_core::legal::first_illegal;
 use cells_core::legal::first_illegal_payload;
 use frame_core::comparing;
 use frame_core::layout;
-use frame_core::legal;
 use frame_core::placing;
 use profile::Profile;
 ghost use mathlib.Core.Path.{_≡_};
@@ -87,7 +86,7 @@ pub fn unframe(
     if let Answer::Refused(r) = judge(number, overhead, frame, payload) {
         return Answer::Refused(r);
     }
-    let to = legal::first_illegal(profile, number, frame);
+    let to = frame_legal_core::first_illegal(profile, number, frame);
     if to < frame.len() {
         return Answer::Refused(Refusal::OffGrid(to));
     }

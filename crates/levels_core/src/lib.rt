@@ -2,7 +2,7 @@
 // (02, E1: "0 is level −1 and 1 is level 1"). Over `cells_spec`; `mapping_core` makes cells of levels.
 ghost use mathlib.Core.Path.{_≡_};
 ghost use Prim.Native.Nat.{_/_, _%_, _<_};
-ghost use Rattle.cells_spec.specs.Levels.{Level, level, ordinal};
+ghost use Rattle.cells_spec.specs.Levels.{Level, level, ordinal, rails};
 ghost use Rattle.cells_spec.specs.Qpsk.{bitLevel};
 ghost use Rattle.cells_spec.specs.Qam16Inverse.{levelAt, firstBit, secondBit};
 
@@ -36,6 +36,14 @@ pub fn ordinal(l: i8) -> u8
     ensures { λ r. ⌜ (r ≡ ordinal l) × (r < 4) ⌝ }
 {
     (l + 3) as u8 / 2
+}
+
+// The byte 4×(I+3)/2 + (Q+3)/2 of two levels.
+pub fn rails(i: i8, q: i8) -> u8
+    requires { ⌜ Level i × Level q ⌝ }
+    ensures { λ r. ⌜ r ≡ rails i q ⌝ }
+{
+    4 * ordinal(i) + ordinal(q)
 }
 
 // The bit pair of the level whose ordinal is k.

@@ -1,8 +1,6 @@
-// Workers: bits to cells and back, for each profile and for either. Over `levels_core`, by the definitions of `cells_spec`; the calls
-// are in `cells`.
+// Workers: bits to cells and back, for 16-QAM and for either profile. Over `levels_core` and `mapping_qpsk_core`, by the definitions of
+// `cells_spec`; the calls are in `cells`.
 pub mod qam16;
-pub mod qpsk;
-mod rails;
 
 use profile::Profile;
 ghost use mathlib.Core.Path.{_≡_};
@@ -19,7 +17,7 @@ pub fn map(profile: Profile, bits: &[u8], cells: &mut [u8])
 {
     match profile {
         Profile::Qam16 => qam16::map(bits, cells),
-        Profile::Qpsk => qpsk::map(bits, cells),
+        Profile::Qpsk => mapping_qpsk_core::map(bits, cells),
     }
 }
 
@@ -30,6 +28,6 @@ pub fn demap(profile: Profile, cells: &[u8], bits: &mut [u8])
 {
     match profile {
         Profile::Qam16 => qam16::demap(cells, bits),
-        Profile::Qpsk => qpsk::demap(cells, bits),
+        Profile::Qpsk => mapping_qpsk_core::demap(cells, bits),
     }
 }

@@ -1,7 +1,7 @@
 // 16-QAM: a symbol's byte to its cell and back, and the same for buffers of any number of symbols.
-use crate::rails::rails;
 use levels_core::bit_pair;
 use levels_core::level;
+use levels_core::rails;
 ghost use mathlib.Core.Path.{_≡_};
 ghost use Prim.Native.Nat.{_+_, _*_, _<_};
 ghost use lib.ListN.{length};

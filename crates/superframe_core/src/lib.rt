@@ -1,5 +1,5 @@
 // Workers: the frames of a super-frame, from its payload and back, by the calls for each sub-frame, and their first illegal byte. Over
-// `superframe_spec`, `frame` and `frame_core`; `superframe_buffers_core` has the payload, and the steps are in `superframe`.
+// `superframe_spec`, `frame` and `frame_legal_core`; `superframe_buffers_core` has the payload, and the steps are in `superframe`.
 use profile::Profile;
 ghost use mathlib.Core.Path.{_≡_};
 ghost use Prim.Native.Nat.{_≤_, _<_, _*_};
@@ -80,7 +80,7 @@ pub fn first_illegal(profile: Profile, line: &[u8]) -> usize
     for s in 0..48 {
         let a = s * 7424;
         let e = a + 7424;
-        let at = frame_core::legal::first_illegal(profile, s as u32, &line[a..e]);
+        let at = frame_legal_core::first_illegal(profile, s as u32, &line[a..e]);
         if at < 7424 {
             return a + at;
         }

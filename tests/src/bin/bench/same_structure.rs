@@ -1,7 +1,7 @@
 //! The library's functions once more, in plain Rust with the same loops: what is left between the two
 //! when the structure is the same. It follows crates/pair, pair_core, pair_words_core, word, gf256, interleaver,
-//! interleaver_core, block_core, cells, levels_core, mapping_core, cells_core, frame and frame_core function by function, and
-//! changes with them.
+//! interleaver_core, block_core, cells, levels_core, mapping_core, mapping_qpsk_core, cells_core, frame, frame_core and
+//! frame_legal_core function by function, and changes with them.
 //!
 //! Lengths of buffers that contracts of the library require are in the types here, and no call is inlined
 //! into the code that times it.
@@ -21,7 +21,9 @@ use ofec_tests::profile::Profile;
 mod block_core;
 mod cells_core;
 mod frame_core;
+mod frame_legal_core;
 mod mapping_core;
+mod mapping_qpsk_core;
 mod pair_core;
 mod pair_words_core;
 mod word;
@@ -106,7 +108,7 @@ pub fn bits_to_cells(profile: Profile, bits: &[u8], cells: &mut [u8]) -> Outcome
     }
     match profile {
         Profile::Qam16 => mapping_core::qam16::map(bits, cells.try_into().expect("measured")),
-        Profile::Qpsk => mapping_core::qpsk::map(bits, cells.try_into().expect("measured")),
+        Profile::Qpsk => mapping_qpsk_core::map(bits, cells.try_into().expect("measured")),
     }
     Outcome::accepted(0)
 }
@@ -125,7 +127,7 @@ pub fn cells_to_bits(profile: Profile, cells: &[u8], bits: &mut [u8]) -> Outcome
     }
     match profile {
         Profile::Qam16 => mapping_core::qam16::demap(cells.try_into().expect("measured"), bits),
-        Profile::Qpsk => mapping_core::qpsk::demap(cells.try_into().expect("measured"), bits),
+        Profile::Qpsk => mapping_qpsk_core::demap(cells.try_into().expect("measured"), bits),
     }
     Outcome::accepted(0)
 }
@@ -185,7 +187,7 @@ pub fn unframe(
     if judged.refusal != 0 {
         return judged;
     }
-    let to = frame_core::first_illegal(profile, number, frame);
+    let to = frame_legal_core::first_illegal(profile, number, frame);
     if to < frame.len() {
         return Outcome::off_grid(to);
     }

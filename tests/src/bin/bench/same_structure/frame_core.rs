@@ -1,13 +1,9 @@
 //! crates/frame_core: a sub-frame by groups of a pilot and 31 payload cells.
 
-use ofec_tests::profile::Profile;
-
-use super::cells_core::{self, first_flaw, flaw};
-
 const TRAINING: usize = 11;
 const FIRST_OVERHEAD: usize = 110;
 
-fn edge(number: u32) -> usize {
+pub fn edge(number: u32) -> usize {
     if number == 0 {
         return FIRST_OVERHEAD;
     }
@@ -162,58 +158,4 @@ pub fn differing(number: u32, frame: &[u8], own: &[u8]) -> u32 {
         n = n + cell_differs(frame, i * 32, own, i + g);
     }
     n
-}
-
-fn overhead_flaw(v: u8) -> u8 {
-    if 16 <= v {
-        return 1;
-    }
-    0
-}
-
-fn cell_flaw(number: u32, m: usize, v: u8) -> u8 {
-    if m % 32 == 0 {
-        return overhead_flaw(v);
-    }
-    if m < edge(number) {
-        return overhead_flaw(v);
-    }
-    flaw(v)
-}
-
-fn search(number: u32, frame: &[u8]) -> usize {
-    for j in 0..frame.len() {
-        if cell_flaw(number, j / 2, frame[j]) != 0 {
-            return j;
-        }
-    }
-    frame.len()
-}
-
-fn first_flaw_of(number: u32, frame: &[u8], payload: &mut [u8]) -> usize {
-    extract(number, frame, payload);
-    first_flaw(payload)
-}
-
-fn first_payload_flaw(number: u32, frame: &[u8]) -> usize {
-    let mut payload = [0; 7424];
-    let n = payload_cells(number) * 2;
-    first_flaw_of(number, frame, &mut payload[0..n])
-}
-
-fn first_illegal_qpsk(number: u32, frame: &[u8]) -> usize {
-    if cells_core::first_illegal(frame) < frame.len() {
-        return search(number, frame);
-    }
-    if first_payload_flaw(number, frame) < payload_cells(number) * 2 {
-        return search(number, frame);
-    }
-    frame.len()
-}
-
-pub fn first_illegal(profile: Profile, number: u32, frame: &[u8]) -> usize {
-    match profile {
-        Profile::Qam16 => cells_core::first_illegal(frame),
-        Profile::Qpsk => first_illegal_qpsk(number, frame),
-    }
 }

@@ -1,4 +1,4 @@
-//! crates/levels_core and crates/mapping_core: cells by tables that are filled once a call, or in QPSK by arithmetic.
+//! crates/levels_core and crates/mapping_core: cells by tables that are filled once a call.
 
 const LEVELS: [i8; 4] = [-3, -1, 3, 1];
 const PAIRS: [u8; 4] = [0, 1, 3, 2];
@@ -7,7 +7,7 @@ fn level(a: u8, b: u8) -> i8 {
     LEVELS[(a * 2 + b) as usize]
 }
 
-fn bit_level(b: u8) -> i8 {
+pub fn bit_level(b: u8) -> i8 {
     if b == 0 {
         return -1;
     }
@@ -22,7 +22,7 @@ fn bit_pair(k: u8) -> u8 {
     PAIRS[k as usize]
 }
 
-fn rails(i: i8, q: i8) -> u8 {
+pub fn rails(i: i8, q: i8) -> u8 {
     4 * ordinal(i) + ordinal(q)
 }
 
@@ -83,55 +83,6 @@ pub mod qam16 {
             // The cells are legal; so the index is below 256, as the type of the library's sum has it.
             let index = cells[i * 2].wrapping_mul(16).wrapping_add(cells[i * 2 + 1]);
             bits[i] = table[index as usize];
-        }
-    }
-}
-
-pub mod qpsk {
-    use super::{bit_level, rails};
-
-    fn cell_byte(s: u8, h: usize) -> u8 {
-        if h == 0 {
-            return rails(bit_level(s / 8 % 2), bit_level(s / 2 % 2));
-        }
-        rails(bit_level(s / 4 % 2), bit_level(s % 2))
-    }
-
-    fn half(b: u8, h: usize) -> u8 {
-        if h == 0 {
-            return b / 16;
-        }
-        b % 16
-    }
-
-    fn quarter(b: u8, k: usize) -> u8 {
-        cell_byte(half(b, k / 2), k % 2)
-    }
-
-    pub fn map(bits: &[u8; 21504], cells: &mut [u8; 86016]) {
-        for i in 0..21504 {
-            let b = bits[i];
-            let upper_x = quarter(b, 0);
-            let upper_y = quarter(b, 1);
-            let lower_x = quarter(b, 2);
-            let lower_y = quarter(b, 3);
-            cells[i * 4] = upper_x;
-            cells[i * 4 + 1] = upper_y;
-            cells[i * 4 + 2] = lower_x;
-            cells[i * 4 + 3] = lower_y;
-        }
-    }
-
-    fn symbol_of(x: u8, y: u8) -> u8 {
-        x / 8 * 8 + y / 8 * 4 + x % 4 / 2 * 2 + y % 4 / 2
-    }
-
-    pub fn demap(cells: &[u8; 86016], bits: &mut [u8; 21504]) {
-        for i in 0..21504 {
-            let upper = symbol_of(cells[i * 4], cells[i * 4 + 1]);
-            let lower = symbol_of(cells[i * 4 + 2], cells[i * 4 + 3]);
-            // The cells are legal; so the sum is below 256, as the type of the library's has it.
-            bits[i] = upper.wrapping_mul(16).wrapping_add(lower);
         }
     }
 }
