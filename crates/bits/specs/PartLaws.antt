@@ -21,6 +21,13 @@ module _ (a n : ℕ) (s : List ℕ) (l : a + n ≤ length s) where
   pub part-at : (i : ℕ) → i < n → getD (part a n s) i 0 ≡ getD s (a + i) 0
   part-at i li = getD-take n (drop a s) i 0 li ∙ getD-drop a s i 0
 
+-- All of it.
+pub part-whole : (n : ℕ) (s : List ℕ) → length s ≡ n → part 0 n s ≡ s
+part-whole n s e =
+    let fits : 0 + n ≤ length s = omega arith in
+    ext-getD 0 (part 0 n s) s (part-length 0 n s fits ∙ sym e)
+    (λ i l. part-at 0 n s fits i (omega (arith, part-length 0 n s fits)) ∙ ap (λ k. getD s k 0) (omega arith))
+
 -- The part from a to e, as code lends it.
 pub part-long : (a e n : ℕ) (s : List ℕ) → e ≡ a + n → e ≤ length s → length (part a (e - a) s) ≡ n
 part-long a e n s ee l = let size : e - a ≡ n = omega arith in part-length a (e - a) s (omega arith) ∙ size

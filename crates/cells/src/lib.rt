@@ -2,7 +2,7 @@
 // the definitions of `cells_spec`.
 use calls::Answer;
 use calls::Refusal;
-use cells_core::legal::first_illegal_payload;
+use cells_core::legal::first_illegal_in_buffer;
 use cells_core::sizes::cell_bytes;
 use profile::Profile;
 ghost use mathlib.Core.Path.{_≡_};
@@ -37,7 +37,7 @@ pub fn cells_to_bits(profile: Profile, cells: &[u8], bits: &mut [u8]) -> Answer
     if bits.len() != BITS {
         return Answer::Refused(Refusal::Misfit);
     }
-    let at = first_illegal_payload(profile, cells);
+    let at = first_illegal_in_buffer(profile, cells);
     if at < cells.len() {
         return Answer::Refused(Refusal::OffGrid(at));
     }

@@ -1,8 +1,9 @@
 // Legal cells (01: "A byte of 16 or more is illegal"; 02, E1: "A payload cell with a level of −3 or 3 is illegal in this profile").
 use profile::Profile;
 ghost use mathlib.Core.Path.{_≡_};
-ghost use Prim.Native.Nat.{_≤_};
+ghost use Prim.Native.Nat.{_*_, _≤_};
 ghost use lib.ListN.{length};
+ghost use Rattle.cells_spec.specs.Modulation.{cellsPerBuffer};
 ghost use Rattle.cells_spec.specs.Cells.{overheadRule, payloadRule, firstIllegal};
 ghost use Rattle.cells_spec.specs.Highest.{Highest, flaw};
 ghost use Rattle.cells_spec.specs.Profiles.{qpsk, modulation};
@@ -103,5 +104,16 @@ pub fn first_illegal_payload(profile: Profile, cells: &[u8]) -> usize
     match profile {
         Profile::Qam16 => first_illegal(cells),
         Profile::Qpsk => first_flaw(cells),
+    }
+}
+
+// The same of a buffer's cells, whose number the compiler then knows.
+pub fn first_illegal_in_buffer(profile: Profile, cells: &[u8]) -> usize
+    requires { ⌜ length (now cells) ≡ cellsPerBuffer (modulation profile) * 2 ⌝ }
+    ensures { λ r. ⌜ r ≡ firstIllegal (payloadRule (modulation profile)) (now (cells .entry)) ⌝ }
+{
+    match profile {
+        Profile::Qam16 => first_illegal(&cells[0..43008]),
+        Profile::Qpsk => first_flaw(&cells[0..86016]),
     }
 }

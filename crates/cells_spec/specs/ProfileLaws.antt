@@ -1,13 +1,16 @@
 -- What the code knows where it has told the profiles apart.
 -- Assumes nothing.
-use mathlib.Core.Path.{_≡_, ap, subst}
+use mathlib.Core.Path.{_≡_, ap, subst, _∙_}
 use mathlib.Core.List.{List}
-use Prim.Native.Nat.{ℕ, _*_}
+use Prim.Native.Nat.{ℕ, _*_, _≤_}
 use native.Mathlib.Omega.{arith}
+use lib.ListN.{length}
+use Rattle.bits.specs.Parts.{part}
+use Rattle.bits.specs.PartLaws.{part-whole}
 use Rattle.profile.specs.declared.Profile.{Profile}
 use Rattle.profile.specs.declared.Profile.the-variants.{Qam16, Qpsk}
 use Rattle.cells_spec.specs.Modulation.{cellsPerBuffer, buffersIn, pairsIn}
-use Rattle.cells_spec.specs.Cells.{payloadRule, Legal}
+use Rattle.cells_spec.specs.Cells.{overheadRule, payloadRule, firstIllegal, Legal}
 use Rattle.cells_spec.specs.Profiles.{qam16, qpsk, modulation}
 
 module _ (f : Profile) where
@@ -44,6 +47,33 @@ module _ (f : Profile) where
     pub first-qpsk : (q : ℕ) → q * 84 ≡ pairsIn (modulation f) q
     unfolding buffersIn qpsk
     first-qpsk q = rw is-qpsk (omega arith)
+
+-- A buffer's cells, of which the code searches the part from 0 to their number.
+module _ (f : Profile) (cells : List ℕ) (fits : length cells ≡ cellsPerBuffer (modulation f) * 2) where
+  module _ (e : f ≡ Qam16) where
+    long-qam16 : length cells ≡ 43008
+    unfolding cellsPerBuffer qam16
+    long-qam16 = rw (is-qam16 f e) at fits
+
+    pub inside-qam16 : 43008 ≤ length cells
+    inside-qam16 = omega (arith, long-qam16)
+
+    pub buffer-qam16 : (at : ℕ) → at ≡ firstIllegal overheadRule (part 0 43008 cells) → at ≡ firstIllegal (payloadRule (modulation f)) cells
+    unfolding payloadRule overheadRule qam16
+    buffer-qam16 at ea = rw (is-qam16 f e) (ea ∙ ap (firstIllegal overheadRule) (part-whole 43008 cells long-qam16))
+
+  module _ (e : f ≡ Qpsk) where
+    long-qpsk : length cells ≡ 86016
+    unfolding cellsPerBuffer qpsk
+    long-qpsk = rw (is-qpsk f e) at fits
+
+    pub inside-qpsk : 86016 ≤ length cells
+    inside-qpsk = omega (arith, long-qpsk)
+
+    pub buffer-qpsk : (at : ℕ) → at ≡ firstIllegal (payloadRule qpsk) (part 0 86016 cells) → at ≡ firstIllegal (payloadRule (modulation f)) cells
+    buffer-qpsk at ea = rw (is-qpsk f e) (ea ∙ ap (firstIllegal (payloadRule qpsk)) (part-whole 86016 cells long-qpsk))
+
+pub ruleset buffer-searched = (inside-qam16, buffer-qam16, inside-qpsk, buffer-qpsk)
 
 pub ruleset by-profile = (is-qam16, is-qpsk)
 

@@ -15,7 +15,7 @@ cells-to-bits-spec =
     (λ c κs. search kit)  -- cell-bytes-requires
     (λ c. search kit)  -- returns
     (λ c. search kit)  -- returns-2
-    (λ c κs. search kit)  -- first-illegal-payload-requires
+    (λ c κs. search kit)  -- first-illegal-in-buffer-requires
     (λ c. search kit)  -- returns-3
     (λ c κs. (search needs, search (needs, fits-of), search (needs, demap-legal)))  -- demap-requires
     (λ c. search kit)  -- same-length
