@@ -56,12 +56,13 @@ pub fn run(random: &mut Random) {
             |frames| stages.frame_all(frames::frame, frames),
             |frames| stages.frame_all(same_structure::frame, frames),
         );
+        let received = stages.received(random);
         three(
             &stages.name("unframe a super-frame"),
             (vec![0; stages.payload.len()], 0),
-            |out| stages.unframe_all(library::unframe, out),
-            |out| stages.unframe_all(frames::unframe, out),
-            |out| stages.unframe_all(same_structure::unframe, out),
+            |out| stages.unframe_all(&received, library::unframe, out),
+            |out| stages.unframe_all(&received, frames::unframe, out),
+            |out| stages.unframe_all(&received, same_structure::unframe, out),
         );
     }
 }
@@ -74,8 +75,6 @@ struct Stages {
     /// The payload cells and the overhead list of a super-frame.
     payload: Vec<u8>,
     overhead: Vec<u8>,
-    /// The frames of a super-frame with other cells.
-    received: Vec<u8>,
 }
 
 impl Stages {
@@ -86,10 +85,14 @@ impl Stages {
             cells: random.payload(profile, profile.cells_bytes()),
             payload: random.payload(profile, profile.buffers() * profile.cells_bytes()),
             overhead: random.cells(OVERHEAD_BYTES),
-            received: (0..SUBFRAMES)
-                .flat_map(|number| random.frame(profile, number))
-                .collect(),
         }
+    }
+
+    /// The frames of a super-frame with other cells, made when they are read: what lies beside the payload changes its times.
+    fn received(&self, random: &mut Random) -> Vec<u8> {
+        (0..SUBFRAMES)
+            .flat_map(|number| random.frame(self.profile, number))
+            .collect()
     }
 
     /// The name of a row.
@@ -110,11 +113,11 @@ impl Stages {
     }
 
     /// The payload of a super-frame, and how many of its overhead cells differ.
-    fn unframe_all(&self, unframe: Framing, out: &mut (Vec<u8>, u32)) {
+    fn unframe_all(&self, received: &[u8], unframe: Framing, out: &mut (Vec<u8>, u32)) {
         let (payload, differing) = out;
         let mut payload = &mut payload[..];
         *differing = 0;
-        for (number, frame) in (0..).zip(self.received.chunks(FRAME_BYTES)) {
+        for (number, frame) in (0..).zip(received.chunks(FRAME_BYTES)) {
             let own;
             (own, payload) = payload.split_at_mut(payload_bytes(number));
             let answer = unframe(self.profile, number, frame, &self.overhead, own);
@@ -182,13 +185,14 @@ pub fn beside_speed(random: &mut Random) {
                 &|frames| stages.frame_all(fast::frames::frame, frames),
             ],
         );
+        let received = stages.received(random);
         for_speed(
             &stages.name("unframe a super-frame"),
             (vec![0; stages.payload.len()], 0),
             [
-                &|out| stages.unframe_all(library::unframe, out),
-                &|out| stages.unframe_all(same_structure::unframe, out),
-                &|out| stages.unframe_all(fast::frames::unframe, out),
+                &|out| stages.unframe_all(&received, library::unframe, out),
+                &|out| stages.unframe_all(&received, same_structure::unframe, out),
+                &|out| stages.unframe_all(&received, fast::frames::unframe, out),
             ],
         );
     }

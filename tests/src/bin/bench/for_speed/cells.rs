@@ -52,7 +52,10 @@ pub fn flaw(profile: Profile, byte: u8) -> u8 {
 /// Whether any byte has a flaw.
 #[inline(always)]
 pub fn any_flaw(profile: Profile, cells: &[u8]) -> bool {
-    cells.iter().fold(0, |all, &byte| all | flaw(profile, byte)) != 0
+    match profile {
+        Profile::Qam16 => cells.iter().fold(0, |all, byte| all | byte) >= 16,
+        Profile::Qpsk => cells.iter().fold(0, |all, &byte| all | flaw(profile, byte)) != 0,
+    }
 }
 
 /// The index of the first byte with a flaw, searched only where there is one.
