@@ -83,8 +83,8 @@ impl Stages {
             profile,
             bits: random.bytes(BUFFER_BYTES),
             cells: random.payload(profile, profile.cells_bytes()),
-            payload: random.payload(profile, profile.buffers() * profile.cells_bytes()),
             overhead: random.cells(OVERHEAD_BYTES),
+            payload: random.payload(profile, profile.buffers() * profile.cells_bytes()),
         }
     }
 
