@@ -28,7 +28,7 @@
 #define OFEC_PAYLOAD_BYTES 444              /* the payload of a pair */
 #define OFEC_CODED_BYTES 512                /* a coded pair */
 #define OFEC_MARKS_BYTES 32                 /* the marks of a pair, one for each word */
-#define OFEC_HISTORY_BYTES 5120             /* the ten coded pairs before, oldest first */
+#define OFEC_HISTORY_BYTES 5128             /* a history: two numbers of 32 bits, and the ten coded pairs before */
 #define OFEC_PAIRS_BYTES 10752              /* a buffer's coded pairs of one encoder */
 #define OFEC_BITS_BYTES 21504               /* a buffer's bits */
 #define OFEC_CELLS_BYTES 43008              /* a buffer's cells in 16-QAM; in QPSK they are twice as many */
@@ -53,6 +53,7 @@
 enum ofec_refusal {
     OFEC_DONE = 0,          /* not refused */
     OFEC_MISFIT = 1,        /* a buffer does not have the stated length; a file is shorter than 16 bytes */
+    OFEC_STRAY_HISTORY = 6, /* a number in front of the history is not the call's, or the encoder is above 1 */
     OFEC_BAD_HEADER = 2,    /* a rule of the line file's header fails */
     OFEC_COUNT_SPENT = 3,   /* the pair number is 4,294,967,295, the largest */
     OFEC_NO_SUCH_FRAME = 4, /* the sub-frame number is above 47, or the file does not have that super-frame */
@@ -64,6 +65,7 @@ static inline const char *ofec_refusal_name(uint32_t refusal) {
     switch (refusal) {
     case OFEC_DONE: return "done";
     case OFEC_MISFIT: return "misfit";
+    case OFEC_STRAY_HISTORY: return "stray history";
     case OFEC_BAD_HEADER: return "bad header";
     case OFEC_COUNT_SPENT: return "count spent";
     case OFEC_NO_SUCH_FRAME: return "no such frame";
@@ -102,16 +104,26 @@ typedef struct {
  * value: the number of flips, 0 to 2; or 3 if no code word is within two flips, and then the word is unaltered. Refusal: 1. */
 ofec_outcome ofec_repair_word(uint8_t *word, size_t word_length, uint32_t front);
 
-/* Encodes a pair. payload: 444 bytes. coded: 512 bytes, written. history: 5,120 bytes, moved on by this pair; all zero at the start. pair:
- * the pair number, 0 at the start. value: the next pair number; in a refusal, the number that was passed. Refusals: 1, 3. */
+/* A history, whether an encoder's or a receiver's, is 5,128 bytes: the encoder's number, 0 or 1, and the number of the next pair, 32 bits
+ * each and most significant byte first; then the ten coded pairs before, oldest first. A fresh one has pair number 0, and zeros for the
+ * pairs. For encoder 1 it is made by
+ *
+ *     uint8_t history[OFEC_HISTORY_BYTES];
+ *     memset(history, 0, sizeof history);
+ *     history[3] = 1;
+ */
+
+/* Encodes a pair. payload: 444 bytes. coded: 512 bytes, written. history: 5,128 bytes, moved on by this pair, so that the next pair number
+ * stands in front. encoder: the encoder's number. pair: the pair number. Both must be those in front of the history. value: the next pair
+ * number; in a refusal, the number that was passed. Refusals: 1, 6, 3. */
 ofec_outcome ofec_encode_pair(const uint8_t *payload, size_t payload_length, uint8_t *coded, size_t coded_length, uint8_t *history,
-                              size_t history_length, uint32_t pair);
+                              size_t history_length, uint32_t encoder, uint32_t pair);
 
 /* Receives a pair. coded: 512 bytes. payload: 444 bytes, written. marks: 32 bytes, written, one for each word: 0 to 2 flips, or 3 for a
- * lost word. history and pair: as in ofec_encode_pair, but the receiver's own. value: the next pair number; in a refusal, the number that
- * was passed. Refusals: 1, 3. */
+ * lost word. history, encoder and pair: as in ofec_encode_pair, but the history is the receiver's own, and the encoder is the one whose
+ * pairs it receives. value: the next pair number; in a refusal, the number that was passed. Refusals: 1, 6, 3. */
 ofec_outcome ofec_receive_pair(const uint8_t *coded, size_t coded_length, uint8_t *payload, size_t payload_length, uint8_t *marks,
-                               size_t marks_length, uint8_t *history, size_t history_length, uint32_t pair);
+                               size_t marks_length, uint8_t *history, size_t history_length, uint32_t encoder, uint32_t pair);
 
 /* The line -------------------------------------------------------------------------------------------------------------------- */
 

@@ -41,7 +41,8 @@ static void repair_word(void) {
 
 /* Twelve pairs, each with one wrong bit on the line; pairs 10 and 11 have full words. */
 static void send_pairs(void) {
-    static uint8_t sent[OFEC_HISTORY_BYTES], held[OFEC_HISTORY_BYTES]; /* the histories of encoder and receiver, fresh */
+    /* The histories of encoder and receiver, both fresh and of encoder 1. */
+    static uint8_t sent[OFEC_HISTORY_BYTES] = {0, 0, 0, 1}, held[OFEC_HISTORY_BYTES] = {0, 0, 0, 1};
     uint32_t next = 0;
     unsigned flips = 0;
     for (uint32_t pair = 0; pair < 12; pair++) {
@@ -49,10 +50,10 @@ static void send_pairs(void) {
         for (size_t i = 0; i < sizeof payload; i++) {
             payload[i] = (uint8_t)(i * i + pair);
         }
-        ofec_outcome o = ofec_encode_pair(payload, sizeof payload, coded, sizeof coded, sent, sizeof sent, pair);
+        ofec_outcome o = ofec_encode_pair(payload, sizeof payload, coded, sizeof coded, sent, sizeof sent, 1, pair);
         expect(o.refusal == OFEC_DONE, "a pair encoded");
         flip(coded, 300 * pair);
-        o = ofec_receive_pair(coded, sizeof coded, received, sizeof received, marks, sizeof marks, held, sizeof held, pair);
+        o = ofec_receive_pair(coded, sizeof coded, received, sizeof received, marks, sizeof marks, held, sizeof held, 1, pair);
         expect(o.refusal == OFEC_DONE, "a pair received");
         expect(memcmp(received, payload, sizeof payload) == 0, "the payload as it was sent");
         for (size_t word = 0; word < sizeof marks; word++) {

@@ -88,7 +88,7 @@ static void structs(void) {
 
 static void constants(void) {
     EXPECT(OFEC_WORD_BYTES == 32 && OFEC_PAYLOAD_BYTES == 444 && OFEC_CODED_BYTES == 512 && OFEC_MARKS_BYTES == 32);
-    EXPECT(OFEC_HISTORY_BYTES == 10 * OFEC_CODED_BYTES && OFEC_PAIRS_BYTES == OFEC_BUFFER_PAIRS * OFEC_CODED_BYTES);
+    EXPECT(OFEC_HISTORY_BYTES == 8 + 10 * OFEC_CODED_BYTES && OFEC_PAIRS_BYTES == OFEC_BUFFER_PAIRS * OFEC_CODED_BYTES);
     EXPECT(OFEC_BITS_BYTES == 2 * OFEC_PAIRS_BYTES && OFEC_CELLS_BYTES == 2 * OFEC_BITS_BYTES);
     EXPECT(OFEC_FRAME_BYTES == 2 * 3712 && OFEC_FRAME_PAYLOAD_BYTES == 2 * 3586 && OFEC_FIRST_FRAME_PAYLOAD_BYTES == 2 * 3490);
     EXPECT(OFEC_FRAME_OVERHEAD_BYTES == 2 * 126 && OFEC_FIRST_FRAME_OVERHEAD_BYTES == 2 * 222 && OFEC_OVERHEAD_BYTES == 2 * 6144);
@@ -96,21 +96,22 @@ static void constants(void) {
     EXPECT(OFEC_SUBFRAMES == 48 && OFEC_SUPERFRAME_BYTES == OFEC_SUBFRAMES * OFEC_FRAME_BYTES && OFEC_BUFFER_PAIRS == 21);
     EXPECT(OFEC_SUPERFRAME_BUFFERS == 8 && OFEC_SUPERFRAME_PAIRS == OFEC_SUPERFRAME_BUFFERS * OFEC_BUFFER_PAIRS);
     EXPECT(OFEC_SUPERFRAME_BUFFERS * OFEC_CELLS_BYTES == OFEC_FIRST_FRAME_PAYLOAD_BYTES + 47 * OFEC_FRAME_PAYLOAD_BYTES);
-    puts("constants: the lengths and counts of the scope paper");
+    puts("constants: the lengths and counts as stated");
 }
 
 static void names(void) {
-    static const char *const table[7] = {"done", "misfit", "bad header", "count spent", "no such frame", "off grid", "no such refusal"};
+    static const char *const table[8] = {"done",          "misfit",   "bad header",    "count spent",
+                                         "no such frame", "off grid", "stray history", "no such refusal"};
     char version[32];
-    for (uint32_t number = 0; number < 7; number++) {
+    for (uint32_t number = 0; number < 8; number++) {
         EXPECT(strcmp(ofec_refusal_name(number), table[number]) == 0);
     }
-    EXPECT(strcmp(ofec_refusal_name(LAST), table[6]) == 0);
+    EXPECT(strcmp(ofec_refusal_name(LAST), table[7]) == 0);
     EXPECT(OFEC_DONE == 0 && OFEC_MISFIT == 1 && OFEC_BAD_HEADER == 2 && OFEC_COUNT_SPENT == 3 && OFEC_NO_SUCH_FRAME == 4);
-    EXPECT(OFEC_OFF_GRID == 5);
+    EXPECT(OFEC_OFF_GRID == 5 && OFEC_STRAY_HISTORY == 6);
     snprintf(version, sizeof version, "%d.%d.%d", OFEC_VERSION_MAJOR, OFEC_VERSION_MINOR, OFEC_VERSION_PATCH);
     EXPECT(strcmp(version, OFEC_VERSION) == 0);
-    puts("ofec_refusal_name: the five names, that of 0 and that of any other number; the version");
+    puts("ofec_refusal_name: the six names, that of 0 and that of any other number; the version");
 }
 
 static void repair_word(void) {
@@ -153,40 +154,97 @@ static void last_payload_bit(uint8_t *payload, uint8_t *coded) {
     coded[508] = 0x40, coded[510] = 0xe3, coded[511] = 0x7b;
 }
 
+/* The numbers in front of a history. */
+static void put_front(uint8_t *history, uint32_t encoder, uint32_t pair) {
+    put32(history, encoder);
+    put32(history + 4, pair);
+}
+
+static int front_is(const uint8_t *history, uint32_t encoder, uint32_t pair) {
+    uint8_t front[8];
+    put_front(front, encoder, pair);
+    return memcmp(history, front, 8) == 0;
+}
+
 static void encode_pair(void) {
-    static uint8_t payload[444], known[512], coded[512], history[5120], before[5120];
+    static uint8_t payload[444], known[512], coded[512], history[5129], before[5128];
     last_payload_bit(payload, known);
     fill(coded, 512, LEFT);
     for (size_t i = 0; i < 5120; i++) {
-        history[i] = before[i] = (uint8_t)(i / 512 + 1);
+        history[8 + i] = before[8 + i] = (uint8_t)(i / 512 + 1);
     }
-    /* Below pair 10 the history does not matter, and is shifted by a pair. */
-    ANSWER(ofec_encode_pair(payload, 444, coded, 512, history, 5120, 7), 0, 8, 0);
-    EXPECT(memcmp(coded, known, 512) == 0);
-    EXPECT(memcmp(history, before + 512, 4608) == 0 && memcmp(history + 4608, known, 512) == 0);
+    put_front(history, 1, 7);
+    /* Below pair 10 the pairs before do not matter, and are shifted by one. */
+    ANSWER(ofec_encode_pair(payload, 444, coded, 512, history, 5128, 1, 7), 0, 8, 0);
+    EXPECT(memcmp(coded, known, 512) == 0 && front_is(history, 1, 8));
+    EXPECT(memcmp(history + 8, before + 520, 4608) == 0 && memcmp(history + 4616, known, 512) == 0);
 
     fill(coded, 512, LEFT);
-    memcpy(before, history, 5120);
-    ANSWER(ofec_encode_pair(payload, 443, coded, 512, history, 5120, 7), 1, 7, 0);
-    ANSWER(ofec_encode_pair(payload, 444, coded, 511, history, 5120, 8), 1, 8, 0);
-    ANSWER(ofec_encode_pair(payload, 444, coded, 512, history, 5119, 9), 1, 9, 0);
-    ANSWER(ofec_encode_pair(payload, 444, coded, 512, history, 5119, LAST), 1, LAST, 0);
-    ANSWER(ofec_encode_pair(payload, 444, coded, 512, history, 5120, LAST), 3, LAST, 0);
-    EXPECT(filled(coded, 512, LEFT) && memcmp(history, before, 5120) == 0);
-    ANSWER(ofec_encode_pair(payload, 444, coded, 512, history, 5120, LAST - 1), 0, LAST, 0);
-    puts("ofec_encode_pair: a known pair, the history shifted, the next number; refusals 1 and 3");
+    memcpy(before, history, 5128);
+    ANSWER(ofec_encode_pair(payload, 443, coded, 512, history, 5128, 1, 8), 1, 8, 0);
+    ANSWER(ofec_encode_pair(payload, 444, coded, 511, history, 5128, 1, 8), 1, 8, 0);
+    ANSWER(ofec_encode_pair(payload, 444, coded, 512, history, 5127, 1, 8), 1, 8, 0);
+    ANSWER(ofec_encode_pair(payload, 444, coded, 512, history, 5129, 1, 8), 1, 8, 0);
+    ANSWER(ofec_encode_pair(payload, 444, coded, 512, history, 5120, 1, 9), 1, 9, 0);
+    ANSWER(ofec_encode_pair(payload, 444, coded, 512, history, 5120, 2, LAST), 1, LAST, 0);
+    ANSWER(ofec_encode_pair(payload, 444, coded, 512, history, 5128, 1, 7), 6, 7, 0);
+    ANSWER(ofec_encode_pair(payload, 444, coded, 512, history, 5128, 1, 9), 6, 9, 0);
+    ANSWER(ofec_encode_pair(payload, 444, coded, 512, history, 5128, 0, 8), 6, 8, 0);
+    ANSWER(ofec_encode_pair(payload, 444, coded, 512, history, 5128, 1, LAST), 6, LAST, 0);
+    ANSWER(ofec_encode_pair(payload, 444, coded, 512, history, 5128, 8, 1), 6, 1, 0);
+    EXPECT(filled(coded, 512, LEFT) && memcmp(history, before, 5128) == 0);
+    put_front(history, 2, 8);
+    ANSWER(ofec_encode_pair(payload, 444, coded, 512, history, 5128, 2, 8), 6, 8, 0);
+    put_front(history, 2, LAST);
+    ANSWER(ofec_encode_pair(payload, 444, coded, 512, history, 5128, 2, LAST), 6, LAST, 0);
+    EXPECT(filled(coded, 512, LEFT) && front_is(history, 2, LAST) && memcmp(history + 8, before + 8, 5120) == 0);
+    put_front(history, 1, 0x00ffffff);
+    for (int i = 0; i < 8; i++) {
+        history[i] ^= 2;
+        ANSWER(ofec_encode_pair(payload, 444, coded, 512, history, 5128, 1, 0x00ffffff), 6, 0x00ffffff, 0);
+        history[i] ^= 2;
+    }
+    EXPECT(filled(coded, 512, LEFT) && front_is(history, 1, 0x00ffffff) && memcmp(history + 8, before + 8, 5120) == 0);
+    ANSWER(ofec_encode_pair(payload, 444, coded, 512, history, 5128, 1, 0x00ffffff), 0, 0x01000000, 0);
+    EXPECT(front_is(history, 1, 0x01000000));
+    put_front(history, 0, LAST - 1);
+    ANSWER(ofec_encode_pair(payload, 444, coded, 512, history, 5128, 0, LAST - 1), 0, LAST, 0);
+    EXPECT(front_is(history, 0, LAST));
+    memcpy(before, history, 5128);
+    fill(coded, 512, LEFT);
+    ANSWER(ofec_encode_pair(payload, 444, coded, 512, history, 5128, 0, LAST), 3, LAST, 0);
+    ANSWER(ofec_encode_pair(payload, 444, coded, 512, history, 5128, 0, LAST - 1), 6, LAST - 1, 0);
+    EXPECT(filled(coded, 512, LEFT) && memcmp(history, before, 5128) == 0);
+    puts("ofec_encode_pair: a known pair, the history moved on with its numbers; refusals 1, 6 and 3");
+}
+
+/* The history of the header's comment. */
+static void fresh_history(void) {
+    static uint8_t payload[444], coded[512];
+    uint8_t history[OFEC_HISTORY_BYTES];
+    memset(history, 0, sizeof history);
+    history[3] = 1;
+    EXPECT(front_is(history, 1, 0) && filled(history + 8, sizeof history - 8, 0));
+    ANSWER(ofec_encode_pair(payload, 444, coded, 512, history, sizeof history, 0, 0), 6, 0, 0);
+    for (uint32_t pair = 0; pair < 12; pair++) {
+        ANSWER(ofec_encode_pair(payload, 444, coded, 512, history, sizeof history, 1, pair), 0, pair + 1, 0);
+        EXPECT(front_is(history, 1, pair + 1));
+        ANSWER(ofec_encode_pair(payload, 444, coded, 512, history, sizeof history, 1, pair), 6, pair, 0);
+    }
+    puts("a fresh history: the pairs of its encoder from 0 on, each once");
 }
 
 static void receive_pair(void) {
-    static uint8_t payload[444], known[512], coded[512], received[444], marks[32], history[5120], before[5120];
+    static uint8_t payload[444], known[512], coded[512], received[444], marks[32], history[5129], before[5128];
     last_payload_bit(payload, known);
     memcpy(coded, known, 512);
     coded[0] = 0x80;        /* word (0, 0): one flip */
     coded[16] = 0x30;       /* word (0, 1): two */
     coded[256 + 32] = 0x0e; /* word (1, 2): three, so lost */
     coded[508] ^= 0x40;     /* word (1, 15): its payload bit */
-    fill(history, 5120, 9);
-    ANSWER(ofec_receive_pair(coded, 512, received, 444, marks, 32, history, 5120, 3), 0, 4, 0);
+    fill(history, 5128, 9);
+    put_front(history, 1, 3);
+    ANSWER(ofec_receive_pair(coded, 512, received, 444, marks, 32, history, 5128, 1, 3), 0, 4, 0);
     for (int word = 0; word < 32; word++) {
         EXPECT(marks[word] == (word == 0 ? 1 : word == 1 ? 2 : word == 18 ? 3 : word == 31 ? 1 : 0));
     }
@@ -200,19 +258,49 @@ static void receive_pair(void) {
     EXPECT(memcmp(received, passed, 444) == 0);
     memcpy(kept, known, 512);
     kept[256 + 32] = 0x0e;
-    EXPECT(filled(history, 4608, 9) && memcmp(history + 4608, kept, 512) == 0);
+    EXPECT(front_is(history, 1, 4) && filled(history + 8, 4608, 9) && memcmp(history + 4616, kept, 512) == 0);
 
     fill(received, 444, LEFT);
     fill(marks, 32, LEFT);
-    memcpy(before, history, 5120);
-    ANSWER(ofec_receive_pair(coded, 511, received, 444, marks, 32, history, 5120, 5), 1, 5, 0);
-    ANSWER(ofec_receive_pair(coded, 512, received, 443, marks, 32, history, 5120, 6), 1, 6, 0);
-    ANSWER(ofec_receive_pair(coded, 512, received, 444, marks, 31, history, 5120, 7), 1, 7, 0);
-    ANSWER(ofec_receive_pair(coded, 512, received, 444, marks, 32, history, 5119, 8), 1, 8, 0);
-    ANSWER(ofec_receive_pair(coded, 512, received, 444, marks, 32, history, 5120, LAST), 3, LAST, 0);
-    EXPECT(filled(received, 444, LEFT) && filled(marks, 32, LEFT) && memcmp(history, before, 5120) == 0);
-    ANSWER(ofec_receive_pair(coded, 512, received, 444, marks, 32, history, 5120, LAST - 1), 0, LAST, 0);
-    puts("ofec_receive_pair: flips and a lost word in their places, the history shifted, the next number; refusals 1 and 3");
+    memcpy(before, history, 5128);
+    ANSWER(ofec_receive_pair(coded, 511, received, 444, marks, 32, history, 5128, 1, 4), 1, 4, 0);
+    ANSWER(ofec_receive_pair(coded, 512, received, 443, marks, 32, history, 5128, 1, 4), 1, 4, 0);
+    ANSWER(ofec_receive_pair(coded, 512, received, 444, marks, 31, history, 5128, 1, 4), 1, 4, 0);
+    ANSWER(ofec_receive_pair(coded, 512, received, 444, marks, 32, history, 5127, 1, 4), 1, 4, 0);
+    ANSWER(ofec_receive_pair(coded, 512, received, 444, marks, 32, history, 5129, 1, 4), 1, 4, 0);
+    ANSWER(ofec_receive_pair(coded, 512, received, 444, marks, 32, history, 5120, 1, 5), 1, 5, 0);
+    ANSWER(ofec_receive_pair(coded, 512, received, 444, marks, 32, history, 5120, 2, LAST), 1, LAST, 0);
+    ANSWER(ofec_receive_pair(coded, 512, received, 444, marks, 32, history, 5128, 1, 3), 6, 3, 0);
+    ANSWER(ofec_receive_pair(coded, 512, received, 444, marks, 32, history, 5128, 1, 5), 6, 5, 0);
+    ANSWER(ofec_receive_pair(coded, 512, received, 444, marks, 32, history, 5128, 0, 4), 6, 4, 0);
+    ANSWER(ofec_receive_pair(coded, 512, received, 444, marks, 32, history, 5128, 1, LAST), 6, LAST, 0);
+    ANSWER(ofec_receive_pair(coded, 512, received, 444, marks, 32, history, 5128, 4, 1), 6, 1, 0);
+    EXPECT(filled(received, 444, LEFT) && filled(marks, 32, LEFT) && memcmp(history, before, 5128) == 0);
+    put_front(history, 2, 4);
+    ANSWER(ofec_receive_pair(coded, 512, received, 444, marks, 32, history, 5128, 2, 4), 6, 4, 0);
+    put_front(history, 2, LAST);
+    ANSWER(ofec_receive_pair(coded, 512, received, 444, marks, 32, history, 5128, 2, LAST), 6, LAST, 0);
+    EXPECT(filled(received, 444, LEFT) && filled(marks, 32, LEFT));
+    EXPECT(front_is(history, 2, LAST) && memcmp(history + 8, before + 8, 5120) == 0);
+    put_front(history, 1, 0x00ffffff);
+    for (int i = 0; i < 8; i++) {
+        history[i] ^= 2;
+        ANSWER(ofec_receive_pair(coded, 512, received, 444, marks, 32, history, 5128, 1, 0x00ffffff), 6, 0x00ffffff, 0);
+        history[i] ^= 2;
+    }
+    EXPECT(filled(received, 444, LEFT) && front_is(history, 1, 0x00ffffff) && memcmp(history + 8, before + 8, 5120) == 0);
+    ANSWER(ofec_receive_pair(coded, 512, received, 444, marks, 32, history, 5128, 1, 0x00ffffff), 0, 0x01000000, 0);
+    EXPECT(front_is(history, 1, 0x01000000));
+    put_front(history, 0, LAST - 1);
+    ANSWER(ofec_receive_pair(coded, 512, received, 444, marks, 32, history, 5128, 0, LAST - 1), 0, LAST, 0);
+    EXPECT(front_is(history, 0, LAST));
+    fill(received, 444, LEFT);
+    fill(marks, 32, LEFT);
+    memcpy(before, history, 5128);
+    ANSWER(ofec_receive_pair(coded, 512, received, 444, marks, 32, history, 5128, 0, LAST), 3, LAST, 0);
+    ANSWER(ofec_receive_pair(coded, 512, received, 444, marks, 32, history, 5128, 0, LAST - 1), 6, LAST - 1, 0);
+    EXPECT(filled(received, 444, LEFT) && filled(marks, 32, LEFT) && memcmp(history, before, 5128) == 0);
+    puts("ofec_receive_pair: flips and a lost word in their places, the history moved on with its numbers; refusals 1, 6 and 3");
 }
 
 /* A bit of a pair's bytes: row R counted in the buffer, block C, bit row r, column c. */
@@ -472,6 +560,7 @@ int main(void) {
     names();
     repair_word();
     encode_pair();
+    fresh_history();
     receive_pair();
     interleaver();
     cells();

@@ -10,6 +10,8 @@ pub const COUNT_SPENT: u32 = 3;
 pub const NO_SUCH_FRAME: u32 = 4;
 /// Refusal 5: an illegal byte in cells that the call reads.
 pub const OFF_GRID: u32 = 5;
+/// Refusal 6: a number in front of the history is not the call's, or the encoder is above 1.
+pub const STRAY_HISTORY: u32 = 6;
 
 /// As `ofec_outcome`.
 #[derive(Debug, PartialEq, Eq, Clone, Copy)]

@@ -1,16 +1,23 @@
 //! Rows and pairs: bits V(R, C, r, c) and the words through them, over whatever history is lent.
 //! A pair is completed and repaired word by word, by long division and by the trial of every flip.
+//! A history is the pairs held, and in front of them the numbers of their encoder and of the next pair.
 
 use std::sync::LazyLock;
 
 use crate::bits;
-use crate::outcome::{Outcome, COUNT_SPENT, MISFIT};
+use crate::outcome::{Outcome, COUNT_SPENT, MISFIT, STRAY_HISTORY};
 use crate::word::{self, Trial, Word, BACK, FREE_BITS, LOST};
 
 pub const PAYLOAD_BYTES: usize = 444;
 pub const PAIR_BYTES: usize = 512;
 /// Ten pairs, oldest first.
-pub const HISTORY_BYTES: usize = 5_120;
+pub const HELD_BYTES: usize = 5_120;
+/// Two numbers of 32 bits.
+pub const FRONT_BYTES: usize = 8;
+/// The two numbers, and behind them the ten pairs.
+pub const HISTORY_BYTES: usize = 5_128;
+/// The numbers that an encoder may have.
+pub const ENCODERS: [u32; 2] = [0, 1];
 /// Words of a pair, each with its mark.
 pub const MARKS: usize = 32;
 /// Bit rows of a row, each the back half of one word.
@@ -19,6 +26,47 @@ pub const BIT_ROWS: usize = 16;
 pub const FIRST_FULL_ROW: i64 = 20;
 /// The pair number that is refused.
 pub const SPENT: u32 = 4_294_967_295;
+
+/// An encoder, and its next pair: what stands in front of a history, and what a call names.
+#[derive(Debug, PartialEq, Eq, Clone, Copy)]
+pub struct Numbers {
+    pub encoder: u32,
+    pub pair: u32,
+}
+
+impl Numbers {
+    /// Those in front of a history.
+    pub fn of(history: &[u8]) -> Self {
+        let [encoder, pair] = [0, 4].map(|from| {
+            let bytes = history[from..from + 4].try_into().expect("four bytes");
+            u32::from_be_bytes(bytes)
+        });
+        Numbers { encoder, pair }
+    }
+
+    pub fn to_bytes(self) -> [u8; FRONT_BYTES] {
+        let both = u64::from(self.encoder) << 32 | u64::from(self.pair);
+        both.to_be_bytes()
+    }
+
+    /// The history with these numbers and these pairs.
+    pub fn history(self, held: &[u8]) -> Vec<u8> {
+        [&self.to_bytes(), held].concat()
+    }
+
+    /// After the call of this pair.
+    pub fn next(self) -> Self {
+        Numbers {
+            pair: self.pair + 1,
+            ..self
+        }
+    }
+}
+
+/// The history of an encoder or a receiver before its first pair.
+pub fn fresh(encoder: u32) -> Vec<u8> {
+    Numbers { encoder, pair: 0 }.history(&[0; HELD_BYTES])
+}
 
 /// Where a bit V(R, C, r, c) stands.
 #[derive(Debug, PartialEq, Eq, Clone, Copy)]
@@ -59,30 +107,31 @@ pub fn rows_of(pair: u32) -> [i64; 2] {
     [2 * i64::from(pair), 2 * i64::from(pair) + 1]
 }
 
-/// The rows that a pair can reach: the twenty of its history, and then its own two.
+/// The rows that a pair can reach: the twenty held, and then its own two.
 pub struct Window {
     pair: u32,
     bytes: Vec<u8>,
 }
 
 impl Window {
-    pub fn new(history: &[u8], own: &[u8], pair: u32) -> Self {
+    pub fn new(held: &[u8], own: &[u8], pair: u32) -> Self {
+        assert_eq!([held.len(), own.len()], [HELD_BYTES, PAIR_BYTES]);
         Window {
             pair,
-            bytes: [history, own].concat(),
+            bytes: [held, own].concat(),
         }
     }
 
-    pub fn history(&self) -> &[u8] {
-        &self.bytes[..HISTORY_BYTES]
+    pub fn held(&self) -> &[u8] {
+        &self.bytes[..HELD_BYTES]
     }
 
     pub fn own(&self) -> &[u8] {
-        &self.bytes[HISTORY_BYTES..]
+        &self.bytes[HELD_BYTES..]
     }
 
-    /// The history of the next pair: the oldest pair is dropped.
-    pub fn next_history(&self) -> &[u8] {
+    /// Those held by the next pair: the oldest is dropped.
+    pub fn next_held(&self) -> &[u8] {
         &self.bytes[PAIR_BYTES..]
     }
 
@@ -118,16 +167,34 @@ impl Window {
     }
 }
 
+/// Why the call that names these numbers is refused, if it is.
+fn refusal(fits: bool, history: &[u8], named: Numbers) -> Option<u32> {
+    if !fits {
+        Some(MISFIT)
+    } else if Numbers::of(history) != named || !ENCODERS.contains(&named.encoder) {
+        Some(STRAY_HISTORY)
+    } else if named.pair == SPENT {
+        Some(COUNT_SPENT)
+    } else {
+        None
+    }
+}
+
 /// As `ofec_encode_pair`.
-pub fn encode_pair(payload: &[u8], coded: &mut [u8], history: &mut [u8], pair: u32) -> Outcome {
+pub fn encode_pair(
+    payload: &[u8],
+    coded: &mut [u8],
+    history: &mut [u8],
+    encoder: u32,
+    pair: u32,
+) -> Outcome {
     let lengths = [payload.len(), coded.len(), history.len()];
-    if lengths != [PAYLOAD_BYTES, PAIR_BYTES, HISTORY_BYTES] {
-        return Outcome::refused_pair(MISFIT, pair);
+    let fits = lengths == [PAYLOAD_BYTES, PAIR_BYTES, HISTORY_BYTES];
+    let numbers = Numbers { encoder, pair };
+    if let Some(refusal) = refusal(fits, history, numbers) {
+        return Outcome::refused_pair(refusal, pair);
     }
-    if pair == SPENT {
-        return Outcome::refused_pair(COUNT_SPENT, pair);
-    }
-    let mut window = Window::new(history, &[0; PAIR_BYTES], pair);
+    let mut window = Window::new(&history[FRONT_BYTES..], &[0; PAIR_BYTES], pair);
     for row in rows_of(pair) {
         for r in 0..BIT_ROWS {
             let free: [bool; FREE_BITS] = std::array::from_fn(|k| {
@@ -141,7 +208,7 @@ pub fn encode_pair(payload: &[u8], coded: &mut [u8], history: &mut [u8], pair: u
         }
     }
     coded.copy_from_slice(window.own());
-    history.copy_from_slice(window.next_history());
+    history.copy_from_slice(&numbers.next().history(window.next_held()));
     Outcome::accepted(pair + 1)
 }
 
@@ -151,16 +218,16 @@ pub fn receive_pair(
     payload: &mut [u8],
     marks: &mut [u8],
     history: &mut [u8],
+    encoder: u32,
     pair: u32,
 ) -> Outcome {
     let lengths = [coded.len(), payload.len(), marks.len(), history.len()];
-    if lengths != [PAIR_BYTES, PAYLOAD_BYTES, MARKS, HISTORY_BYTES] {
-        return Outcome::refused_pair(MISFIT, pair);
+    let fits = lengths == [PAIR_BYTES, PAYLOAD_BYTES, MARKS, HISTORY_BYTES];
+    let numbers = Numbers { encoder, pair };
+    if let Some(refusal) = refusal(fits, history, numbers) {
+        return Outcome::refused_pair(refusal, pair);
     }
-    if pair == SPENT {
-        return Outcome::refused_pair(COUNT_SPENT, pair);
-    }
-    let mut window = Window::new(history, coded, pair);
+    let mut window = Window::new(&history[FRONT_BYTES..], coded, pair);
     let mut mark = marks.iter_mut();
     for row in rows_of(pair) {
         for r in 0..BIT_ROWS {
@@ -173,7 +240,7 @@ pub fn receive_pair(
             }
         }
     }
-    history.copy_from_slice(window.next_history());
+    history.copy_from_slice(&numbers.next().history(window.next_held()));
     Outcome::accepted(pair + 1)
 }
 

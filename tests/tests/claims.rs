@@ -2,6 +2,7 @@
 //! of a sound run, each reported as the claim that it breaks. Pairs are received alike in both profiles, so
 //! faults of a receiver are shown in one, and those of the line's calls in both.
 
+use std::panic::{catch_unwind, UnwindSafe};
 use std::sync::LazyLock;
 
 use ofec_tests::bits;
@@ -19,11 +20,17 @@ use ofec_tests::frames::OVERHEAD_BYTES;
 use ofec_tests::outcome::{Outcome, COUNT_SPENT, MISFIT};
 use ofec_tests::profile::Profile;
 use ofec_tests::random::Random;
-use ofec_tests::rows::{payload_bit, Window, FIRST_FULL_ROW, HISTORY_BYTES, MARKS, PAIR_BYTES};
+use ofec_tests::rows::{
+    self, payload_bit, Numbers, Window, FIRST_FULL_ROW, FRONT_BYTES, HISTORY_BYTES, MARKS,
+    PAIR_BYTES,
+};
+use ofec_tests::stand_ins;
 use ofec_tests::word::{self, BACK, FREE_BITS, WORD_BITS, WORD_BYTES};
 
 /// Pairs that each receiver takes.
 const TAKEN: usize = 30;
+/// Bits in front of the pairs of a history.
+const FRONT_BITS: usize = 8 * FRONT_BYTES;
 
 /// A run of one super-frame through the library, with up to three wrong bits in many of its words.
 struct Sound {
@@ -233,7 +240,7 @@ fn assert_flips_found(
 fn flipped_bit_of_the_newest_pair_of_a_history() {
     let out = (Out::History, "histories");
     assert_flips_found(out, [128, 238, 239, 255], WORD_BITS, |received, word, k| {
-        let newest = 8 * HISTORY_BYTES * word.pair() + 9 * PAIR_BITS;
+        let newest = 8 * HISTORY_BYTES * word.pair() + FRONT_BITS + 9 * PAIR_BITS;
         let in_pair = index(word.bit(k)) % PAIR_BITS;
         bits::flip(&mut received.histories, newest + in_pair);
     });
@@ -256,7 +263,7 @@ fn flipped_bit_of_an_older_pair_of_a_history() {
     for k in BACK..WORD_BITS {
         let place = word.bit(k);
         let mut received = SOUND.received[0].clone();
-        let oldest = 8 * HISTORY_BYTES * pair;
+        let oldest = 8 * HISTORY_BYTES * pair + FRONT_BITS;
         let in_history = index(place) - PAIR_BITS * (pair - 9);
         bits::flip(&mut received.histories, oldest + in_history);
         let reader = in_front(place).filter(|word| word.pair() == pair + 1);
@@ -275,6 +282,41 @@ fn flipped_bit_of_an_older_pair_of_a_history() {
         assert_eq!(stage(0, &received), "histories");
     }
     assert!(read > 0);
+}
+
+/// The claims are about bits of pairs: the comparison of histories tells.
+#[test]
+fn flipped_bit_in_front_of_a_history() {
+    for receiver in [0, 1] {
+        for (pair, bit) in [(0, 0), (0, 31), (9, 32), (10, 55), (29, 63)] {
+            let mut received = SOUND.received[receiver].clone();
+            let at = 8 * HISTORY_BYTES * pair + bit;
+            bits::flip(&mut received.histories, at);
+            assert_eq!(breaches(receiver, &received), []);
+            let found = received.difference(&SOUND.received[receiver]);
+            let expected = Difference {
+                stage: "histories",
+                index: at / 8,
+            };
+            assert_eq!(found, Some(expected));
+        }
+    }
+}
+
+/// Every history that was returned shows its encoder and the number of the next pair.
+#[test]
+fn numbers_in_front_of_the_histories_of_a_sound_run() {
+    for sound in both() {
+        let sent = sound.sent_by(LIBRARY);
+        for (encoder, sent) in (0..).zip(&sent.histories) {
+            let received = &sound.received[encoder as usize].histories;
+            for (histories, pairs) in [(sent, sound.profile.pairs()), (received, TAKEN)] {
+                let fronts = histories.chunks(HISTORY_BYTES).map(Numbers::of);
+                let next = (1..=pairs as u32).map(|pair| Numbers { encoder, pair });
+                assert!(fronts.eq(next));
+            }
+        }
+    }
 }
 
 /// Both receivers of the sound run, with another receiving call.
@@ -341,8 +383,13 @@ fn receivers_crossed() {
 type Written<'a> = [&'a mut [u8]; 3];
 
 /// Passes every back half as received, with this mark.
-fn pass(mark: u8, coded: &[u8], [payload, marks, history]: Written, pair: u32) -> Outcome {
-    let outcome = (LIBRARY.receive_pair)(coded, payload, marks, history, pair);
+fn pass(
+    mark: u8,
+    coded: &[u8],
+    [payload, marks, history]: Written,
+    Numbers { encoder, pair }: Numbers,
+) -> Outcome {
+    let outcome = (LIBRARY.receive_pair)(coded, payload, marks, history, encoder, pair);
     if outcome.refusal == 0 {
         marks.fill(mark);
         history[HISTORY_BYTES - PAIR_BYTES..].copy_from_slice(coded);
@@ -358,25 +405,31 @@ fn pass(mark: u8, coded: &[u8], [payload, marks, history]: Written, pair: u32) -
 
 #[test]
 fn repairers_that_01_shuts_out() {
-    let all_lost = received_by(|coded, payload, marks, history, pair| {
-        pass(3, coded, [payload, marks, history], pair)
+    let all_lost = received_by(|coded, payload, marks, history, encoder, pair| {
+        let named = Numbers { encoder, pair };
+        pass(3, coded, [payload, marks, history], named)
     });
     assert_kinds(&all_lost, &["lost"]);
 
-    let zero_word = received_by(|coded, payload, marks, history, pair| {
+    let zero_word = received_by(|coded, payload, marks, history, encoder, pair| {
         let zero = vec![0; coded.len()];
-        pass(0, &zero, [payload, marks, history], pair)
+        let named = Numbers { encoder, pair };
+        pass(0, &zero, [payload, marks, history], named)
     });
     assert_kinds(&zero_word, &["right bit changed", "wrong bit left", "mark"]);
 
-    let handed_through = received_by(|coded, payload, marks, history, pair| {
-        pass(0, coded, [payload, marks, history], pair)
+    let handed_through = received_by(|coded, payload, marks, history, encoder, pair| {
+        let named = Numbers { encoder, pair };
+        pass(0, coded, [payload, marks, history], named)
     });
     assert_kinds(&handed_through, &["wrong bit left", "mark"]);
 
-    let first_pair_only = received_by(|coded, payload, marks, history, pair| match pair {
-        0 => (LIBRARY.receive_pair)(coded, payload, marks, history, pair),
-        _ => pass(0, coded, [payload, marks, history], pair),
+    let first_pair_only = received_by(|coded, payload, marks, history, encoder, pair| match pair {
+        0 => (LIBRARY.receive_pair)(coded, payload, marks, history, encoder, pair),
+        _ => {
+            let named = Numbers { encoder, pair };
+            pass(0, coded, [payload, marks, history], named)
+        }
     });
     assert_kinds(&first_pair_only, &["wrong bit left", "mark"]);
     for receiver in [0, 1] {
@@ -392,8 +445,8 @@ fn repairers_that_01_shuts_out() {
 
 #[test]
 fn receivers_with_a_fault_of_their_own() {
-    let no_mark = received_by(|coded, payload, marks, history, pair| {
-        let outcome = (LIBRARY.receive_pair)(coded, payload, marks, history, pair);
+    let no_mark = received_by(|coded, payload, marks, history, encoder, pair| {
+        let outcome = (LIBRARY.receive_pair)(coded, payload, marks, history, encoder, pair);
         if outcome.refusal == 0 {
             let lost = |mark: u8| if mark == 3 { 3 } else { 0 };
             marks.iter_mut().for_each(|mark| *mark = lost(*mark));
@@ -402,8 +455,8 @@ fn receivers_with_a_fault_of_their_own() {
     });
     assert_kinds(&no_mark, &["mark"]);
 
-    let never_lost = received_by(|coded, payload, marks, history, pair| {
-        let outcome = (LIBRARY.receive_pair)(coded, payload, marks, history, pair);
+    let never_lost = received_by(|coded, payload, marks, history, encoder, pair| {
+        let outcome = (LIBRARY.receive_pair)(coded, payload, marks, history, encoder, pair);
         if outcome.refusal == 0 {
             marks.iter_mut().for_each(|mark| *mark = (*mark).min(2));
         }
@@ -412,23 +465,25 @@ fn receivers_with_a_fault_of_their_own() {
     assert_kinds(&never_lost, &["wrong bit left", "mark"]);
 
     // Only the newest pair is kept.
-    let forgetful = received_by(|coded, payload, marks, history, pair| {
-        let outcome = (LIBRARY.receive_pair)(coded, payload, marks, history, pair);
+    let forgetful = received_by(|coded, payload, marks, history, encoder, pair| {
+        let outcome = (LIBRARY.receive_pair)(coded, payload, marks, history, encoder, pair);
         if outcome.refusal == 0 {
-            history[..HISTORY_BYTES - PAIR_BYTES].fill(0);
+            history[FRONT_BYTES..HISTORY_BYTES - PAIR_BYTES].fill(0);
         }
         outcome
     });
     assert_forgetful(&forgetful);
 
     // Each pair is received as if it were the first.
-    let always_fresh = received_by(|coded, payload, marks, history, pair| {
+    let always_fresh = received_by(|coded, payload, marks, history, encoder, pair| {
         let before = history.to_vec();
-        let outcome = (LIBRARY.receive_pair)(coded, payload, marks, history, pair);
+        let outcome = (LIBRARY.receive_pair)(coded, payload, marks, history, encoder, pair);
         if outcome.refusal == 0 {
-            let mut fresh = vec![0; HISTORY_BYTES];
-            (LIBRARY.receive_pair)(coded, payload, marks, &mut fresh, 0);
-            history.copy_from_slice(&[&before[PAIR_BYTES..], &fresh[9 * PAIR_BYTES..]].concat());
+            let mut fresh = rows::fresh(encoder);
+            (LIBRARY.receive_pair)(coded, payload, marks, &mut fresh, encoder, 0);
+            let [before, fresh] = [before, fresh].map(|history| history[FRONT_BYTES..].to_vec());
+            let held = [&before[PAIR_BYTES..], &fresh[9 * PAIR_BYTES..]].concat();
+            history[FRONT_BYTES..].copy_from_slice(&held);
         }
         outcome
     });
@@ -462,7 +517,7 @@ fn repaired(
     word: Name,
     before_repair: fn(&mut [u8; WORD_BYTES]),
 ) -> (word::Word, u32, word::Word) {
-    let window = Window::new(history, coded, word.pair() as u32);
+    let window = Window::new(&history[FRONT_BYTES..], coded, word.pair() as u32);
     let held = std::array::from_fn(|k| k >= word.first() && window.get(word.bit(k)));
     let mut bytes = word::to_bytes(&held);
     before_repair(&mut bytes);
@@ -475,9 +530,9 @@ fn repaired(
 fn received_words(
     coded: &[u8],
     [payload, marks, history]: Written,
-    pair: u32,
+    Numbers { encoder, pair }: Numbers,
 ) -> (Outcome, Vec<Name>) {
-    let outcome = (LIBRARY.receive_pair)(coded, payload, marks, history, pair);
+    let outcome = (LIBRARY.receive_pair)(coded, payload, marks, history, encoder, pair);
     let words = match outcome.refusal {
         0 => words_of(pair as usize).to_vec(),
         _ => vec![],
@@ -487,9 +542,10 @@ fn received_words(
 
 #[test]
 fn receiver_that_ignores_bit_255() {
-    let received = received_by(|coded, payload, marks, history, pair| {
+    let received = received_by(|coded, payload, marks, history, encoder, pair| {
         let before = history.to_vec();
-        let (outcome, words) = received_words(coded, [payload, marks, history], pair);
+        let named = Numbers { encoder, pair };
+        let (outcome, words) = received_words(coded, [payload, marks, history], named);
         for word in words {
             // A word whose parity alone speaks against it.
             let flip_255 = |bytes: &mut [u8; WORD_BYTES]| bits::flip(bytes, 255);
@@ -498,7 +554,7 @@ fn receiver_that_ignores_bit_255() {
                 marks[word.in_pair()] = mark as u8;
                 for (k, &bit) in after.iter().enumerate().skip(BACK) {
                     let in_pair = index(word.bit(k)) % PAIR_BITS;
-                    bits::set(history, 9 * PAIR_BITS + in_pair, bit);
+                    bits::set(history, FRONT_BITS + 9 * PAIR_BITS + in_pair, bit);
                     if k < FREE_BITS {
                         let number = payload_bit(word.row % 2, word.r, k - BACK) as usize;
                         bits::set(payload, number, bit);
@@ -517,16 +573,18 @@ fn receiver_that_ignores_bit_255() {
 /// A front bit is met once and no claim reads it again: the comparison of histories tells.
 #[test]
 fn receiver_that_stores_front_flips() {
-    let received = received_by(|coded, payload, marks, history, pair| {
+    let received = received_by(|coded, payload, marks, history, encoder, pair| {
         let before = history.to_vec();
-        let (outcome, words) = received_words(coded, [payload, marks, history], pair);
+        let named = Numbers { encoder, pair };
+        let (outcome, words) = received_words(coded, [payload, marks, history], named);
         for word in words {
             let (held, _, after) = repaired(coded, &before, word, |_| {});
             for k in (word.first()..BACK).filter(|&k| held[k] != after[k]) {
                 let place = word.bit(k);
                 // Not in the oldest pair, which has been dropped.
                 if let Ok(held) = usize::try_from(place.row / 2 + 9 - i64::from(pair)) {
-                    bits::flip(history, held * PAIR_BITS + index(place) % PAIR_BITS);
+                    let in_held = held * PAIR_BITS + index(place) % PAIR_BITS;
+                    bits::flip(history, FRONT_BITS + in_held);
                 }
             }
         }
@@ -588,11 +646,11 @@ fn senders_with_a_fault_of_their_own() {
         };
 
         let gives_zeros = Calls {
-            encode_pair: |payload, coded, history, pair| {
-                let outcome = (LIBRARY.encode_pair)(payload, coded, history, pair);
+            encode_pair: |payload, coded, history, encoder, pair| {
+                let outcome = (LIBRARY.encode_pair)(payload, coded, history, encoder, pair);
                 if outcome.refusal == 0 {
                     coded.fill(0);
-                    history.fill(0);
+                    history[FRONT_BYTES..].fill(0);
                 }
                 outcome
             },
@@ -603,10 +661,11 @@ fn senders_with_a_fault_of_their_own() {
         }
 
         let always_fresh = Calls {
-            encode_pair: |payload, coded, history, pair| {
-                let outcome = (LIBRARY.encode_pair)(payload, coded, history, pair);
+            encode_pair: |payload, coded, history, encoder, pair| {
+                let outcome = (LIBRARY.encode_pair)(payload, coded, history, encoder, pair);
                 if outcome.refusal == 0 {
-                    (LIBRARY.encode_pair)(payload, coded, &mut [0; HISTORY_BYTES], 0);
+                    let mut fresh = rows::fresh(encoder);
+                    (LIBRARY.encode_pair)(payload, coded, &mut fresh, encoder, 0);
                 }
                 outcome
             },
@@ -727,8 +786,8 @@ fn takers_with_a_fault_of_their_own() {
 #[should_panic(expected = "a refused call wrote to buffer 2")]
 fn encoder_that_touches_the_history_of_a_refused_call() {
     SOUND.sent_by(Calls {
-        encode_pair: |payload, coded, history, pair| {
-            let outcome = (LIBRARY.encode_pair)(payload, coded, history, pair);
+        encode_pair: |payload, coded, history, encoder, pair| {
+            let outcome = (LIBRARY.encode_pair)(payload, coded, history, encoder, pair);
             if outcome.refusal == COUNT_SPENT {
                 history[HISTORY_BYTES - 1] ^= 1;
             }
@@ -741,13 +800,85 @@ fn encoder_that_touches_the_history_of_a_refused_call() {
 #[test]
 #[should_panic(expected = "answer of a call to be refused")]
 fn receiver_that_names_another_refusal() {
-    received_by(|coded, payload, marks, history, pair| {
-        let outcome = (LIBRARY.receive_pair)(coded, payload, marks, history, pair);
+    received_by(|coded, payload, marks, history, encoder, pair| {
+        let outcome = (LIBRARY.receive_pair)(coded, payload, marks, history, encoder, pair);
         match outcome.refusal {
             COUNT_SPENT => Outcome::refused_pair(MISFIT, pair),
             _ => outcome,
         }
     });
+}
+
+/// What a run that must not end well says at its end.
+fn ends_with(run: impl FnOnce() + UnwindSafe) -> String {
+    let panicked = catch_unwind(run).expect_err("a run that ends well");
+    let message = panicked.downcast_ref::<String>();
+    message.expect("a message").clone()
+}
+
+/// Each is found in a whole run, by an accepted call's answer or history or by a refused call's answer or
+/// buffers.
+#[test]
+fn stand_ins_with_a_slip_about_the_history() {
+    const ANSWER: &str = "answer of a call to be refused";
+    const HISTORY: &str = "numbers in front of a history moved on";
+    const WRITTEN: &str = "a refused call wrote to buffer";
+    for (slip, calls) in stand_ins::all() {
+        let expected: &[&str] = match slip {
+            "6 tested after 3" => &[ANSWER],
+            "encoder 2 accepted" => &[ANSWER],
+            "next number not stored" => &[HISTORY],
+            // Encoder 1 has no call that is accepted, and encoder 0 one.
+            "least significant byte first" => &[HISTORY, "answer of a call to be accepted", ANSWER],
+            "a refused call stores its number" => &[WRITTEN],
+            "the encoder in front not read" => &[ANSWER],
+            "the pair number in front not read" => &[ANSWER],
+            "a history without a front taken" => &[ANSWER],
+            // Whole runs seldom name a number that differs in its upper half alone; single calls do.
+            "the number cut to 16 bits" => continue,
+            "pairs taken from byte 0" => {
+                assert_found_in_pairs(calls);
+                continue;
+            }
+            _ => panic!("{slip}"),
+        };
+        let sent = ends_with(|| {
+            SOUND.sent_by(calls);
+        });
+        let received = ends_with(|| {
+            all_received_by(calls);
+        });
+        for end in [sent, received] {
+            assert!(
+                expected.iter().any(|part| end.contains(part)),
+                "{slip}: {end}"
+            );
+        }
+    }
+}
+
+/// Both receivers take all pairs of the sound run.
+fn all_received_by(calls: Calls) -> [Received; 2] {
+    let pairs = SOUND.pairs.each_ref().map(|pairs| &pairs[..]);
+    let all = [SOUND.profile.pairs(); 2];
+    receive(&calls, pairs, all, &mut Random::new(20_900))
+}
+
+/// The history's bytes differ from the first pair on, and the pairs from the first one with full words.
+fn assert_found_in_pairs(calls: Calls) {
+    let sent = SOUND.sent_by(calls);
+    let found = sent
+        .difference(&SOUND.sent_by(LIBRARY))
+        .expect("a difference");
+    assert_eq!(found.stage, "coded pairs of encoder 0");
+    for found in SOUND.frame_breaches(&sent.frames) {
+        assert!(matches!(found[0], Breach::Frame { place, .. } if place.row >= FIRST_FULL_ROW));
+    }
+    let received = received_by(calls.receive_pair);
+    for (receiver, received) in received.iter().enumerate() {
+        assert!(!breaches(receiver, received).is_empty());
+        assert!(received.difference(&SOUND.received[receiver]).is_some());
+    }
 }
 
 /// Unframing by the rule of the other profile lets levels of -3 and 3 pass.

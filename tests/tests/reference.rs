@@ -6,7 +6,9 @@ use ofec_tests::frames::{self, SUBFRAMES, SUBFRAME_CELLS};
 use ofec_tests::interleaver::{source, BUFFER_BITS, PAIRS_BYTES};
 use ofec_tests::profile::{Profile, PROFILES};
 use ofec_tests::random::Random;
-use ofec_tests::rows::{self, Place, BIT_ROWS, FIRST_FULL_ROW};
+use ofec_tests::rows::{
+    self, Numbers, Place, BIT_ROWS, FIRST_FULL_ROW, HELD_BYTES, HISTORY_BYTES, PAIR_BYTES,
+};
 use ofec_tests::word::{self, Trial, Word, BACK, FREE_BITS, GENERATOR, WORD_BITS};
 
 #[test]
@@ -90,6 +92,25 @@ fn payload_bits_of_a_pair_are_3552_in_a_row() {
         let first = 3552 * i64::from(pair);
         assert!(numbers.into_iter().eq(first..first + 3552));
     }
+}
+
+#[test]
+fn numbers_in_front_of_a_history_have_their_most_significant_byte_first() {
+    let numbers = Numbers {
+        encoder: 0x0102_0304,
+        pair: 0x8090_a0b0,
+    };
+    let bytes = [1, 2, 3, 4, 0x80, 0x90, 0xa0, 0xb0];
+    assert_eq!(numbers.to_bytes(), bytes);
+    let history = numbers.history(&[7; HELD_BYTES]);
+    assert_eq!(Numbers::of(&history), numbers);
+    assert_eq!(history, [&bytes[..], &[7; 10 * PAIR_BYTES]].concat());
+    assert_eq!(history.len(), HISTORY_BYTES);
+
+    let mut fresh = [0; HISTORY_BYTES];
+    assert_eq!(rows::fresh(0), fresh);
+    fresh[3] = 1;
+    assert_eq!(rows::fresh(1), fresh);
 }
 
 #[test]

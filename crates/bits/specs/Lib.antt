@@ -17,6 +17,8 @@ pub mod Least
 pub mod LeastLaws
 pub mod Parts
 pub mod PartLaws
+pub mod Numbers32
+pub mod Numbers32Laws
 pub mod Filling
 pub mod Folding
 pub mod Seeking

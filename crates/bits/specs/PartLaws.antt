@@ -6,7 +6,7 @@ use Prim.Native.Nat.{ℕ, suc, _+_, _-_, _*_, _/_, _%_, _<_, _≤_}
 use native.Mathlib.Nat.{suc-mul, mul-le-mul-right}
 use native.Mathlib.Omega.{arith}
 use lib.ListN.{length, getD, drop, length-drop}
-use lib.Seq.{ext-getD, length-take-le, getD-take, getD-drop}
+use lib.Seq.{ext-getD, length-take-le, getD-take, getD-drop, take-all}
 use Rattle.bits.specs.DigitLaws.{group-of, place-of, group-lt}
 use Rattle.bits.specs.Lists.{tabulate}
 use Rattle.bits.specs.ListLaws.{length-tabulate, getD-tabulate, is-tabulate, tabulate-ext}
@@ -27,6 +27,10 @@ part-whole n s e =
     let fits : 0 + n ≤ length s = omega arith in
     ext-getD 0 (part 0 n s) s (part-length 0 n s fits ∙ sym e)
     (λ i l. part-at 0 n s fits i (omega (arith, part-length 0 n s fits)) ∙ ap (λ k. getD s k 0) (omega arith))
+
+-- All from byte a on, as code lends it.
+pub part-behind : (a : ℕ) (s : List ℕ) → part a (length s - a) s ≡ drop a s
+part-behind a s = take-all (length s - a) (drop a s) (omega (arith, length-drop a s))
 
 -- The part from a to e, as code lends it.
 pub part-long : (a e n : ℕ) (s : List ℕ) → e ≡ a + n → e ≤ length s → length (part a (e - a) s) ≡ n

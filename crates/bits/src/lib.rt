@@ -1,5 +1,7 @@
 // Bits of byte buffers, most significant bit first: functions, definitions and laws. At the bottom, with `calls`; every crate above uses
 // it.
+pub mod numbers;
+
 ghost use mathlib.Core.Path.{_≡_};
 ghost use Prim.Native.Nat.{_*_, _<_};
 ghost use lib.ListN.{length};

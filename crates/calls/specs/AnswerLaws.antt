@@ -4,7 +4,7 @@ use Prim.Native.Nat.{ℕ}
 use mathlib.Core.Path.{_≡_, refl, ap, _∙_}
 use native.Mathlib.Omega.{arith}
 use Rattle.calls.specs.declared.Refusal.{Refusal}
-use Rattle.calls.specs.declared.Refusal.the-variants.{Misfit, BadHeader, CountSpent, NoSuchFrame, OffGrid}
+use Rattle.calls.specs.declared.Refusal.the-variants.{Misfit, BadHeader, CountSpent, NoSuchFrame, OffGrid, StrayHistory}
 use Rattle.calls.specs.declared.Answer.{Answer}
 use Rattle.calls.specs.declared.Answer.the-variants.{Done, Refused}
 use Rattle.calls.specs.Answers.{refusalOf, valueOr, Accepted, TurnedBack}
@@ -16,6 +16,7 @@ refused-turned BadHeader e = omega arith
 refused-turned CountSpent e = omega arith
 refused-turned NoSuchFrame e = omega arith
 refused-turned (OffGrid i) e = omega arith
+refused-turned StrayHistory e = omega arith
 
 -- An answer whose number is 0 is done.
 pub accepted-done : (a : Answer) → Accepted a → (v : ℕ) × (a ≡ Done v)

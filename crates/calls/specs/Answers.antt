@@ -1,20 +1,21 @@
--- What a call answers, in the numbers of 01, "Turned-back calls".
+-- What a call answers, in the numbers of 01, "Turned-back calls", and of 02.
 -- Assumes nothing.
 use Prim.Native.Nat.{ℕ}
 use mathlib.Core.Path.{_≡_}
 use mathlib.Core.Logic.{_≢_}
 use Rattle.calls.specs.declared.Refusal.{Refusal}
-use Rattle.calls.specs.declared.Refusal.the-variants.{Misfit, BadHeader, CountSpent, NoSuchFrame, OffGrid}
+use Rattle.calls.specs.declared.Refusal.the-variants.{Misfit, BadHeader, CountSpent, NoSuchFrame, OffGrid, StrayHistory}
 use Rattle.calls.specs.declared.Answer.{Answer}
 use Rattle.calls.specs.declared.Answer.the-variants.{Done, Refused}
 
--- 01's table: No. 1 misfit, 2 bad header, 3 count spent, 4 no such frame, 5 off grid.
+-- 01's table: No. 1 misfit, 2 bad header, 3 count spent, 4 no such frame, 5 off grid. 02, E2: "Number 6, stray history".
 abbrev pub numberOf : Refusal → ℕ
 numberOf Misfit = 1
 numberOf BadHeader = 2
 numberOf CountSpent = 3
 numberOf NoSuchFrame = 4
 numberOf (OffGrid i) = 5
+numberOf StrayHistory = 6
 
 -- "No. 5 also returns the byte index in the buffer where it first occurs, the others 0."
 abbrev pub placeOf : Refusal → ℕ
@@ -23,6 +24,7 @@ placeOf BadHeader = 0
 placeOf CountSpent = 0
 placeOf NoSuchFrame = 0
 placeOf (OffGrid i) = i
+placeOf StrayHistory = 0
 
 -- An answer's refusal number, 0 where the call was done.
 abbrev pub refusalOf : Answer → ℕ

@@ -1,7 +1,7 @@
 -- Laws of calls: the tests one by one, what a refused call leaves, what an accepted one is.
 -- Assumes nothing.
 use mathlib.Core.Path.{_≡_, refl, sym, ap, _∙_}
-use mathlib.Core.Bool.{Bool, true, false, cond, not}
+use mathlib.Core.Bool.{Bool, true, false, cond, not, _||_, true≢false}
 use mathlib.Core.List.{List, [], _∷_, _++_}
 use mathlib.Core.Logic.{_≢_}
 use Prim.Native.Nat.{ℕ, _<_, _≤_}
@@ -9,12 +9,12 @@ use borrow.Author.Tests.{eq-eqb, ne-eqb, lt-ltb, le-ltb, le-leb, lt-leb, eqb-tru
 use lib.Dec.{eqb, ltb, leb}
 use lib.ListN.{length}
 use Rattle.calls.specs.declared.Refusal.{Refusal}
-use Rattle.calls.specs.declared.Refusal.the-variants.{Misfit, BadHeader, CountSpent, NoSuchFrame, OffGrid}
+use Rattle.calls.specs.declared.Refusal.the-variants.{Misfit, BadHeader, CountSpent, NoSuchFrame, OffGrid, StrayHistory}
 use Rattle.calls.specs.declared.Answer.{Answer}
 use Rattle.calls.specs.declared.Answer.the-variants.{Done, Refused}
 use Rattle.calls.specs.Answers.{refusalOf, Accepted, TurnedBack}
 use Rattle.calls.specs.AnswerLaws.{refused-turned}
-use Rattle.calls.specs.Calls.{After, after, Test, misfit, shortFile, badHeader, countSpent, noSubFrame, noSuperFrame, offGrid}
+use Rattle.calls.specs.Calls.{After, after, Test, misfit, shortFile, badHeader, countSpent, noSubFrame, noSuperFrame, offGrid, strayHistory}
 use Rattle.calls.specs.Calls.{verdict, ends, call}
 
 -- ---- the answer, test by test
@@ -27,6 +27,49 @@ module _ (t : Test) (ts : List Test) where
   pub test-passes : (a : Answer) → t .refuses ≡ false → a ≡ verdict ts → a ≡ verdict (t ∷ ts)
   unfolding verdict
   test-passes a e f = f ∙ simp e
+
+-- Whether a history is stray, as code finds it: by the encoder x in its front, by the pair number y there, and then by whether the
+-- encoder is above 1.
+module _ (e′ P′ e P x : ℕ) (ex : x ≡ e′) where
+  pub stray-encoder : x ≢ e → true ≡ strayHistory e′ P′ e P .refuses
+  unfolding strayHistory
+  stray-encoder h = rw (sym ex) (sym (simp (ne-eqb _ _ h)))
+
+  module _ (same : x ≡ e) (y : ℕ) (ey : y ≡ P′) where
+    pub stray-pair : y ≢ P → true ≡ strayHistory e′ P′ e P .refuses
+    unfolding strayHistory
+    stray-pair h = rw (sym ex, sym ey) (sym (simp (eq-eqb _ _ same, ne-eqb _ _ h)))
+
+    pub stray-above : y ≡ P → ltb 1 e ≡ strayHistory e′ P′ e P .refuses
+    unfolding strayHistory
+    stray-above h = rw (sym ex, sym ey) (sym (simp (eq-eqb _ _ same, eq-eqb _ _ h)))
+
+pub ruleset stray-cases = (stray-encoder, stray-pair, stray-above)
+
+-- What the front of a history shows that is not stray.
+pub record Own (e′ P′ e P : ℕ) : Type 0 where
+  pub encoder : e′ ≡ e
+  pub pair : P′ ≡ P
+  pub known : e ≤ 1
+
+own-passes : (e′ P′ e P : ℕ) → Own e′ P′ e P → strayHistory e′ P′ e P .refuses ≡ false
+unfolding strayHistory
+own-passes e′ P′ e P o = simp (eq-eqb _ _ (o .encoder), eq-eqb _ _ (o .pair), le-ltb _ _ (o .known))
+
+either-false : (s t : Bool) → (s || t) ≡ false → (s ≡ false) × (t ≡ false)
+either-false true t h = absurd (true≢false h)
+either-false false t h = (refl, h)
+
+pub own-told : (e′ P′ e P : ℕ) → strayHistory e′ P′ e P .refuses ≡ false → Own e′ P′ e P
+unfolding strayHistory
+own-told e′ P′ e P h =
+    let r = either-false _ _ h in
+    let s = either-false _ _ (r .0) in
+    record { encoder = eqb-true _ _ (not-false _ (s .0)); pair = eqb-true _ _ (not-false _ (s .1)); known = ltb-false _ _ (r .1) }
+
+-- Where b says whether the history is stray.
+pub own-found : (e′ P′ e P : ℕ) (b : Bool) → b ≡ strayHistory e′ P′ e P .refuses → b ≡ false → Own e′ P′ e P
+own-found e′ P′ e P b is h = own-told e′ P′ e P (sym is ∙ h)
 
 pub none-left : Done 0 ≡ verdict []
 unfolding verdict
@@ -108,6 +151,15 @@ module _ (ts : List Test) where
     unfolding offGrid
     on-grid a h = test-passes (offGrid index at n) ts a (le-ltb _ _ h)
 
+  module _ (e′ P′ e P : ℕ) where
+    pub is-stray : (b : Bool) → b ≡ strayHistory e′ P′ e P .refuses → b ≡ true → Refused StrayHistory ≡ verdict (strayHistory e′ P′ e P ∷ ts)
+    unfolding strayHistory
+    is-stray b is h = test-refuses (strayHistory e′ P′ e P) ts (sym is ∙ h)
+
+    pub own : (a : Answer) → Own e′ P′ e P → a ≡ verdict ts → a ≡ verdict (strayHistory e′ P′ e P ∷ ts)
+    unfolding strayHistory
+    own a o = test-passes (strayHistory e′ P′ e P) ts a (own-passes e′ P′ e P o)
+
 -- What is made of a test's outcome is made of each of the two.
 pub by-test : {A B : Type 0} (f : A → B) (t : Bool) (x y : A) → f (cond t x y) ≡ cond t (f x) (f y)
 by-test f true x y = refl
@@ -158,11 +210,14 @@ pub ruleset tests = (
   super-frame,
   is-off-grid,
   on-grid,
+  own,
   first-refused,
   first-passed,
 )
 
 pub ruleset misfit-of = (is-misfit-of, no-misfit-of, fits-of)
+
+pub ruleset stray-of = (is-stray, own-found)
 
 pub ruleset cases = (tests, call-refused, call-done)
 
@@ -207,7 +262,7 @@ pub has-super-frame : (q n : ℕ) → noSuperFrame q n .refuses ≡ false → q 
 unfolding noSuperFrame
 has-super-frame q n e = leb-false _ _ e
 
-pub ruleset told = (fits, long-file, rules-kept, unspent, has-sub-frame, has-super-frame)
+pub ruleset told = (fits, long-file, rules-kept, unspent, has-sub-frame, has-super-frame, own-told)
 
 module _ {B : Type 0} (ts : List Test) (lent : B) (done : After B) where
   -- An accepted call passed every test, and is done.

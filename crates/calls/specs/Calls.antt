@@ -1,13 +1,13 @@
 -- A call: its tests in the order of 01's table, what it does where none refuses, and what stands after it. Every call of the code
 -- layer and of the line layer is defined by these words.
 -- Assumes nothing.
-use mathlib.Core.Bool.{Bool, cond, not}
+use mathlib.Core.Bool.{Bool, cond, not, _||_}
 use mathlib.Core.List.{List, [], _∷_}
 use Prim.Native.Nat.{ℕ}
 use lib.Dec.{eqb, ltb, leb}
 use lib.ListN.{length}
 use Rattle.calls.specs.declared.Refusal.{Refusal}
-use Rattle.calls.specs.declared.Refusal.the-variants.{Misfit, BadHeader, CountSpent, NoSuchFrame, OffGrid}
+use Rattle.calls.specs.declared.Refusal.the-variants.{Misfit, BadHeader, CountSpent, NoSuchFrame, OffGrid, StrayHistory}
 use Rattle.calls.specs.declared.Answer.{Answer}
 use Rattle.calls.specs.declared.Answer.the-variants.{Done, Refused}
 
@@ -27,7 +27,7 @@ pub record Test : Type 0 where
 abbrev pub refuse : Refusal → Bool → Test
 refuse r t = record { refusal = r; refuses = t }
 
--- ---- the tests of 01's table
+-- ---- the tests of 01's table and of 02
 
 -- No. 1, misfit: "a lent buffer is not of the stated length (a file: under 16 bytes)".
 unfoldable pub misfit : List ℕ → ℕ → Test
@@ -55,6 +55,11 @@ noSuperFrame q n = refuse NoSuchFrame (leb n q)
 -- their buffer.
 unfoldable pub offGrid : ℕ → ℕ → ℕ → Test
 offGrid index at n = refuse (OffGrid index) (ltb at n)
+
+-- 02, E2, No. 6, stray history: "given if either front number differs from the call's or the encoder is above 1". The history's front
+-- shows e′ and P′, and the call names encoder e and pair P. It is "tested directly after 1".
+unfoldable pub strayHistory : ℕ → ℕ → ℕ → ℕ → Test
+strayHistory e′ P′ e P = refuse StrayHistory (not (eqb e′ e) || not (eqb P′ P) || ltb 1 e)
 
 -- ---- a call
 

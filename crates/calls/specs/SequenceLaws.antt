@@ -8,7 +8,7 @@ use native.Mathlib.Omega.{arith}
 use native.Mathlib.Decide.{ℕ-discrete}
 use borrow.Author.Tests.{eq-eqb, ne-eqb}
 use lib.ListN.{length, getD}
-use Rattle.calls.specs.Sequences.{At, here, later, Part, not-lent, was-lent, Kind, Run, done, takes, refused, accepted, Keeping}
+use Rattle.calls.specs.Sequences.{At, here, later, Part, not-lent, was-lent, Kind, Run, done, takes, refused, accepted, Numbered, Keeping}
 
 -- ---- places of a list
 
@@ -81,27 +81,38 @@ module _ (K : Kind) where
 
   -- ---- what each accepted call is lent
 
-  -- Where `at` gives the state before each accepted call from the one before, each is lent what `at` says.
-  abbrev pub Follows : (ℕ → K .State) → List (K .Call) → Type 0
-  Follows at cs = (i : ℕ) (c : K .Call) → At (accepted K cs) i c → K .lent c ≡ at i → K .left c ≡ at (suc i)
+  -- Holds i is said of the state before accepted call i, and goes on from each accepted call to the next.
+  abbrev pub Follows : (ℕ → K .State → Type 0) → List (K .Call) → Type 0
+  Follows Holds cs = (i : ℕ) (c : K .Call) → At (accepted K cs) i c → Holds i (K .lent c) → Holds (suc i) (K .left c)
 
-  first-or-later : (at : ℕ → K .State) (d : K .Call) (ds : List (K .Call)) → K .lent d ≡ at 0
-      → ((j : ℕ) (x : K .Call) → At ds j x → K .lent x ≡ at (suc j)) → {i : ℕ} {c : K .Call} → At (d ∷ ds) i c → K .lent c ≡ at i
-  first-or-later at d ds e rest here = e
-  first-or-later at d ds e rest (later b) = rest _ _ b
+  first-or-later : (Holds : ℕ → K .State → Type 0) (d : K .Call) (ds : List (K .Call)) → Holds 0 (K .lent d)
+      → ((j : ℕ) (x : K .Call) → At ds j x → Holds (suc j) (K .lent x)) → {i : ℕ} {c : K .Call} → At (d ∷ ds) i c → Holds i (K .lent c)
+  first-or-later Holds d ds e rest here = e
+  first-or-later Holds d ds e rest (later b) = rest _ _ b
 
-  pub lent-at : Keeping K → (at : ℕ → K .State) {s t : K .State} {cs : List (K .Call)} → Run K s cs t → s ≡ at 0 → Follows at cs
-      → (i : ℕ) (c : K .Call) → At (accepted K cs) i c → K .lent c ≡ at i
+  -- So it holds of what each accepted call is lent.
+  pub holds-at : Keeping K → (Holds : ℕ → K .State → Type 0) {s t : K .State} {cs : List (K .Call)} → Run K s cs t → Holds 0 s → Follows Holds cs
+      → (i : ℕ) (c : K .Call) → At (accepted K cs) i c → Holds i (K .lent c)
   unfolding accepted
-  lent-at keeps at done e f i c a = absurd (At-nil a)
-  lent-at keeps at (takes {c = d} {cs = ds} ok p r) e f i c a =
-      first-or-later at d (accepted K ds) (p ∙ e)
-      (lent-at keeps (λ n. at (suc n)) r (f 0 d (subst (λ l. At l 0 d) (sym (accepted-yes d ds ok)) here) (p ∙ e))
+  holds-at keeps Holds done e f i c a = absurd (At-nil a)
+  holds-at keeps Holds (takes {c = d} {cs = ds} ok p r) e f i c a =
+      let now : Holds 0 (K .lent d) = subst (Holds 0) (sym p) e in
+      first-or-later Holds d (accepted K ds) now
+      (holds-at keeps (λ n. Holds (suc n)) r (f 0 d (subst (λ l. At l 0 d) (sym (accepted-yes d ds ok)) here) now)
       (λ j x b. f (suc j) x (subst (λ l. At l (suc j) x) (sym (accepted-yes d ds ok)) (later b))))
       (subst (λ l. At l i c) (accepted-yes d ds ok) a)
-  lent-at keeps at (refused {s} {u} {c = d} {cs = ds} bad p r) e f i c a =
-      lent-at keeps at r (keeps d bad s u p ∙ e) (λ j x b. f j x (subst (λ l. At l j x) (sym (accepted-no d ds bad)) b)) i c
+  holds-at keeps Holds (refused {s} {u} {c = d} {cs = ds} bad p r) e f i c a =
+      holds-at keeps Holds r (subst (Holds 0) (sym (keeps d bad s u p)) e) (λ j x b. f j x (subst (λ l. At l j x) (sym (accepted-no d ds bad)) b)) i c
       (subst (λ l. At l i c) (accepted-no d ds bad) a)
+
+  -- THE LAW of numbers: where accepted calls name what the state shows that they are lent, and leave one that shows the next pair number,
+  -- from a state that shows encoder e and pair 0 they are e's pairs 0, 1, 2 and on.
+  pub numbered : Keeping K → (encoder pair : K .Call → ℕ) (Shows : ℕ → ℕ → K .State → Type 0)
+      → ((c : K .Call) → K .number c ≡ 0 → (e P : ℕ) → Shows e P (K .lent c) → (encoder c ≡ e) × (pair c ≡ P))
+      → ((c : K .Call) → K .number c ≡ 0 → (e P : ℕ) → Shows e P (K .lent c) → Shows e (suc P) (K .left c))
+      → (e : ℕ) {s t : K .State} → Shows e 0 s → (cs : List (K .Call)) → Run K s cs t → Numbered K encoder pair e cs
+  numbered keeps encoder pair Shows names next e fresh cs run P c a =
+      names c (is-accepted cs a) e P (holds-at keeps (Shows e) run fresh (λ i d b. next d (is-accepted cs b) e i) P c a)
 
 -- ---- the same calls seen as two kinds
 

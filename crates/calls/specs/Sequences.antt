@@ -1,6 +1,6 @@
 -- Lists of calls that hand a state on, refused calls among them. 01, "Whole runs": "Each accepted call gets the history and
 -- pair number that the accepted call before it returned, and nobody else writes them meanwhile. Refused calls, whatever they
--- are lent, may stand anywhere in a list and leave both as they were."
+-- are lent, may stand anywhere in a list and leave both as they were." Since 02, E2, the pair number is part of the history.
 -- Assumes nothing.
 use mathlib.Core.Path.{_≡_}
 use mathlib.Core.List.{List, [], _∷_}
@@ -43,6 +43,10 @@ module _ (K : Kind) where
   unfoldable pub accepted : List (K .Call) → List (K .Call)
   accepted [] = []
   accepted (c ∷ cs) = cond (eqb (K .number c) 0) (c ∷ accepted cs) (accepted cs)
+
+  -- 02, E2: "the accepted calls are that encoder's pairs 0, 1, 2 and on": each names encoder e, and accepted call P, from 0 on, pair P.
+  abbrev pub Numbered : (K .Call → ℕ) → (K .Call → ℕ) → ℕ → List (K .Call) → Type 0
+  Numbered encoder pair e cs = (P : ℕ) (c : K .Call) → At (accepted cs) P c → (encoder c ≡ e) × (pair c ≡ P)
 
   -- What each kind of calls must show: a refused call leaves the state as it was, and may be lent nothing of it.
   abbrev pub Keeping : Type 0

@@ -1,4 +1,4 @@
-// What every call answers, and the refusals of 01, "Turned-back calls". At the bottom, with `bits`; every crate of calls uses it.
+// What every call answers, and the refusals of 01, "Turned-back calls", and of 02. At the bottom, with `bits`; every crate of calls uses it.
 ghost use mathlib.Core.Path.{_≡_};
 ghost use Rattle.calls.specs.Answers.{refusalOf, indexOf, valueOr};
 
@@ -14,6 +14,8 @@ pub enum Refusal {
     NoSuchFrame,
     // An illegal byte in cells that the call reads, at this index of its buffer.
     OffGrid(usize),
+    // The history's front shows another encoder or pair number than the call names, or the encoder is above 1.
+    StrayHistory,
 }
 
 // Done, with the call's number where it gives one and 0 otherwise; or refused.
@@ -34,6 +36,7 @@ pub fn refusal_of(a: Answer) -> u32
             Refusal::CountSpent => 3,
             Refusal::NoSuchFrame => 4,
             Refusal::OffGrid(_) => 5,
+            Refusal::StrayHistory => 6,
         },
     }
 }
@@ -50,6 +53,7 @@ pub fn index_of(a: Answer) -> usize
             Refusal::BadHeader => 0,
             Refusal::CountSpent => 0,
             Refusal::NoSuchFrame => 0,
+            Refusal::StrayHistory => 0,
         },
     }
 }

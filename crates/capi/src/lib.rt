@@ -57,11 +57,13 @@ pub extern "C" fn ofec_encode_pair(
     payload: &[u8],
     coded: &mut [u8],
     history: &mut [u8],
+    encoder: u32,
     pair: u32,
 ) -> Outcome
-    ensures { λ r. ⌜ exported r (encodeBuffers (now (coded .exit)) (now (history .exit))) ≡ inNumbers pair (encodeCall (now (payload .entry)) (now (coded .entry)) (now (history .entry)) pair) ⌝ }
+    ensures { λ r. ⌜ exported r (encodeBuffers (now (coded .exit)) (now (history .exit))) ≡ inNumbers pair (encodeCall (now (payload .entry)) (now (coded .entry)) (now (history .entry)) encoder pair) ⌝ }
 {
-    outcome_of(pair::encode_pair(payload, coded, history, pair), pair)
+    let encoded = pair::encode_pair(payload, coded, history, encoder, pair);
+    outcome_of(encoded, pair)
 }
 
 // Receives a pair. value: the next pair number, or the one lent in a refusal.
@@ -71,14 +73,13 @@ pub extern "C" fn ofec_receive_pair(
     payload: &mut [u8],
     marks: &mut [u8],
     history: &mut [u8],
+    encoder: u32,
     pair: u32,
 ) -> Outcome
-    ensures { λ r. ⌜ exported r (receiveBuffers (now (payload .exit)) (now (marks .exit)) (now (history .exit))) ≡ inNumbers pair (receiveCall (now (coded .entry)) (now (payload .entry)) (now (marks .entry)) (now (history .entry)) pair) ⌝ }
+    ensures { λ r. ⌜ exported r (receiveBuffers (now (payload .exit)) (now (marks .exit)) (now (history .exit))) ≡ inNumbers pair (receiveCall (now (coded .entry)) (now (payload .entry)) (now (marks .entry)) (now (history .entry)) encoder pair) ⌝ }
 {
-    outcome_of(
-        pair::receive_pair(coded, payload, marks, history, pair),
-        pair,
-    )
+    let received = pair::receive_pair(coded, payload, marks, history, encoder, pair);
+    outcome_of(received, pair)
 }
 
 // Interleaves a buffer: 21 pairs of each encoder.

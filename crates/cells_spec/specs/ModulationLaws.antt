@@ -2,12 +2,13 @@
 -- Assumes nothing.
 use mathlib.Core.Path.{_≡_, refl, sym, subst, _∙_}
 use mathlib.Core.Bool.{false}
-use Prim.Native.Nat.{ℕ, _*_, _/_, _^_, _<_}
+use Prim.Native.Nat.{ℕ, _+_, _*_, _/_, _^_, _<_}
+use native.Mathlib.Nat.{add-mul}
 use native.Mathlib.Omega.{arith}
 use lib.Dec.{lit<}
 use Rattle.bits.specs.LeastLaws.{least-pair}
 use Rattle.bits.specs.DigitLaws.{factor-pos}
-use Rattle.cells_spec.specs.Modulation.{Modulation, symbolOf, cellsPerBuffer}
+use Rattle.cells_spec.specs.Modulation.{Modulation, symbolOf, cellsPerBuffer, buffersIn, pairsIn}
 
 module _ (p : Modulation) where
   -- ---- sizes
@@ -21,6 +22,15 @@ module _ (p : Modulation) where
 
   pub cells-pos : 0 < cellsPerBuffer p
   cells-pos = factor-pos (cellsPerBuffer p) (p .bits) 172032 buffer-whole (lit< tt)
+
+  -- The pairs of no super-frame, and of one more.
+  pub pairs-none : pairsIn p 0 ≡ 0
+  unfolding buffersIn
+  pairs-none = omega arith
+
+  pub pairs-after : (q P n : ℕ) → P ≡ pairsIn p q → n ≡ p .bits * 21 → P + n ≡ pairsIn p (q + 1)
+  unfolding buffersIn
+  pairs-after q P n eP en = omega (arith, eP, en, add-mul q 1 (p .bits))
 
   -- ---- a symbol and its cell
 

@@ -5,14 +5,14 @@ use mathlib.Core.List.{List, map}
 use Prim.Native.Nat.{ℕ, _*_, _/_, _<_}
 use Rattle.calls.specs.Answers.{Accepted}
 use Rattle.calls.specs.Calls.{After}
-use Rattle.calls.specs.Sequences.{At, accepted}
+use Rattle.calls.specs.Sequences.{At, accepted, Numbered}
 use Rattle.calls.specs.SequenceLaws.{at-mapped, mirror-accepted}
 use Rattle.pair_spec.specs.History.{depth}
 use Rattle.pair_spec.specs.Calls.{receive}
 use Rattle.pair_spec.specs.Promise.{Promise}
 use Rattle.interleaver_spec.specs.Calls.{PairBuffers}
 use Rattle.cells_spec.specs.Modulation.{Modulation, buffersIn}
-use Rattle.line_spec.specs.Sides.{Side}
+use Rattle.line_spec.specs.Sides.{Side, encoder}
 use Rattle.line_spec.specs.Line.{lineBit}
 use Rattle.line_spec.specs.Outward.{codedPairs, interleaving, mapping, framing}
 use Rattle.line_spec.specs.Inward.{unframing, demapping, parting}
@@ -21,7 +21,7 @@ use Rattle.line_spec.specs.Theorem.{demand3}
 use Rattle.capi.specs.declared.Outcome.{Outcome}
 use Rattle.capi.specs.Exports.{Exported, exported, inNumbers}
 use Rattle.clients_spec.specs.Runs.{EncodeCall, EncodeCalls, ReceiveCall, ReceiveCalls, Sends, Receives}
-use Rattle.clients_spec.specs.RunLaws.{lentReceiving, receive-mirrors, exported-payload, exported-marks, exported-receive-history}
+use Rattle.clients_spec.specs.RunLaws.{lentEncoding, encode-mirrors, lentReceiving, receive-mirrors, exported-payload, exported-marks, exported-receive-history}
 use Rattle.clients_spec.specs.RunLaws.{coded-as-left, outward, sentBits, inward}
 
 -- ---- what is claimed
@@ -53,6 +53,9 @@ pub record Meets (p : Modulation) (s : Sends p) (t : Receives p (s .superframes)
       → Leaves o left (demapping p (s .superframes) (t .received) b)
   pub parted : (b : ℕ) → b < buffersIn p (s .superframes) → (o : Outcome) (left : PairBuffers)
       → Leaves o left (parting p (s .superframes) (t .received) b)
+  -- The accepted calls are their encoder's pairs 0, 1, 2 and on.
+  pub encodes-numbered : (e : Side) → Numbered EncodeCalls (λ c. c .lent .encoder) (λ c. c .lent .pair) (encoder e) (s .calls e)
+  pub receives-numbered : (e : Side) → Numbered ReceiveCalls (λ c. c .lent .encoder) (λ c. c .lent .pair) (encoder e) (t .calls e)
   -- Each word of each accepted receiving call.
   pub words : (e : Side) (P : ℕ) (c : ReceiveCall) → At (accepted ReceiveCalls (t .calls e)) P c → (R r : ℕ) → R / 2 ≡ P → r < 16
       → WordAsPromised p s t e c R r
@@ -75,6 +78,10 @@ meets p s t =
       unframed = λ f l o left. seen (unframing p (s .superframes) (t .received) f) (whole .comes .unframed f l);
       demapped = λ b l o left. seen (demapping p (s .superframes) (t .received) b) (whole .comes .demapped b l);
       parted = λ b l o left. seen (parting p (s .superframes) (t .received) b) (whole .comes .parted b l);
+      encodes-numbered = λ e P c a.
+          whole .goes .numbered e P (c .lent) (subst (λ l. At l P (c .lent)) (sym (mirror-accepted encode-mirrors (s .calls e))) (at-mapped lentEncoding a));
+      receives-numbered = λ e P c a.
+          whole .comes .numbered e P (c .lent) (subst (λ l. At l P (c .lent)) (sym (mirror-accepted receive-mirrors (t .calls e))) (at-mapped lentReceiving a));
       words = λ e P c a R r is lr.
           record {
             promise =

@@ -8,7 +8,7 @@ use lib.ListN.{length, length-map}
 use Rattle.calls.specs.Sequences.{At, Part, accepted}
 use Rattle.calls.specs.SequenceLaws.{mapped-at, Mirrors, mirror-run, mirror-accepted}
 use Rattle.pair_spec.specs.SentLaws.{madeBits, sent-exists}
-use Rattle.pair_spec.specs.Calls.{EncodeBuffers, ReceiveBuffers, state, Encoding, encode, Encodings, Receiving, receive, Receivings}
+use Rattle.pair_spec.specs.Calls.{EncodeBuffers, ReceiveBuffers, Encoding, encode, Encodings, Receiving, receive, Receivings}
 use Rattle.pair_spec.specs.Calls.{payloads}
 use Rattle.pair_spec.specs.Rows.{RowBits}
 use Rattle.pair_spec.specs.Promise.{Limit}
@@ -72,12 +72,10 @@ encode-mirrors =
     record {
       numbers = λ c. sym (ap (λ (o : Outcome). o .refusal) (encode-outcome c));
       lent = λ c. refl;
-      left = λ c. ap₂ state (sym (exported-encode-history c)) (sym (ap (λ (o : Outcome). o .value) (encode-outcome c)));
-      becomes = λ c s t (h, n). (
-        subst (λ (l : List (List ℕ)). Part (c .lent .payload ∷ c .lent .coded ∷ c .lent .history ∷ []) l (s .history) (t .history))
-            (ap₂ (λ x y. c .lent .payload ∷ x ∷ y ∷ []) (exported-coded c) (exported-encode-history c)) h,
-        subst (λ (o : Outcome). Part (c .lent .pair ∷ []) (o .value ∷ []) (s .pair) (t .pair)) (encode-outcome c) n,
-      );
+      left = λ c. sym (exported-encode-history c);
+      becomes = λ c s t.
+          subst (λ (l : List (List ℕ)). Part (c .lent .payload ∷ c .lent .coded ∷ c .lent .history ∷ []) l s t)
+          (ap₂ (λ x y. c .lent .payload ∷ x ∷ y ∷ []) (exported-coded c) (exported-encode-history c));
     }
 
 pub receive-mirrors : Mirrors ReceiveCalls Receivings lentReceiving (λ s. s)
@@ -85,12 +83,10 @@ receive-mirrors =
     record {
       numbers = λ c. sym (ap (λ (o : Outcome). o .refusal) (receive-outcome c));
       lent = λ c. refl;
-      left = λ c. ap₂ state (sym (exported-receive-history c)) (sym (ap (λ (o : Outcome). o .value) (receive-outcome c)));
-      becomes = λ c s t (h, n). (
-        subst (λ (l : List (List ℕ)). Part (c .lent .coded ∷ c .lent .payload ∷ c .lent .marks ∷ c .lent .history ∷ []) (c .lent .coded ∷ l) (s .history) (t .history))
-            (ap₂ (λ x (l : List (List ℕ)). x ∷ l) (exported-payload c) (ap₂ (λ x y. x ∷ y ∷ []) (exported-marks c) (exported-receive-history c))) h,
-        subst (λ (o : Outcome). Part (c .lent .pair ∷ []) (o .value ∷ []) (s .pair) (t .pair)) (receive-outcome c) n,
-      );
+      left = λ c. sym (exported-receive-history c);
+      becomes = λ c s t.
+          subst (λ (l : List (List ℕ)). Part (c .lent .coded ∷ c .lent .payload ∷ c .lent .marks ∷ c .lent .history ∷ []) (c .lent .coded ∷ l) s t)
+          (ap₂ (λ x (l : List (List ℕ)). x ∷ l) (exported-payload c) (ap₂ (λ x y. x ∷ y ∷ []) (exported-marks c) (exported-receive-history c)));
     }
 
 -- ---- demand 3 of the exported functions

@@ -1,8 +1,8 @@
-// The call that writes the header of a line file (01, "Line file"). Over `header_core`, by the definitions of `line_file_spec`; `line_file`
-// gives it out with the others.
+// The call that writes the header of a line file (01, "Line file"). By the definitions of `line_file_spec`; `line_file` gives it
+// out with the others.
+use bits::numbers::put_numbers;
 use calls::Answer;
 use calls::Refusal;
-use header_core::writing::put_numbers;
 ghost use mathlib.Core.Path.{_≡_};
 ghost use Rattle.calls.specs.Calls.{after};
 ghost use Rattle.line_file_spec.specs.Writing.{writeCall};
@@ -20,6 +20,7 @@ pub fn write_header(superframes: u32, header: &mut [u8]) -> Answer
     if 64 < superframes {
         return Answer::Refused(Refusal::BadHeader);
     }
-    put_numbers(superframes, 16, 12304, 12304 + 356352 * superframes, header);
+    let numbers = [superframes, 16, 12304, 12304 + 356352 * superframes];
+    put_numbers(&numbers, header);
     Answer::Done(0)
 }

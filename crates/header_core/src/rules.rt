@@ -1,27 +1,12 @@
 // The rules of the header, in one worker over the first sixteen bytes and the length of a file.
+use bits::numbers::number;
 use calls::Answer;
 use calls::Refusal;
 use line_file_spec::Header;
 ghost use mathlib.Core.Path.{_≡_};
-ghost use Prim.Native.Nat.{_+_, _*_, _^_, _<_, _≤_};
-ghost use lib.ListN.{length, getD};
-ghost use Rattle.line_file_spec.specs.Header.{headerNumber as header·number, rulesHold, refusedHeader as header·refused, judged};
-
-// The two bytes from i on as a number.
-fn two_bytes(first: &[u8], i: usize) -> usize
-    requires { ⌜ i + 1 < length (now first) ⌝ }
-    ensures { λ r. ⌜ (r ≡ getD (now (first .entry)) i 0 * 256 + getD (now (first .entry)) (i + 1) 0) × (r < 65536) ⌝ }
-{
-    bits::widen(first[i]) * 256 + bits::widen(first[i + 1])
-}
-
-// Number k of a header, 0 to 3.
-pub fn number(first: &[u8], k: usize) -> usize
-    requires { ⌜ (k < 4) × (16 ≤ length (now first)) ⌝ }
-    ensures { λ r. ⌜ (r ≡ header·number (now (first .entry)) k) × (r < 2 ^ 32) ⌝ }
-{
-    two_bytes(first, 4 * k) * 65536 + two_bytes(first, 4 * k + 2)
-}
+ghost use Prim.Native.Nat.{_^_, _<_, _≤_};
+ghost use lib.ListN.{length};
+ghost use Rattle.line_file_spec.specs.Header.{rulesHold, refusedHeader as header·refused, judged};
 
 // Whether the numbers n, o, f and total of a header keep the rules, in a file of so many bytes: an overhead list has 12,288, and a
 // super-frame 356,352, 48 sub-frames of 7,424.

@@ -5,7 +5,7 @@ use mathlib.Core.List.{List, [], _∷_}
 use mathlib.Core.Bool.{Bool}
 use Prim.Native.Nat.{ℕ, _+_, _*_}
 use lib.Dec.{leb, eqb}
-use lib.ListN.{getD}
+use Rattle.bits.specs.Numbers32.{number32}
 use Rattle.bits.specs.Tests.{both}
 use Rattle.calls.specs.declared.Answer.{Answer}
 use Rattle.calls.specs.declared.Answer.the-variants.{Done, Refused}
@@ -14,8 +14,8 @@ use Rattle.calls.specs.Calls.{Test, shortFile, badHeader, verdict}
 use Rattle.line_file_spec.specs.declared.Header.{Header}
 
 -- Number k of a header: 0 is n, 1 is o, 2 is f, 3 is the total length.
-unfoldable pub headerNumber : List ℕ → ℕ → ℕ
-headerNumber bytes k = ((getD bytes (4 * k) 0 * 256 + getD bytes (4 * k + 1) 0) * 256 + getD bytes (4 * k + 2) 0) * 256 + getD bytes (4 * k + 3) 0
+abbrev pub headerNumber : List ℕ → ℕ → ℕ
+headerNumber bytes k = number32 bytes k
 
 -- n is 1 to 64. "Rules: o ≥ 16, f ≥ o+12,288, total = f + 356,352×n = file length." The sums are those of whole numbers.
 unfoldable pub rulesHold : ℕ → ℕ → ℕ → ℕ → ℕ → Bool

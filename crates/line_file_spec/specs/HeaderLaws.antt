@@ -9,6 +9,7 @@ use borrow.Author.Tests.{le-leb, eq-eqb, leb-true, eqb-true}
 use lib.Dec.{eqb}
 use lib.ListN.{getD, take}
 use lib.Seq.{getD-take}
+use Rattle.bits.specs.Numbers32Laws.{number-below, number-same}
 use Rattle.bits.specs.Tests.{both}
 use Rattle.calls.specs.declared.Answer.{Answer}
 use Rattle.calls.specs.declared.Answer.the-variants.{Done, Refused}
@@ -21,22 +22,9 @@ use Rattle.line_file_spec.specs.Header.{headerNumber, rulesHold, headerT
 
 -- ---- the numbers
 
--- A number of four bytes is one of 32 bits.
-pub number-below : (bytes : List ℕ) (k : ℕ) → ((i : ℕ) → getD bytes i 0 < 256) → headerNumber bytes k < 2 ^ 32
-unfolding headerNumber
-number-below bytes k small = omega (arith, small (4 * k), small (4 * k + 1), small (4 * k + 2), small (4 * k + 3))
-
--- A number by halves, as a worker gathers it.
-pub by-halves : (bytes : List ℕ) (k a b : ℕ) → a ≡ getD bytes (4 * k) 0 * 256 + getD bytes (4 * k + 1) 0
-    → b ≡ getD bytes (4 * k + 2) 0 * 256 + getD bytes (4 * k + 2 + 1) 0 → a * 65536 + b ≡ headerNumber bytes k
-unfolding headerNumber
-by-halves bytes k a b ea eb = let e : 4 * k + 2 + 1 ≡ 4 * k + 3 = omega arith in omega (arith, ea, eb, ap (λ (i : ℕ). getD bytes i 0) e)
-
 -- A header's numbers lie in its first sixteen bytes.
 pub number-first : (bytes more : List ℕ) (k : ℕ) → k < 4 → take 16 bytes ≡ take 16 more → headerNumber bytes k ≡ headerNumber more k
-unfolding headerNumber
-number-first bytes more k l e =
-    rw (same (4 * k) (omega arith), same (4 * k + 1) (omega arith), same (4 * k + 2) (omega arith), same (4 * k + 3) (omega arith))
+number-first bytes more k l e = number-same bytes more k (λ i h. same i (omega arith))
   where
     same : (i : ℕ) → i < 16 → getD bytes i 0 ≡ getD more i 0
     same i h = sym (getD-take 16 bytes i 0 h) ∙ ap (λ (x : List ℕ). getD x i 0) e ∙ getD-take 16 more i 0 h

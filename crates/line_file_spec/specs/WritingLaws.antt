@@ -3,14 +3,14 @@
 use mathlib.Core.Path.{_≡_, refl, sym, ap, _∙_}
 use mathlib.Core.List.{List}
 use mathlib.Core.Bool.{true, false}
-use Prim.Native.Nat.{ℕ, _+_, _*_, _/_, _%_, _^_, _<_, _≤_}
-use native.Mathlib.Nat.{add-zero, div-one, div-div-eq-div-mul, div-add-mod', mod-eq-of-lt}
+use Prim.Native.Nat.{ℕ, _+_, _*_, _^_, _<_, _≤_}
 use native.Mathlib.Omega.{arith}
 use borrow.Author.Tests.{le-leb, lt-leb}
 use lib.Dec.{leb}
 use lib.ListN.{length, getD, take}
 use lib.Seq.{take-all}
-use Rattle.bits.specs.ListLaws.{length-tabulate, getD-tabulate}
+use Rattle.bits.specs.Numbers32.{bytes32}
+use Rattle.bits.specs.Numbers32Laws.{bytes32-length, number-written}
 use Rattle.bits.specs.Parts.{part, endToEnd}
 use Rattle.bits.specs.Tests.{both}
 use Rattle.calls.specs.declared.Answer.the-variants.{Done}
@@ -24,42 +24,7 @@ use Rattle.line_file_spec.specs.Opening.{openAnswer, OpenFile, openFile,
 use Rattle.line_file_spec.specs.OpeningLaws.{open-done}
 use Rattle.line_file_spec.specs.Reading.{readAnswerIn, readPartIn, startOf}
 use Rattle.line_file_spec.specs.ReadingLaws.{opened-done, stretches-whole}
-use Rattle.line_file_spec.specs.Writing.{numberByte, headerBytes, numbersFor, writeCall}
-
--- ---- a written number is read back
-
--- The four bytes of a number make it up again.
-number-again : (x : ℕ) → x < 2 ^ 32 → ((numberByte x 0 * 256 + numberByte x 1) * 256 + numberByte x 2) * 256 + numberByte x 3 ≡ x
-unfolding numberByte
-number-again x l =
-    let two : x / 256 / 256 ≡ x / 65536 = div-div-eq-div-mul x 256 256 in
-    let three : x / 65536 / 256 ≡ x / 16777216 = div-div-eq-div-mul x 65536 256 in
-    let top : x / 16777216 < 256 = omega arith in
-    let x0 : x / 256 * 256 + x % 256 ≡ x = div-add-mod' x 256 in
-    let x1 : x / 65536 * 256 + x / 256 % 256 ≡ x / 256 = ap (λ (q : ℕ). q * 256 + x / 256 % 256) (sym two) ∙ div-add-mod' (x / 256) 256 in
-    let x2 : x / 16777216 * 256 + x / 65536 % 256 ≡ x / 65536 = ap (λ (q : ℕ). q * 256 + x / 65536 % 256) (sym three) ∙ div-add-mod' (x / 65536) 256 in
-    let x3 : x / 16777216 % 256 ≡ x / 16777216 = mod-eq-of-lt top in
-    rw (div-one x, x3) (omega arith)
-
-pub headerBytes-length : (numbers : List ℕ) → length (headerBytes numbers) ≡ 16
-unfolding headerBytes
-headerBytes-length numbers = length-tabulate 16 (λ i. numberByte (getD numbers (i / 4) 0) (i % 4))
-
-module _ (numbers : List ℕ) (k : ℕ) (l : k < 4) where
-  byte-at : (j : ℕ) → j < 4 → getD (headerBytes numbers) (4 * k + j) 0 ≡ numberByte (getD numbers k 0) j
-  unfolding headerBytes
-  byte-at j h =
-      let a : (4 * k + j) / 4 ≡ k = omega arith in
-      let b : (4 * k + j) % 4 ≡ j = omega arith in
-      getD-tabulate 16 (λ i. numberByte (getD numbers (i / 4) 0) (i % 4)) (4 * k + j) 0 (omega arith) ∙ rw (a, b)
-
-  byte-at-first : getD (headerBytes numbers) (4 * k) 0 ≡ numberByte (getD numbers k 0) 0
-  byte-at-first = ap (λ (i : ℕ). getD (headerBytes numbers) i 0) (sym (add-zero (4 * k))) ∙ byte-at 0 (omega arith)
-
-  pub number-written : getD numbers k 0 < 2 ^ 32 → headerNumber (headerBytes numbers) k ≡ getD numbers k 0
-  unfolding headerNumber
-  number-written small =
-      rw (byte-at-first, byte-at 1 (omega arith), byte-at 2 (omega arith), byte-at 3 (omega arith)) (number-again (getD numbers k 0) small)
+use Rattle.line_file_spec.specs.Writing.{numbersFor, writeCall}
 
 -- ---- the call
 
@@ -77,7 +42,7 @@ module _ (n : ℕ) where
 pub ruleset n-rule = (n-none, n-many, n-fits)
 
 module _ (n : ℕ) (header : List ℕ) where
-  pub write-done : (h : List ℕ) → length header ≡ 16 → 1 ≤ n → n ≤ 64 → h ≡ headerBytes (numbersFor n)
+  pub write-done : (h : List ℕ) → length header ≡ 16 → 1 ≤ n → n ≤ 64 → h ≡ bytes32 (numbersFor n)
       → after (Done 0) h ≡ writeCall n header
   write-done h e a b q = call-done _ _ _ _ (no-misfit _ _ _ _ e (no-bad-header _ _ _ (n-fits n a b) none-left)) (ap (after (Done 0)) q)
 
@@ -87,13 +52,13 @@ module _ (n : ℕ) (header : List ℕ) where
 
   -- One with a buffer of 16 bytes and n from 1 to 64 is accepted.
   pub write-accepted : length header ≡ 16 → 1 ≤ n → n ≤ 64 → Accepted (writeCall n header .answer)
-  write-accepted e a b = ap (λ (w : After (List ℕ)). refusalOf (w .answer)) (sym (write-done (headerBytes (numbersFor n)) e a b refl))
+  write-accepted e a b = ap (λ (w : After (List ℕ)). refusalOf (w .answer)) (sym (write-done (bytes32 (numbersFor n)) e a b refl))
 
 -- A file of the right length that starts with the written header opens, with n, o = 16 and f = 12,304.
-module _ (n : ℕ) (file : List ℕ) (one : 1 ≤ n) (most : n ≤ 64) (starts : take 16 file ≡ headerBytes (numbersFor n)) (long : length file ≡ 12304 + 356352 * n) where
+module _ (n : ℕ) (file : List ℕ) (one : 1 ≤ n) (most : n ≤ 64) (starts : take 16 file ≡ bytes32 (numbersFor n)) (long : length file ≡ 12304 + 356352 * n) where
   reads-back : (k : ℕ) → k < 4 → getD (numbersFor n) k 0 < 2 ^ 32 → headerNumber file k ≡ getD (numbersFor n) k 0
   reads-back k l small =
-      number-first file (headerBytes (numbersFor n)) k l (starts ∙ sym (take-all 16 (headerBytes (numbersFor n)) (omega (arith, headerBytes-length (numbersFor n)))))
+      number-first file (bytes32 (numbersFor n)) k l (starts ∙ sym (take-all 16 (bytes32 (numbersFor n)) (omega (arith, bytes32-length (numbersFor n)))))
       ∙ number-written (numbersFor n) k l small
 
   pub written-sound : Sound file (length file)

@@ -8,7 +8,8 @@ use lib.ListN.{length, getD}
 use Rattle.bits.specs.Lists.{tabulate}
 use Rattle.calls.specs.Sequences.{At, Run, accepted}
 use Rattle.calls.specs.Calls.{After}
-use Rattle.pair_spec.specs.Calls.{Receiving, Receivings, State, start}
+use Rattle.pair_spec.specs.Front.{freshHistory}
+use Rattle.pair_spec.specs.Calls.{Receiving, Receivings}
 use Rattle.pair_spec.specs.Promise.{Limit}
 use Rattle.interleaver_spec.specs.Calls.{Deinterleaved, deinterleaveCall}
 use Rattle.cells_spec.specs.Modulation.{Modulation, cellsPerBuffer, pairsIn}
@@ -16,7 +17,7 @@ use Rattle.cells_spec.specs.Cells.{overheadRule, Legal}
 use Rattle.cells_spec.specs.Calls.{demapCall}
 use Rattle.frame_spec.specs.Frames.{payloadCells, payloadStart, frameRule, subFrameOf}
 use Rattle.frame_spec.specs.Calls.{unframeCall}
-use Rattle.line_spec.specs.Sides.{Side, side0, side1}
+use Rattle.line_spec.specs.Sides.{Side, side0, side1, encoder}
 use Rattle.line_spec.specs.Line.{lineBit}
 use Rattle.line_spec.specs.Outward.{Outward}
 
@@ -72,8 +73,8 @@ module _ (p : Modulation) (n : ℕ) (h : ReceivedLine p n) where
 pub record Inward (p : Modulation) (o : Outward p) : Type 0 where
   pub received : ReceivedLine p (o .superframes)
   pub calls : Side → List Receiving
-  pub last : Side → State
-  pub runs : (e : Side) → Run Receivings start (calls e) (last e)
+  pub last : Side → List ℕ
+  pub runs : (e : Side) → Run Receivings (freshHistory (encoder e)) (calls e) (last e)
   -- "The accepted calls of a receiver take its encoder's received pairs in order from pair 0, all or only the first so many."
   pub some : (e : Side) → length (accepted Receivings (calls e)) ≤ pairsIn p (o .superframes)
   pub in-order : (e : Side) (P : ℕ) (c : Receiving) → At (accepted Receivings (calls e)) P c

@@ -18,6 +18,7 @@ use Rattle.calls.specs.Calls.{After, after}
 use Rattle.pair_spec.specs.Pairs.{pairBit}
 use Rattle.pair_spec.specs.Calls.{Encoding, Encodings, payloads, Receivings}
 use Rattle.pair_spec.specs.CallLaws.{receive-refused, receive-keeps}
+use Rattle.pair_spec.specs.StateLaws.{receivings-numbered}
 use Rattle.pair_spec.specs.Promise.{Holds, Takes}
 use Rattle.pair_spec.specs.PromiseLaws.{promise}
 use Rattle.interleaver_spec.specs.Interleaving.{pairsBit, apart}
@@ -38,7 +39,7 @@ use Rattle.line_spec.specs.Outward.{Outward}
 use Rattle.line_spec.specs.Inward.{ReceivedLine, unframing, receivedByte, receivedCells, demapping, parting, pairsBack, receivedPair}
 use Rattle.line_spec.specs.Inward.{Inward}
 use Rattle.line_spec.specs.Demand3.{Comes}
-use Rattle.line_spec.specs.LineLaws.{cut-bit, OnLine, buffer-lt, cell-lt, line-bit}
+use Rattle.line_spec.specs.LineLaws.{encoder-small, cut-bit, OnLine, buffer-lt, cell-lt, line-bit}
 
 module _ (p : Modulation) (n : ℕ) (h : ReceivedLine p n) where
   -- ---- the calls, and the cells that they give
@@ -182,8 +183,9 @@ module _ (p : Modulation) (o : Outward p) (i : Inward p o) where
         demapped = λ b l. ap (λ (a : After (List ℕ)). refusalOf (a .answer)) (demapping-is p (o .superframes) (i .received) b l);
         parted = λ b l. ap (λ (a : Deinterleaved). refusalOf (a .answer)) (parting-is p (o .superframes) (i .received) b l);
         words = λ e P c a R r is lr.
-            promise (o .sent e) (lineBit p (i .received .frames) e) (payloads (o .calls e)) (o .formulas e) (i .calls e) (i .runs e) (enough e) (takes e)
+            promise (o .sent e) (lineBit p (i .received .frames) e) (payloads (o .calls e)) (o .formulas e) (i .calls e) (encoder-small e) (i .runs e) (enough e) (takes e)
             (i .limit e) R r c lr (subst (λ Q. At (accepted Receivings (i .calls e)) Q c) (sym is) a);
+        numbered = λ e. receivings-numbered (encoder e) (encoder-small e) (i .calls e) (i .runs e);
         states = λ e. without-refused Receivings receive-keeps (i .runs e);
         refused = λ e j c a. receive-refused c;
       }

@@ -3,7 +3,7 @@
 -- Assumes nothing.
 use mathlib.Core.Path.{_≡_, refl, sym, ap, ap₂, _∙_}
 use mathlib.Core.List.{List, []}
-use Prim.Native.Nat.{ℕ, _+_, _*_, _/_, _%_, _<_}
+use Prim.Native.Nat.{ℕ, _+_, _*_, _/_, _%_, _^_, _<_}
 use native.Mathlib.Omega.{arith}
 use lib.ListN.{length, getD}
 use Rattle.bits.specs.Lists.{tabulate}
@@ -33,6 +33,9 @@ part-bit s t i j g e = ap₂ (bitOf 8) g e
 pub encoder-lt : (e : Side) → encoder e < 2
 encoder-lt side0 = omega arith
 encoder-lt side1 = omega arith
+
+pub encoder-small : (e : Side) → encoder e < 2 ^ 32
+encoder-small e = omega (arith, encoder-lt e)
 
 -- Of what either encoder has, that of encoder e.
 pub pairsOf-side : (f : Side → List ℕ) (e : Side) → pairsOf (f side0) (f side1) (encoder e) ≡ f e

@@ -10,14 +10,15 @@ use Rattle.calls.specs.Sequences.{Run, accepted}
 use Rattle.calls.specs.Calls.{After}
 use Rattle.pair_spec.specs.Rows.{RowBits}
 use Rattle.pair_spec.specs.Sent.{Sent}
-use Rattle.pair_spec.specs.Calls.{Encoding, encode, Encodings, State, start, payloads}
+use Rattle.pair_spec.specs.Front.{freshHistory}
+use Rattle.pair_spec.specs.Calls.{Encoding, encode, Encodings, payloads}
 use Rattle.interleaver_spec.specs.Calls.{interleaveCall}
 use Rattle.cells_spec.specs.Modulation.{Modulation, cellsPerBuffer, buffersIn, pairsIn}
 use Rattle.cells_spec.specs.Cells.{overheadRule, Legal}
 use Rattle.cells_spec.specs.Calls.{mapCall}
 use Rattle.frame_spec.specs.Frames.{payloadCells, payloadStart}
 use Rattle.frame_spec.specs.Calls.{frameCall}
-use Rattle.line_spec.specs.Sides.{Side, side0, side1}
+use Rattle.line_spec.specs.Sides.{Side, side0, side1, encoder}
 
 -- Output buffers lent to the line calls, of any content and the stated length: bits and cells for each buffer b, a frame for each
 -- sub-frame f of the line.
@@ -29,12 +30,13 @@ pub record LentOut (p : Modulation) : Type 0 where
   pub cells-long : (b : ℕ) → length (cells b) ≡ cellsPerBuffer p * 2
   pub frame-long : (f : ℕ) → length (frame f) ≡ 7424
 
--- "Payloads are free. The two encoding lists have equally many accepted calls, filling whole super-frames, none at all included."
+-- "Payloads are free. The two encoding lists have equally many accepted calls, filling whole super-frames, none at all included." "Every
+-- list starts from a fresh history", its encoder's.
 pub record Outward (p : Modulation) : Type 0 where
   pub superframes : ℕ
   pub calls : Side → List Encoding
-  pub last : Side → State
-  pub runs : (e : Side) → Run Encodings start (calls e) (last e)
+  pub last : Side → List ℕ
+  pub runs : (e : Side) → Run Encodings (freshHistory (encoder e)) (calls e) (last e)
   pub filled : (e : Side) → length (accepted Encodings (calls e)) ≡ pairsIn p superframes
   pub overhead : List ℕ
   pub overhead-long : length overhead ≡ 12288

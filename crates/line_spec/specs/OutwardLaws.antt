@@ -14,6 +14,7 @@ use Rattle.calls.specs.Calls.{After, after}
 use Rattle.pair_spec.specs.Pairs.{pairBit}
 use Rattle.pair_spec.specs.Calls.{Encoding, encode, Encodings}
 use Rattle.pair_spec.specs.CallLaws.{encode-refused, encode-keeps}
+use Rattle.pair_spec.specs.StateLaws.{encodings-numbered}
 use Rattle.pair_spec.specs.PromiseLaws.{coded-sent}
 use Rattle.interleaver_spec.specs.Interleaving.{interleaved}
 use Rattle.interleaver_spec.specs.InterleavingLaws.{length-interleaved}
@@ -26,12 +27,12 @@ use Rattle.cells_spec.specs.CallLaws.{map-accepts}
 use Rattle.frame_spec.specs.Frames.{ownOverhead, framed, frameRule}
 use Rattle.frame_spec.specs.FrameLaws.{own-legal}
 use Rattle.frame_spec.specs.CallLaws.{frame-accepts}
-use Rattle.line_spec.specs.Sides.{Side, side0, side1}
+use Rattle.line_spec.specs.Sides.{Side, side0, side1, encoder}
 use Rattle.line_spec.specs.Line.{lineBit}
 use Rattle.line_spec.specs.Outward.{Outward, codedPairs, pairsOfBuffer, interleaving, mapping, payloadByte, framePayload, framing}
 use Rattle.line_spec.specs.Outward.{frames}
 use Rattle.line_spec.specs.Demand3.{Goes}
-use Rattle.line_spec.specs.LineLaws.{pairs-bit, OnLine, line-pairs}
+use Rattle.line_spec.specs.LineLaws.{encoder-small, pairs-bit, OnLine, line-pairs}
 use Rattle.line_spec.specs.FramedLine as line
 
 -- The coded pair of an accepted call stands at its number.
@@ -135,7 +136,7 @@ module _ (p : Modulation) (o : Outward p) where
       let f = At-find (accepted Encodings (o .calls e)) (R / 2) (omega (arith, o .filled e)) in
       line-coded e R C r c lR lC lr lc
       ∙ ap (λ (p : List ℕ). pairBit p (R % 2) C r c) (coded-at (o .calls e) (f .1))
-      ∙ coded-sent (o .calls e) (o .runs e) (o .sent e) (o .formulas e) (R / 2) (f .0) (f .1) .holds R C r c refl lC lr lc
+      ∙ coded-sent (o .calls e) (encoder-small e) (o .runs e) (o .sent e) (o .formulas e) (R / 2) (f .0) (f .1) .holds R C r c refl lC lr lc
 
   -- ---- the frames are a line
 
@@ -157,6 +158,7 @@ module _ (p : Modulation) (o : Outward p) where
         mapped = λ b l. ap (λ (a : After (List ℕ)). refusalOf (a .answer)) (mapping-is b);
         framed = λ f l. ap (λ (a : After (List ℕ)). refusalOf (a .answer)) (framing-is f);
         holds = line-sent;
+        numbered = λ e. encodings-numbered (encoder e) (encoder-small e) (o .calls e) (o .runs e);
         states = λ e. without-refused Encodings encode-keeps (o .runs e);
         refused = λ e i c a. encode-refused c;
       }

@@ -12,11 +12,12 @@ use Rattle.bits.specs.Count.{count, differs}
 use Rattle.calls.specs.Sequences.{At, accepted}
 use Rattle.pair_spec.specs.Rows.{RowBits, wordOf}
 use Rattle.pair_spec.specs.History.{depth}
-use Rattle.pair_spec.specs.Calls.{State, start, Encoding, Encodings, Receiving, Receivings, receive, payloads}
+use Rattle.pair_spec.specs.Front.{freshHistory}
+use Rattle.pair_spec.specs.Calls.{Encoding, Encodings, Receiving, Receivings, receive, payloads}
 use Rattle.pair_spec.specs.Promise.{wrongBits, markOf, NotLost, AsSent}
 use Rattle.cells_spec.specs.Modulation.{Modulation, pairsIn, rowsIn}
 use Rattle.cells_spec.specs.Cells.{overheadRule, Legal}
-use Rattle.line_spec.specs.Sides.{Side}
+use Rattle.line_spec.specs.Sides.{Side, encoder}
 use Rattle.line_spec.specs.Line.{lineBit}
 use Rattle.line_spec.specs.Outward.{LentOut, Outward}
 use Rattle.line_spec.specs.Inward.{ReceivedLine, receivedPair, Inward}
@@ -39,13 +40,13 @@ pub record Given (p : Modulation) : Type 0 where
   pub overhead-legal : Legal overheadRule overhead
   pub lent : LentOut p
 
--- Encoding call P, lent the state that the one before left.
-abbrev pub encodingOf : (p : Modulation) → Given p → Side → ℕ → State → Encoding
-encodingOf p g e P s = record { payload = getD (g .payloads e) P []; coded = g .coded e P; history = s .history; pair = s .pair }
+-- Encoding call P, lent the history that the one before left.
+abbrev pub encodingOf : (p : Modulation) → Given p → Side → ℕ → List ℕ → Encoding
+encodingOf p g e P s = record { payload = getD (g .payloads e) P []; coded = g .coded e P; history = s; encoder = encoder e; pair = P }
 
 -- The calls of an encoder, with no refused one among them.
 unfoldable pub encodings : (p : Modulation) → Given p → Side → List Encoding
-encodings p g e = oneByOne Encodings (encodingOf p g e) (pairsIn p (g .superframes)) 0 start
+encodings p g e = oneByOne Encodings (encodingOf p g e) (pairsIn p (g .superframes)) 0 (freshHistory (encoder e))
 
 -- Buffers lent to receiving calls.
 pub record LentBack : Type 0 where
@@ -56,19 +57,19 @@ pub record LentBack : Type 0 where
 
 module _ (p : Modulation) (n : ℕ) (h : ReceivedLine p n) (room : LentBack) where
   -- Receiving call P on received pair P, and the calls of a receiver that takes the first m pairs.
-  abbrev pub receivingOf : Side → ℕ → State → Receiving
+  abbrev pub receivingOf : Side → ℕ → List ℕ → Receiving
   receivingOf e P s =
-      record { coded = receivedPair p n h e P; payload = room .payload e P; marks = room .marks e P; history = s .history; pair = s .pair }
+      record { coded = receivedPair p n h e P; payload = room .payload e P; marks = room .marks e P; history = s; encoder = encoder e; pair = P }
 
   unfoldable pub receivings : Side → ℕ → List Receiving
-  receivings e m = oneByOne Receivings (receivingOf e) m 0 start
+  receivings e m = oneByOne Receivings (receivingOf e) m 0 (freshHistory (encoder e))
 
 -- Calls that are lent nothing, which are refused.
 abbrev pub emptyEncoding : Encoding
-emptyEncoding = record { payload = []; coded = []; history = []; pair = 0 }
+emptyEncoding = record { payload = []; coded = []; history = []; encoder = 0; pair = 0 }
 
 abbrev pub emptyReceiving : Receiving
-emptyReceiving = record { coded = []; payload = []; marks = []; history = []; pair = 0 }
+emptyReceiving = record { coded = []; payload = []; marks = []; history = []; encoder = 0; pair = 0 }
 
 -- ---- a line that alters nothing
 

@@ -18,14 +18,16 @@ use Rattle.pair_spec.specs.Pairs.{ownIndex}
 use Rattle.pair_spec.specs.PairLaws.{ownWord, ownPlace, own-from}
 use Rattle.pair_spec.specs.EncodingLaws.{payloadBit-own}
 use Rattle.pair_spec.specs.SentLaws.{madeBits, sent-exists}
-use Rattle.pair_spec.specs.Calls.{start, Encoding, encode, Encodings, Receiving, receive, Receivings, payloads}
+use Rattle.pair_spec.specs.Front.{freshHistory}
+use Rattle.pair_spec.specs.Calls.{Encoding, encode, Encodings, Receiving, receive, Receivings, payloads}
 use Rattle.pair_spec.specs.CallLaws.{encode-accepted, encode-separate, receive-separate}
 use Rattle.pair_spec.specs.StateLaws.{receive-payload-length, payload-bytes}
 use Rattle.pair_spec.specs.Promise.{wrongBits, Limit, markOf, NotLost}
 use Rattle.pair_spec.specs.PromiseLaws.{mark-exact}
 use Rattle.cells_spec.specs.Modulation.{Modulation, pairsIn, rowsIn}
 use Rattle.cells_spec.specs.Cells.{overheadRule, Legal}
-use Rattle.line_spec.specs.Sides.{Side}
+use Rattle.line_spec.specs.Sides.{Side, encoder}
+use Rattle.line_spec.specs.LineLaws.{encoder-small}
 use Rattle.line_spec.specs.Line.{lineBit}
 use Rattle.line_spec.specs.Outward.{Outward, frames}
 use Rattle.line_spec.specs.Inward.{LentIn, ReceivedLine, Inward}
@@ -49,7 +51,7 @@ goes-out p g calls among = (
   record {
     superframes = g .superframes;
     calls = calls;
-    last = λ e. stateAfter Encodings (encodingOf p g e) (pairsIn p (g .superframes)) 0 start;
+    last = λ e. stateAfter Encodings (encodingOf p g e) (pairsIn p (g .superframes)) 0 (freshHistory (encoder e));
     runs = λ e. among-run Encodings encode-separate (among e) (encodings-run p g e);
     filled = λ e. ap length (taken e) ∙ length-encodings p g e;
     overhead = g .overhead;
@@ -81,7 +83,7 @@ comes-in p o h m most limit room calls among = (
   record {
     received = h;
     calls = calls;
-    last = λ e. stateAfter Receivings (receivingOf p (o .superframes) h room e) (m e) 0 start;
+    last = λ e. stateAfter Receivings (receivingOf p (o .superframes) h room e) (m e) 0 (freshHistory (encoder e));
     runs = λ e. among-run Receivings receive-separate (among e) (receivings-run p (o .superframes) h room (pairs-within p o e) e (m e) (most e));
     some = λ e. omega (arith, many e, most e);
     in-order = λ e P c a. receivings-order p (o .superframes) h room (pairs-within p o e) e (m e) (most e) P c (subst (λ l. At l P c) (taken e) a);
@@ -162,7 +164,7 @@ module _ (p : Modulation) (o : Outward p) (i : Inward p o) where
       → ((k : ℕ) → k < 128 → wordOf (lineBit p (i .received .frames) e) R r k ≡ wordOf (o .sent e) R r k)
       → markOf (receive c) R r ≡ wrongBits (o .sent e) (lineBit p (i .received .frames) e) R r
   exact e =
-      mark-exact (o .sent e) (lineBit p (i .received .frames) e) (payloads (o .calls e)) (o .formulas e) (i .calls e) (i .runs e) (enough p o i e) (takes p o i e) (i .limit e)
+      mark-exact (o .sent e) (lineBit p (i .received .frames) e) (payloads (o .calls e)) (o .formulas e) (i .calls e) (encoder-small e) (i .runs e) (enough p o i e) (takes p o i e) (i .limit e)
 
   pub taken-row : (e : Side) (R : ℕ) (c : Receiving) → At (accepted Receivings (i .calls e)) (R / 2) c → R < rowsIn p (o .superframes)
   taken-row e R c a = omega (arith, At-lt a, i .some e)

@@ -4,8 +4,10 @@ use cells_core::sizes::pairs;
 use files::message;
 use profile::Profile;
 ghost use mathlib.Core.Path.{_≡_};
-ghost use Prim.Native.Nat.{_*_, _≤_, _<_};
+ghost use Prim.Native.Nat.{_+_, _*_, _≤_, _<_};
 ghost use lib.ListN.{length};
+ghost use Rattle.pair_spec.specs.Front.{BeforePair};
+ghost use Rattle.cells_spec.specs.Profiles.{modulation};
 
 // Reads the payload of the next super-frame from the file of this argument, and answers whether the file had it.
 fn read_next(argument: usize, file: i32, payload: &mut [u8]) -> bool {
@@ -22,16 +24,18 @@ fn read_and_encode(
     argument: usize,
     file: i32,
     payload: &mut [u8],
+    encoder: u32,
     first: u32,
-    history: &mut [u8; 5120],
+    history: &mut [u8],
     coded: &mut [u8],
 ) -> u32
-    requires { ⌜ (pairs ≤ 168) × (length (now payload) ≡ pairs * 444) × (first < 65536) × (length (now coded) ≡ pairs * 512) ⌝ }
+    requires { ⌜ (pairs ≤ 168) × (length (now payload) ≡ pairs * 444) × (encoder ≤ 1) × (first < 65536) × BeforePair encoder first (now history) × (length (now coded) ≡ pairs * 512) ⌝ }
+    ensures { λ r. ⌜ (r ≡ 0 → BeforePair encoder (first + pairs) (now (history .exit))) ⌝ }
 {
     if !read_next(argument, file, payload) {
         return MISFIT;
     }
-    pair_stream::encode(pairs, payload, first, history, coded);
+    pair_stream::encode(pairs, payload, encoder, first, history, coded);
     0
 }
 
@@ -42,11 +46,13 @@ pub fn encode(
     argument: usize,
     file: i32,
     space: &mut [u8],
+    encoder: u32,
     first: u32,
-    history: &mut [u8; 5120],
+    history: &mut [u8],
     coded: &mut [u8],
 ) -> u32
-    requires { ⌜ (length (now space) ≡ 356352) × (first < 65536) × (length (now coded) ≡ 86016) ⌝ }
+    requires { ⌜ (length (now space) ≡ 356352) × (encoder ≤ 1) × (first < 65536) × BeforePair encoder first (now history) × (length (now coded) ≡ 86016) ⌝ }
+    ensures { λ r. ⌜ (r ≡ 0 → BeforePair encoder (first + modulation profile .bits * 21) (now (history .exit))) ⌝ }
 {
     let n = pairs(profile);
     let p = n * 444;
@@ -56,6 +62,7 @@ pub fn encode(
         argument,
         file,
         &mut space[0..p],
+        encoder,
         first,
         history,
         &mut coded[0..m],

@@ -9,8 +9,10 @@ use cells_core::sizes::pairs;
 use files::message;
 use profile::Profile;
 ghost use mathlib.Core.Path.{_≡_};
-ghost use Prim.Native.Nat.{_≤_, _<_};
+ghost use Prim.Native.Nat.{_+_, _*_, _≤_, _<_};
 ghost use lib.ListN.{length};
+ghost use Rattle.pair_spec.specs.Front.{BothBefore};
+ghost use Rattle.cells_spec.specs.Profiles.{modulation};
 ghost use Rattle.cells_spec.specs.Cells.{overheadRule, Legal};
 
 // Makes the frames of coded pairs and writes them.
@@ -29,44 +31,74 @@ fn write_frames(
     put(out, line)
 }
 
-// Writes the next super-frame, whose pairs are numbered from `first` on.
-fn write_next(
+// Encodes the pairs of the next super-frame of both encoders, numbered from `first` on. Answers 0, and the histories are then those before
+// the super-frame after it; or the refusal.
+fn encode_both(
     profile: Profile,
     inputs: Inputs,
     first: u32,
-    history0: &mut [u8; 5120],
-    history1: &mut [u8; 5120],
-    overhead: &[u8],
-    line: &mut [u8; 356352],
-    out: i32,
+    history0: &mut [u8],
+    history1: &mut [u8],
+    space: &mut [u8; 356352],
+    coded0: &mut [u8],
+    coded1: &mut [u8],
 ) -> u32
-    requires { ⌜ (first < 65536) × (length (now overhead) ≡ 12288) × Legal overheadRule (now overhead) ⌝ }
+    requires { ⌜ (first < 65536) × BothBefore first (now history0) (now history1) × (length (now coded0) ≡ 86016) × (length (now coded1) ≡ 86016) ⌝ }
+    ensures { λ r. ⌜ (r ≡ 0 → BothBefore (first + modulation profile .bits * 21) (now (history0 .exit)) (now (history1 .exit))) ⌝ }
 {
-    let mut coded0 = [0u8; 86016];
     let encoded0 = encode(
         profile,
         PAYLOAD0,
         inputs.payload0,
-        line,
+        space,
+        0,
         first,
         history0,
-        &mut coded0,
+        coded0,
     );
     if encoded0 != 0 {
         return encoded0;
     }
-    let mut coded1 = [0u8; 86016];
-    let encoded1 = encode(
+    encode(
         profile,
         PAYLOAD1,
         inputs.payload1,
-        line,
+        space,
+        1,
         first,
         history1,
+        coded1,
+    )
+}
+
+// The same, and writes the frames.
+fn write_next(
+    profile: Profile,
+    inputs: Inputs,
+    first: u32,
+    history0: &mut [u8],
+    history1: &mut [u8],
+    overhead: &[u8],
+    line: &mut [u8; 356352],
+    out: i32,
+) -> u32
+    requires { ⌜ (first < 65536) × BothBefore first (now history0) (now history1) × (length (now overhead) ≡ 12288) × Legal overheadRule (now overhead) ⌝ }
+    ensures { λ r. ⌜ (r ≡ 0 → BothBefore (first + modulation profile .bits * 21) (now (history0 .exit)) (now (history1 .exit))) ⌝ }
+{
+    let mut coded0 = [0u8; 86016];
+    let mut coded1 = [0u8; 86016];
+    let encoded = encode_both(
+        profile,
+        inputs,
+        first,
+        history0,
+        history1,
+        line,
+        &mut coded0,
         &mut coded1,
     );
-    if encoded1 != 0 {
-        return encoded1;
+    if encoded != 0 {
+        return encoded;
     }
     write_frames(profile, &coded0, &coded1, overhead, line, out)
 }
@@ -81,8 +113,8 @@ pub fn write_all(
 ) -> u32
     requires { ⌜ (superframes ≤ 65) × (length (now overhead) ≡ 12288) × Legal overheadRule (now overhead) ⌝ }
 {
-    let mut history0 = [0u8; 5120];
-    let mut history1 = [0u8; 5120];
+    let mut history0 = pair_stream::fresh(0);
+    let mut history1 = pair_stream::fresh(1);
     let mut line = [0u8; 356352];
     for q in 0..superframes {
         let first = first_pair(profile, q);

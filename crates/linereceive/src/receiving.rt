@@ -12,8 +12,11 @@ use cells_core::sizes::pairs;
 use files::message;
 use profile::Profile;
 ghost use mathlib.Core.Path.{_≡_};
-ghost use Prim.Native.Nat.{_*_, _≤_, _<_};
+ghost use Prim.Native.Nat.{_+_, _*_, _≤_, _<_};
 ghost use lib.ListN.{length};
+ghost use Rattle.pair_spec.specs.Front.{BeforePair, BothBefore};
+ghost use Rattle.cells_spec.specs.Modulation.{pairsIn};
+ghost use Rattle.cells_spec.specs.Profiles.{modulation};
 
 // What came of receiving: flips, lost words and overhead cells that differ; or the refusal.
 pub struct Received {
@@ -24,7 +27,7 @@ pub struct Received {
 }
 
 pub fn refused(refusal: u32) -> Received
-    ensures { λ r. ⌜ (r .flips ≡ 0) × (r .lost ≡ 0) × (r .overhead ≡ 0) ⌝ }
+    ensures { λ r. ⌜ (r .refusal ≡ refusal) × (r .flips ≡ 0) × (r .lost ≡ 0) × (r .overhead ≡ 0) ⌝ }
 {
     Received {
         refusal,
@@ -88,8 +91,9 @@ fn judge(profile: Profile, taken: Answer, capture: Input, q: u32) -> u32
 fn receive_and_write(
     number: usize,
     coded: &[u8],
+    encoder: u32,
     first: u32,
-    history: &mut [u8; 5120],
+    history: &mut [u8],
     payload: &mut [u8],
     marks: &mut [u8],
     payload_file: i32,
@@ -97,10 +101,10 @@ fn receive_and_write(
     marks_file: i32,
     marks_name: &[u8],
 ) -> Received
-    requires { ⌜ (number ≤ 168) × (length (now coded) ≡ number * 512) × (first < 65536) × (length (now payload) ≡ number * 444) × (length (now marks) ≡ number * 32) ⌝ }
-    ensures { λ r. ⌜ (r .flips < 4294967296) × (r .lost < 4294967296) ⌝ }
+    requires { ⌜ (number ≤ 168) × (length (now coded) ≡ number * 512) × (encoder ≤ 1) × (first < 65536) × BeforePair encoder first (now history) × (length (now payload) ≡ number * 444) × (length (now marks) ≡ number * 32) ⌝ }
+    ensures { λ r. ⌜ (r .flips < 4294967296) × (r .lost < 4294967296) × BeforePair encoder (first + number) (now (history .exit)) ⌝ }
 {
-    pair_stream::receive(number, coded, first, history, payload, marks);
+    pair_stream::receive(number, coded, encoder, first, history, payload, marks);
     if !put(payload_file, payload, payload_name) {
         return refused(MISFIT);
     }
@@ -120,16 +124,17 @@ fn receive_and_write(
 fn receive(
     profile: Profile,
     coded: &[u8],
+    encoder: u32,
     first: u32,
-    history: &mut [u8; 5120],
+    history: &mut [u8],
     space: &mut [u8],
     payload_file: i32,
     payload_name: &[u8],
     marks_file: i32,
     marks_name: &[u8],
 ) -> Received
-    requires { ⌜ (length (now coded) ≡ 86016) × (first < 65536) × (length (now space) ≡ 356352) ⌝ }
-    ensures { λ r. ⌜ (r .flips < 4294967296) × (r .lost < 4294967296) ⌝ }
+    requires { ⌜ (length (now coded) ≡ 86016) × (encoder ≤ 1) × (first < 65536) × BeforePair encoder first (now history) × (length (now space) ≡ 356352) ⌝ }
+    ensures { λ r. ⌜ (r .flips < 4294967296) × (r .lost < 4294967296) × BeforePair encoder (first + modulation profile .bits * 21) (now (history .exit)) ⌝ }
 {
     let n = pairs(profile);
     let c = n * 512;
@@ -139,6 +144,7 @@ fn receive(
     receive_and_write(
         n,
         &coded[0..c],
+        encoder,
         first,
         history,
         &mut space[0..p],
@@ -163,61 +169,124 @@ fn added(received0: Received, received1: Received) -> Received
     }
 }
 
-// Receives the pairs of both encoders.
-fn receive_both(
+// Receives the pairs of encoder 0,
+fn receive_first(
     profile: Profile,
     pairs0: &[u8; 86016],
-    pairs1: &[u8; 86016],
     first: u32,
-    history0: &mut [u8; 5120],
-    history1: &mut [u8; 5120],
+    history: &mut [u8],
     space: &mut [u8; 356352],
     outputs: Descriptors,
 ) -> Received
-    requires { ⌜ first < 65536 ⌝ }
-    ensures { λ r. ⌜ (r .flips < 8589934592) × (r .lost < 8589934592) ⌝ }
+    requires { ⌜ (first < 65536) × BeforePair 0 first (now history) ⌝ }
+    ensures { λ r. ⌜ (r .flips < 4294967296) × (r .lost < 4294967296) × BeforePair 0 (first + modulation profile .bits * 21) (now (history .exit)) ⌝ }
 {
-    let received0 = receive(
+    receive(
         profile,
         pairs0,
+        0,
         first,
-        history0,
+        history,
         space,
         outputs.payload0,
         b"PAYLOAD0",
         outputs.marks0,
         b"MARKS0",
-    );
-    if received0.refusal != 0 {
-        return received0;
-    }
-    let received1 = receive(
+    )
+}
+
+// those of encoder 1,
+fn receive_second(
+    profile: Profile,
+    pairs1: &[u8; 86016],
+    first: u32,
+    history: &mut [u8],
+    space: &mut [u8; 356352],
+    outputs: Descriptors,
+) -> Received
+    requires { ⌜ (first < 65536) × BeforePair 1 first (now history) ⌝ }
+    ensures { λ r. ⌜ (r .flips < 4294967296) × (r .lost < 4294967296) × BeforePair 1 (first + modulation profile .bits * 21) (now (history .exit)) ⌝ }
+{
+    receive(
         profile,
         pairs1,
+        1,
         first,
-        history1,
+        history,
         space,
         outputs.payload1,
         b"PAYLOAD1",
         outputs.marks1,
         b"MARKS1",
-    );
-    added(received0, received1)
+    )
 }
 
-// Receives super-frame q.
-fn receive_next(
+// and both.
+fn receive_both(
     profile: Profile,
-    capture: Input,
-    q: u32,
-    overhead: &[u8],
-    history0: &mut [u8; 5120],
-    history1: &mut [u8; 5120],
+    pairs0: &[u8; 86016],
+    pairs1: &[u8; 86016],
+    first: u32,
+    history0: &mut [u8],
+    history1: &mut [u8],
     space: &mut [u8; 356352],
     outputs: Descriptors,
 ) -> Received
-    requires { ⌜ (q < 64) × (length (now overhead) ≡ 12288) ⌝ }
-    ensures { λ r. ⌜ (r .flips < 8589934592) × (r .lost < 8589934592) × (r .overhead < 8589934592) ⌝ }
+    requires { ⌜ (first < 65536) × BothBefore first (now history0) (now history1) ⌝ }
+    ensures { λ r. ⌜ (r .flips < 8589934592) × (r .lost < 8589934592) × (r .refusal ≡ 0 → BothBefore (first + modulation profile .bits * 21) (now (history0 .exit)) (now (history1 .exit))) ⌝ }
+{
+    let received0 = receive_first(profile, pairs0, first, history0, space, outputs);
+    if received0.refusal != 0 {
+        return received0;
+    }
+    let received1 = receive_second(profile, pairs1, first, history1, space, outputs);
+    added(received0, received1)
+}
+
+// The same, with the overhead cells that differ.
+fn receive_taken(
+    profile: Profile,
+    differing: u32,
+    pairs0: &[u8; 86016],
+    pairs1: &[u8; 86016],
+    first: u32,
+    history0: &mut [u8],
+    history1: &mut [u8],
+    space: &mut [u8; 356352],
+    outputs: Descriptors,
+) -> Received
+    requires { ⌜ (first < 65536) × BothBefore first (now history0) (now history1) ⌝ }
+    ensures { λ r. ⌜ (r .flips < 8589934592) × (r .lost < 8589934592) × (r .overhead < 8589934592) × (r .refusal ≡ 0 → BothBefore (first + modulation profile .bits * 21) (now (history0 .exit)) (now (history1 .exit))) ⌝ }
+{
+    let mut received = receive_both(
+        profile,
+        pairs0,
+        pairs1,
+        first,
+        history0,
+        history1,
+        space,
+        outputs,
+    );
+    received.overhead = differing as u64;
+    received
+}
+
+// Receives super-frame q, whose pairs are numbered from `first` on; unless it is refused, the histories are then those before the pairs
+// after it.
+fn receive_from(
+    profile: Profile,
+    capture: Input,
+    q: u32,
+    first: u32,
+    overhead: &[u8],
+    history0: &mut [u8],
+    history1: &mut [u8],
+    space: &mut [u8; 356352],
+    outputs: Descriptors,
+) -> Received
+    requires { ⌜ (q < 64) × (first < 65536) × (length (now overhead) ≡ 12288) × BothBefore first (now history0) (now history1) ⌝ }
+    ensures { λ r. ⌜ (r .flips < 8589934592) × (r .lost < 8589934592) × (r .overhead < 8589934592) × (r .refusal ≡ 0 → BothBefore (first + modulation profile .bits * 21) (now (history0 .exit)) (now (history1 .exit))) ⌝ }
 {
     let mut pairs0 = [0u8; 86016];
     let mut pairs1 = [0u8; 86016];
@@ -226,18 +295,44 @@ fn receive_next(
     if refusal != 0 {
         return refused(refusal);
     }
-    let mut received = receive_both(
+    receive_taken(
         profile,
+        calls::value_or(taken, 0),
         &pairs0,
         &pairs1,
-        first_pair(profile, q),
+        first,
         history0,
         history1,
         space,
         outputs,
-    );
-    received.overhead = calls::value_or(taken, 0) as u64;
-    received
+    )
+}
+
+// The same by its number alone.
+fn receive_next(
+    profile: Profile,
+    capture: Input,
+    q: u32,
+    overhead: &[u8],
+    history0: &mut [u8],
+    history1: &mut [u8],
+    space: &mut [u8; 356352],
+    outputs: Descriptors,
+) -> Received
+    requires { ⌜ (q < 64) × (length (now overhead) ≡ 12288) × BothBefore (pairsIn (modulation profile) q) (now history0) (now history1) ⌝ }
+    ensures { λ r. ⌜ (r .flips < 8589934592) × (r .lost < 8589934592) × (r .overhead < 8589934592) × (r .refusal ≡ 0 → BothBefore (pairsIn (modulation profile) (q + 1)) (now (history0 .exit)) (now (history1 .exit))) ⌝ }
+{
+    receive_from(
+        profile,
+        capture,
+        q,
+        first_pair(profile, q),
+        overhead,
+        history0,
+        history1,
+        space,
+        outputs,
+    )
 }
 
 // Receives all super-frames.
@@ -249,8 +344,8 @@ pub fn receive_all(
 ) -> Received
     requires { ⌜ (capture .superframes ≤ 64) × (length (now overhead) ≡ 12288) ⌝ }
 {
-    let mut history0 = [0u8; 5120];
-    let mut history1 = [0u8; 5120];
+    let mut history0 = pair_stream::fresh(0);
+    let mut history1 = pair_stream::fresh(1);
     let mut space = [0u8; 356352];
     let mut flips = 0u64;
     let mut lost = 0u64;

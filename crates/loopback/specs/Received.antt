@@ -19,7 +19,7 @@ use Rattle.loopback_core.specs.Tally.{tallySum, tallied, refusedTwo, wordKind, 
 unfoldable pub wordIn : List ℕ → ℕ → ℕ → List ℕ
 wordIn pairs k w = pack 32 (heldWord depth (part ((k - 10) * 512) 5120 pairs) k (partOf 512 pairs k) w)
 
--- Word w of the newest pair of a history, as far as that pair has it: its back half.
+-- Word w of the newest of a history's ten pairs, as far as that pair has it: its back half.
 abbrev pub keptWord : List ℕ → ℕ → ℕ → List ℕ
 keptWord history k w = pack 32 (heldWord depth history k (part 4608 512 history) w)
 
@@ -46,7 +46,7 @@ wordCompared e k sent got history out marks w counts =
 unfoldable pub pairCompared : ℕ → ℕ → List ℕ → List ℕ → List ℕ → List ℕ → List ℕ → List ℕ → List ℕ
 pairCompared e k sent got history out marks counts = eachStep 32 (wordCompared e k sent got history out marks) counts
 
--- Pair k received, h being the history before it;
+-- Pair k received, h being the ten pairs before it;
 unfoldable pub pairTaken : ℕ → List ℕ → List ℕ → List ℕ → ℕ → List ℕ → List ℕ
 pairTaken e sent got h k counts =
     pairCompared e k sent got (historyOver pairReceiver 1 h k (partOf 512 got k)) (payloadsOf 1 h k (partOf 512 got k)) (marksOf 1 h k (partOf 512 got k)) counts

@@ -10,9 +10,10 @@ use loopback_refused_core::refuse_receiving;
 use pair_words_core::words::held_word;
 use pair_words_core::words::open_word;
 ghost use mathlib.Core.Path.{_≡_};
-ghost use Prim.Native.Nat.{_-_, _<_};
+ghost use Prim.Native.Nat.{_+_, _-_, _<_};
 ghost use lib.ListN.{length};
 ghost use Rattle.bits.specs.Parts.{partOf};
+ghost use Rattle.pair_spec.specs.Front.{heldPairs, historyOf, BeforePair};
 ghost use Rattle.pair_spec.specs.Stream.{pairReceiver, historyOver};
 ghost use Rattle.loopback_core.specs.Random.{pairPayload};
 ghost use Rattle.loopback_core.specs.Steps.{eachStep};
@@ -40,7 +41,7 @@ fn word(pairs: &[u8], k: usize, w: usize) -> [u8; 32]
     held_word(&pairs[a..b], &pairs[m..e], k as u32, w)
 }
 
-// Word w of the newest pair of a history, as far as that pair has it: its back half.
+// Word w of the newest of ten pairs, as far as that pair has it: its back half.
 fn kept_word(history: &[u8], k: usize, w: usize) -> [u8; 32]
     requires { ⌜ (length (now history) ≡ 5120) × (k < 336) × (w < 32) ⌝ }
     ensures { λ r. ⌜ r ≡ keptWord (now (history .entry)) k w ⌝ }
@@ -109,7 +110,7 @@ fn compare(
     }
 }
 
-// Receives pair k.
+// Receives pair k; the ten pairs of the history then stand behind its front.
 fn receive_next(
     k: usize,
     encoder: u32,
@@ -118,15 +119,32 @@ fn receive_next(
     history: &mut [u8],
     counts: &mut [u32],
 )
-    requires { ⌜ (k < 336) × (encoder < 2) × (length (now sent) ≡ 172032) × (length (now got) ≡ 172032) × (length (now history) ≡ 5120) × (length (now counts) ≡ 41) ⌝ }
-    ensures { λ _. ⌜ (now (history .exit) ≡ historyOver pairReceiver 1 (now (history .entry)) k (partOf 512 (now (got .entry)) k)) × (now (counts .exit) ≡ pairTaken encoder (now (sent .entry)) (now (got .entry)) (now (history .entry)) k (now (counts .entry))) ⌝ }
+    requires { ⌜ (k < 336) × (encoder < 2) × (length (now sent) ≡ 172032) × (length (now got) ≡ 172032) × BeforePair encoder k (now history) × (length (now counts) ≡ 41) ⌝ }
+    ensures { λ _. ⌜ (now (history .exit) ≡ historyOf encoder (k + 1) (historyOver pairReceiver 1 (heldPairs (now (history .entry))) k (partOf 512 (now (got .entry)) k))) × (now (counts .exit) ≡ pairTaken encoder (now (sent .entry)) (now (got .entry)) (heldPairs (now (history .entry))) k (now (counts .entry))) ⌝ }
 {
     let a = k * 512;
     let e = a + 512;
     let mut out = [0u8; 444];
     let mut marks = [0u8; 32];
-    pair_stream::receive(1, &got[a..e], k as u32, history, &mut out, &mut marks);
-    compare(k, encoder, sent, got, history, &out, &marks, counts);
+    pair_stream::receive(
+        1,
+        &got[a..e],
+        encoder,
+        k as u32,
+        history,
+        &mut out,
+        &mut marks,
+    );
+    compare(
+        k,
+        encoder,
+        sent,
+        got,
+        &history[8..5128],
+        &out,
+        &marks,
+        counts,
+    );
 }
 
 // Receives the pairs of an encoder, each after refused calls.
@@ -134,7 +152,7 @@ fn receive_all(encoder: u32, sent: &[u8], got: &[u8], counts: &mut [u32])
     requires { ⌜ (encoder < 2) × (length (now sent) ≡ 172032) × (length (now got) ≡ 172032) × (length (now counts) ≡ 41) ⌝ }
     ensures { λ _. ⌜ now (counts .exit) ≡ eachStep 336 (nextReceived encoder (now (sent .entry)) (now (got .entry))) (now (counts .entry)) ⌝ }
 {
-    let mut history = [0u8; 5120];
+    let mut history = pair_stream::fresh(encoder);
     for k in 0..336 {
         refuse_receiving(&mut history, counts);
         receive_next(k, encoder, sent, got, &mut history, counts);

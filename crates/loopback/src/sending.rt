@@ -6,11 +6,12 @@ use loopback_refused_core::refuse_encodings;
 use pair_words_core::history::copy;
 use profile::Profile;
 ghost use mathlib.Core.Path.{_≡_};
-ghost use Prim.Native.Nat.{_*_, _<_};
+ghost use Prim.Native.Nat.{_+_, _*_, _<_};
 ghost use lib.ListN.{length, replicate};
 ghost use Rattle.bits.specs.Parts.{endToEnd};
 ghost use Rattle.cells_spec.specs.Profiles.{modulation};
-ghost use Rattle.pair_spec.specs.Stream.{pairEncoder as encoderOf, codedOf, historyOver};
+ghost use Rattle.pair_spec.specs.Front.{heldPairs, historyOf, BeforePair};
+ghost use Rattle.pair_spec.specs.Stream.{pairEncoder, codedOf, historyOver};
 ghost use Rattle.loopback_core.specs.Noise.{superframesOf};
 ghost use Rattle.loopback_core.specs.Random.{payloadIn};
 ghost use Rattle.loopback_core.specs.Steps.{eachStep};
@@ -48,12 +49,12 @@ fn draw(encoder: u32, q: u32, payload: &mut [u8])
 
 // Its coded pairs.
 fn encode_next(encoder: u32, q: u32, history: &mut [u8], coded: &mut [u8])
-    requires { ⌜ (encoder < 2) × (q < 2) × (length (now history) ≡ 5120) × (length (now coded) ≡ 86016) ⌝ }
-    ensures { λ _. ⌜ (now (coded .exit) ≡ codedOf 168 (now (history .entry)) (168 * q) (payloadIn encoder q)) × (now (history .exit) ≡ historyOver encoderOf 168 (now (history .entry)) (168 * q) (payloadIn encoder q)) ⌝ }
+    requires { ⌜ (encoder < 2) × (q < 2) × BeforePair encoder (168 * q) (now history) × (length (now coded) ≡ 86016) ⌝ }
+    ensures { λ _. ⌜ (now (coded .exit) ≡ codedOf 168 (heldPairs (now (history .entry))) (168 * q) (payloadIn encoder q)) × (now (history .exit) ≡ historyOf encoder (168 * q + 168) (historyOver pairEncoder 168 (heldPairs (now (history .entry))) (168 * q) (payloadIn encoder q))) ⌝ }
 {
     let mut payload = blank();
     draw(encoder, q, &mut payload);
-    pair_stream::encode(168, &payload, 168 * q, history, coded);
+    pair_stream::encode(168, &payload, encoder, 168 * q, history, coded);
 }
 
 // The coded pairs of both halves, each after refused calls.
@@ -61,7 +62,7 @@ fn encode_both(encoder: u32, coded: &mut [u8], counts: &mut [u32])
     requires { ⌜ (encoder < 2) × (length (now coded) ≡ 172032) × (length (now counts) ≡ 41) ⌝ }
     ensures { λ _. ⌜ (now (coded .exit) ≡ endToEnd 2 86016 (sentIn encoder)) × (now (counts .exit) ≡ eachStep 2 (λ q. halfSent) (now (counts .entry))) ⌝ }
 {
-    let mut history = [0u8; 5120];
+    let mut history = pair_stream::fresh(encoder);
     for q in 0..2 {
         let f = q * 86016;
         let g = f + 86016;

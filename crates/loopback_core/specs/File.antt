@@ -7,15 +7,16 @@ use Prim.Native.Nat.{ℕ}
 use lib.Dec.{eqb}
 use lib.ListN.{length, take}
 use Rattle.bits.specs.Parts.{part}
-use Rattle.line_file_spec.specs.Writing.{numbersFor, headerBytes}
+use Rattle.bits.specs.Numbers32.{bytes32}
+use Rattle.line_file_spec.specs.Writing.{numbersFor}
 
 -- Header, overhead list, frames.
 unfoldable pub lineFile : List ℕ → List ℕ → List ℕ
-lineFile list line = headerBytes (numbersFor 1) ++ (list ++ line)
+lineFile list line = bytes32 (numbersFor 1) ++ (list ++ line)
 
 -- A file that starts with the header of one super-frame, and is as long as it says.
 pub record OneSuperframe (file : List ℕ) : Type 0 where
-  pub starts : take 16 file ≡ headerBytes (numbersFor 1)
+  pub starts : take 16 file ≡ bytes32 (numbersFor 1)
   pub long : length file ≡ 368656
 
 -- Its frames.

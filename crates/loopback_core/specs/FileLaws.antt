@@ -17,8 +17,10 @@ use Rattle.calls.specs.Calls.{After, after}
 use Rattle.line_file_spec.specs.Opening.{openCall}
 use Rattle.line_file_spec.specs.Reading.{readRefusalIn, readPartIn}
 use Rattle.line_file_spec.specs.ReadingLaws.{stretch-length}
-use Rattle.line_file_spec.specs.Writing.{numbersFor, headerBytes, writeCall}
-use Rattle.line_file_spec.specs.WritingLaws.{headerBytes-length, write-done, written-reads, written-whole}
+use Rattle.bits.specs.Numbers32.{bytes32}
+use Rattle.bits.specs.Numbers32Laws.{bytes32-length}
+use Rattle.line_file_spec.specs.Writing.{numbersFor, writeCall}
+use Rattle.line_file_spec.specs.WritingLaws.{write-done, written-reads, written-whole}
 use Rattle.loopback_core.specs.File.{lineFile, OneSuperframe, framesIn, takenWhen}
 
 -- ---- the file
@@ -31,8 +33,8 @@ unfolding lineFile
 file-begun d xs ys lent list r ld ex l w =
     ap₂ _++_ is (drop-at (take 16 d) (xs ++ drop 12288 (drop 16 d)) 16 (length-take-le 16 d (omega arith)) ∙ ap₂ _++_ ex (drop-drop 12288 16 d))
   where
-    is : ys ≡ headerBytes (numbersFor 1)
-    is = ap (λ (x : After (List ℕ)). x .written) (w ∙ sym (write-done 1 lent (headerBytes (numbersFor 1)) l (omega arith) (omega arith) refl))
+    is : ys ≡ bytes32 (numbersFor 1)
+    is = ap (λ (x : After (List ℕ)). x .written) (w ∙ sym (write-done 1 lent (bytes32 (numbersFor 1)) l (omega arith) (omega arith) refl))
 
 -- The frames were written before.
 pub file-sent : (d d′ xs list line : List ℕ) → length d ≡ 368656 → xs ≡ line → d′ ≡ lineFile list (drop 12304 (putMid 12304 356352 d xs))
@@ -50,13 +52,13 @@ module _ (d list line : List ℕ) (is : d ≡ lineFile list line) (ll : length l
   unfolding lineFile
   file-whole =
       record {
-        starts = ap (take 16) is ∙ take-at (headerBytes (numbersFor 1)) (list ++ line) 16 (headerBytes-length (numbersFor 1));
+        starts = ap (take 16) is ∙ take-at (bytes32 (numbersFor 1)) (list ++ line) 16 (bytes32-length (numbersFor 1));
         long = long;
       }
 
   file-rest : drop 16 d ≡ list ++ line
   unfolding lineFile
-  file-rest = ap (drop 16) is ∙ drop-at (headerBytes (numbersFor 1)) (list ++ line) 16 (headerBytes-length (numbersFor 1))
+  file-rest = ap (drop 16) is ∙ drop-at (bytes32 (numbersFor 1)) (list ++ line) 16 (bytes32-length (numbersFor 1))
 
   file-line : framesIn d ≡ line
   unfolding framesIn

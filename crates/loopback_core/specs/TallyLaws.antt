@@ -19,8 +19,8 @@ use Rattle.bits.specs.Count.{count, distance}
 use Rattle.bits.specs.CountLaws.{count-le, differs-le, differs-same, differs-other}
 use Rattle.bits.specs.Folding.{Counting, count-done}
 use Rattle.calls.specs.declared.Answer.{Answer}
-use Rattle.calls.specs.declared.Answer.the-variants.{Done, Refused}
-use Rattle.calls.specs.declared.Refusal.the-variants.{Misfit, BadHeader, CountSpent, NoSuchFrame, OffGrid}
+use Rattle.calls.specs.declared.Answer.the-variants.{Refused}
+use Rattle.calls.specs.declared.Refusal.the-variants.{Misfit, CountSpent}
 use Rattle.calls.specs.Answers.{refusalOf}
 use Rattle.loopback_core.specs.Steps.{eachStep}
 use Rattle.loopback_core.specs.StepLaws.{Stepping, step-more, step-done}
@@ -33,17 +33,13 @@ pub sum-known : (d d′ : List ℕ) (at n x : ℕ) → x ≡ (getD d at 0 + n) %
 unfolding tallySum
 sum-known d d′ at n x e is = is ∙ ap (set d at) e
 
-refusal-lt : (a : Answer) → refusalOf a < 6
-refusal-lt (Done v) = omega arith
-refusal-lt (Refused Misfit) = omega arith
-refusal-lt (Refused BadHeader) = omega arith
-refusal-lt (Refused CountSpent) = omega arith
-refusal-lt (Refused NoSuchFrame) = omega arith
-refusal-lt (Refused (OffGrid i)) = omega arith
-
-pub count-known : (d d′ : List ℕ) (a : Answer) (r : ℕ) → r ≡ refusalOf a → d′ ≡ tallySum (1 + r % 6) 1 d → d′ ≡ answered a d
+pub count-known : (d d′ : List ℕ) (a : Answer) (r : ℕ) → r ≡ refusalOf a → refusalOf a < 6 → d′ ≡ tallySum (1 + r % 6) 1 d → d′ ≡ answered a d
 unfolding answered
-count-known d d′ a r e is = let z : 1 + r % 6 ≡ 1 + refusalOf a = omega (arith, refusal-lt a) in is ∙ ap (λ i. tallySum i 1 d) z
+count-known d d′ a r e l is = let z : 1 + r % 6 ≡ 1 + refusalOf a = omega arith in is ∙ ap (λ i. tallySum i 1 d) z
+
+-- The number of a refusal that is known.
+pub number-known : {a b : Answer} → a ≡ b → refusalOf b < 6 → refusalOf a < 6
+number-known {a} {b} e l = omega (arith, ap refusalOf e, l)
 
 -- Two calls with their refusals known.
 pub two-answered : (d d′ d″ : List ℕ) (a b x y : Answer) → d′ ≡ answered a d → d″ ≡ answered b d′ → a ≡ x → b ≡ y

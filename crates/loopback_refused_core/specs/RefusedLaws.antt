@@ -11,7 +11,7 @@ use Rattle.calls.specs.declared.Answer.{Answer}
 use Rattle.calls.specs.declared.Answer.the-variants.{Refused}
 use Rattle.calls.specs.declared.Refusal.the-variants.{Misfit, CountSpent, NoSuchFrame, OffGrid}
 use Rattle.calls.specs.Calls.{After, after}
-use Rattle.calls.specs.CallLaws.{is-misfit, no-misfit, no-sub-frame, sub-frame, tests, call-refused}
+use Rattle.calls.specs.CallLaws.{Own, is-misfit, no-misfit, no-sub-frame, sub-frame, tests, call-refused}
 use Rattle.bits.specs.Count.{count}
 use Rattle.bits.specs.Seeking.{seek-none, seek-hit}
 use Rattle.cells_spec.specs.Modulation.{Modulation}
@@ -21,9 +21,15 @@ use Rattle.frame_spec.specs.FrameLaws.{own-length, own-at}
 use Rattle.frame_spec.specs.LayoutLaws.{overhead-zeroth, payload-zeroth}
 use Rattle.frame_spec.specs.Calls.{subFrameTests, frameCall}
 use Rattle.frame_spec.specs.CallLaws.{payload-unmeasured, payload-measured, overhead-illegal}
+use Rattle.pair_spec.specs.Front.{encoderOf, nextPair, BeforePair}
+use Rattle.pair_spec.specs.FrontLaws.{own-before}
 use Rattle.pair_spec.specs.Calls.{Encoded, afterEncode, encodeCall, Received, afterReceive, receiveCall}
 
-module _ (r : Answer) (c h payload coded history : List ℕ) (P : ℕ) (is : afterEncode r c h ≡ encodeCall payload coded history P) where
+-- A history that shows the count spent is not stray to a call that names it.
+own-spent : (history : List ℕ) (e P : ℕ) → BeforePair 0 4294967295 history → e ≡ 0 → P ≡ 4294967295 → Own (encoderOf history) (nextPair history) e P
+own-spent history e P b ee ep = rw (ee, ep) (own-before b (omega arith) (omega arith))
+
+module _ (r : Answer) (c h payload coded history : List ℕ) (e P : ℕ) (is : afterEncode r c h ≡ encodeCall payload coded history e P) where
   module _ (l : length payload ≡ 443) where
     short : afterEncode r c h ≡ afterEncode (Refused Misfit) coded history
     short = let n : length payload ≢ 444 = λ e. omega (arith, l, e) in is ∙ sym (call-refused _ _ _ Misfit (is-misfit _ _ _ n))
@@ -34,17 +40,13 @@ module _ (r : Answer) (c h payload coded history : List ℕ) (P : ℕ) (is : aft
     pub encode-misfit-keeps : h ≡ history
     encode-misfit-keeps = ap (λ (x : Encoded). x .written .history) short
 
-  module _ (lp : length payload ≡ 444) (lc : length coded ≡ 512) (lh : length history ≡ 5120) (ep : P ≡ 4294967295) where
-    late : afterEncode r c h ≡ afterEncode (Refused CountSpent) coded history
-    late = is ∙ sym (call-refused _ _ _ CountSpent (search tests depth 6))
+  pub encode-late : length payload ≡ 444 → length coded ≡ 512 → BeforePair 0 4294967295 history → e ≡ 0 → P ≡ 4294967295 → r ≡ Refused CountSpent
+  encode-late lp lc b ee ep =
+      let lh = b .long in
+      let o = own-spent history e P b ee ep in
+      ap (λ (x : Encoded). x .answer) (is ∙ sym (call-refused _ _ _ CountSpent (search tests depth 7)))
 
-    pub encode-late : r ≡ Refused CountSpent
-    encode-late = ap (λ (x : Encoded). x .answer) late
-
-    pub encode-late-keeps : h ≡ history
-    encode-late-keeps = ap (λ (x : Encoded). x .written .history) late
-
-module _ (r : Answer) (y m h coded payload marks history : List ℕ) (P : ℕ) (is : afterReceive r y m h ≡ receiveCall coded payload marks history P) where
+module _ (r : Answer) (y m h coded payload marks history : List ℕ) (e P : ℕ) (is : afterReceive r y m h ≡ receiveCall coded payload marks history e P) where
   module _ (l : length coded ≡ 511) where
     receive-short : afterReceive r y m h ≡ afterReceive (Refused Misfit) payload marks history
     receive-short = let n : length coded ≢ 512 = λ e. omega (arith, l, e) in is ∙ sym (call-refused _ _ _ Misfit (is-misfit _ _ _ n))
@@ -55,15 +57,12 @@ module _ (r : Answer) (y m h coded payload marks history : List ℕ) (P : ℕ) (
     pub receive-misfit-keeps : h ≡ history
     receive-misfit-keeps = ap (λ (x : Received). x .written .history) receive-short
 
-  module _ (lc : length coded ≡ 512) (lp : length payload ≡ 444) (lm : length marks ≡ 32) (lh : length history ≡ 5120) (ep : P ≡ 4294967295) where
-    receive-left : afterReceive r y m h ≡ afterReceive (Refused CountSpent) payload marks history
-    receive-left = is ∙ sym (call-refused _ _ _ CountSpent (search tests depth 7))
-
-    pub receive-late : r ≡ Refused CountSpent
-    receive-late = ap (λ (x : Received). x .answer) receive-left
-
-    pub receive-late-keeps : h ≡ history
-    receive-late-keeps = ap (λ (x : Received). x .written .history) receive-left
+  pub receive-late : length coded ≡ 512 → length payload ≡ 444 → length marks ≡ 32 → BeforePair 0 4294967295 history → e ≡ 0 → P ≡ 4294967295
+      → r ≡ Refused CountSpent
+  receive-late lc lp lm b ee ep =
+      let lh = b .long in
+      let o = own-spent history e P b ee ep in
+      ap (λ (x : Received). x .answer) (is ∙ sym (call-refused _ _ _ CountSpent (search tests depth 8)))
 
 module _ (p : Modulation) (r : Answer) (d payload list frame : List ℕ) (lo : length list ≡ 12288) (lf : length frame ≡ 7424) where
   pub frame-beyond : after r d ≡ frameCall p 48 payload list frame → r ≡ Refused NoSuchFrame
@@ -89,4 +88,4 @@ module _ (p : Modulation) (r : Answer) (d payload list frame : List ℕ) (lo : l
       some : 0 < length (ownOverhead 0 list)
       some = omega (arith, own-length 0 list (omega arith) lo, overhead-zeroth)
 
-pub ruleset refusing = (encode-misfit, encode-misfit-keeps, encode-late, encode-late-keeps, receive-misfit, receive-misfit-keeps, receive-late, receive-late-keeps, frame-beyond, frame-off-grid)
+pub ruleset refusing = (encode-misfit, encode-misfit-keeps, encode-late, receive-misfit, receive-misfit-keeps, receive-late, frame-beyond, frame-off-grid)

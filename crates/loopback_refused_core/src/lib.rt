@@ -1,5 +1,5 @@
-// Workers of `loopback`: refused calls among the others. Lent an encoder's or a receiver's own history, they leave it as it was. Over
-// `pair` and `frame`; `loopback_core` counts them.
+// Workers of `loopback`: refused calls among the others. Some are lent an encoder's or a receiver's own history, and leave it as it was.
+// Over `pair` and `frame`; `loopback_core` counts them.
 use calls::Answer;
 use loopback_core::counts::answered;
 use profile::Profile;
@@ -7,6 +7,7 @@ ghost use mathlib.Core.Path.{_≡_};
 ghost use lib.ListN.{length};
 ghost use Rattle.calls.specs.declared.Answer.the-variants.{Refused};
 ghost use Rattle.calls.specs.declared.Refusal.the-variants.{Misfit, CountSpent, NoSuchFrame, OffGrid};
+ghost use Rattle.pair_spec.specs.Front.{BeforePair};
 ghost use Rattle.loopback_core.specs.Steps.{eachStep};
 ghost use Rattle.loopback_core.specs.Tally.{answered, refusedTwo};
 
@@ -19,27 +20,39 @@ fn encode_short(history: &mut [u8]) -> Answer
 {
     let payload = [0u8; 443];
     let mut coded = [0u8; 512];
-    pair::encode_pair(&payload, &mut coded, history, 0)
+    pair::encode_pair(&payload, &mut coded, history, 0, 0)
 }
 
-// One with the pair number that no call takes.
-fn encode_spent(history: &mut [u8]) -> Answer
-    requires { ⌜ length (now history) ≡ 5120 ⌝ }
-    ensures { λ r. ⌜ (r ≡ Refused CountSpent) × (now (history .exit) ≡ now (history .entry)) ⌝ }
+// A history: the encoder's number, the next pair number, and ten pairs.
+type History = [u8; 5128];
+
+// One that shows the pair number that no call takes.
+fn spent() -> History
+    ensures { λ r. ⌜ BeforePair 0 4294967295 r ⌝ }
+{
+    let mut history = [0u8; 5128];
+    pair::front::put(0, SPENT, &mut history[0..8]);
+    history
+}
+
+// A call with that number and such a history.
+fn encode_spent() -> Answer
+    ensures { λ r. ⌜ r ≡ Refused CountSpent ⌝ }
 {
     let payload = [0u8; 444];
     let mut coded = [0u8; 512];
-    pair::encode_pair(&payload, &mut coded, history, SPENT)
+    let mut history = spent();
+    pair::encode_pair(&payload, &mut coded, &mut history, 0, SPENT)
 }
 
 // Both, for each of 168 pairs.
 pub fn refuse_encodings(history: &mut [u8], counts: &mut [u32])
-    requires { ⌜ (length (now history) ≡ 5120) × (length (now counts) ≡ 41) ⌝ }
+    requires { ⌜ length (now counts) ≡ 41 ⌝ }
     ensures { λ _. ⌜ (now (history .exit) ≡ now (history .entry)) × (now (counts .exit) ≡ eachStep 168 (λ k. refusedTwo) (now (counts .entry))) ⌝ }
 {
     for k in 0..168usize {
         answered(counts, encode_short(history));
-        answered(counts, encode_spent(history));
+        answered(counts, encode_spent());
     }
 }
 
@@ -50,27 +63,27 @@ fn receive_short(history: &mut [u8]) -> Answer
     let coded = [0u8; 511];
     let mut payload = [0u8; 444];
     let mut marks = [0u8; 32];
-    pair::receive_pair(&coded, &mut payload, &mut marks, history, 0)
+    pair::receive_pair(&coded, &mut payload, &mut marks, history, 0, 0)
 }
 
-// One with the pair number that no call takes.
-fn receive_spent(history: &mut [u8]) -> Answer
-    requires { ⌜ length (now history) ≡ 5120 ⌝ }
-    ensures { λ r. ⌜ (r ≡ Refused CountSpent) × (now (history .exit) ≡ now (history .entry)) ⌝ }
+// One with the pair number that no call takes, and a history that shows it.
+fn receive_spent() -> Answer
+    ensures { λ r. ⌜ r ≡ Refused CountSpent ⌝ }
 {
     let coded = [0u8; 512];
     let mut payload = [0u8; 444];
     let mut marks = [0u8; 32];
-    pair::receive_pair(&coded, &mut payload, &mut marks, history, SPENT)
+    let mut history = spent();
+    pair::receive_pair(&coded, &mut payload, &mut marks, &mut history, 0, SPENT)
 }
 
 // Both.
 pub fn refuse_receiving(history: &mut [u8], counts: &mut [u32])
-    requires { ⌜ (length (now history) ≡ 5120) × (length (now counts) ≡ 41) ⌝ }
+    requires { ⌜ length (now counts) ≡ 41 ⌝ }
     ensures { λ _. ⌜ (now (history .exit) ≡ now (history .entry)) × (now (counts .exit) ≡ refusedTwo (now (counts .entry))) ⌝ }
 {
     answered(counts, receive_short(history));
-    answered(counts, receive_spent(history));
+    answered(counts, receive_spent());
 }
 
 // A call of framing for a sub-frame that there is not.

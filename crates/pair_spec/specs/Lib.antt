@@ -6,6 +6,8 @@ pub mod Pairs
 pub mod PairLaws
 pub mod History
 pub mod HistoryLaws
+pub mod Front
+pub mod FrontLaws
 pub mod WordLaws
 pub mod Encoding
 pub mod EncodingLaws

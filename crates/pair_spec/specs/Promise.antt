@@ -13,6 +13,7 @@ use Rattle.calls.specs.Sequences.{At, accepted}
 use Rattle.pair_spec.specs.Rows.{RowBits, Checked, wordOf, payloadIndex}
 use Rattle.pair_spec.specs.Pairs.{pairBit}
 use Rattle.pair_spec.specs.History.{heldBits}
+use Rattle.pair_spec.specs.Front.{heldPairs}
 use Rattle.pair_spec.specs.Calls.{Received, Receiving, Receivings}
 
 -- A coded pair holds the bits of pair P's two rows.
@@ -45,7 +46,7 @@ Lost after R r = markMeaning (markOf after R r) ≡ lost
 -- Back-half bit k of word (R, r) equals the sent bit, in the newest pair of the history returned and, where it is payload, in payload
 -- out. That history is lent to the call on pair R div 2 + 1.
 pub record AsSent (n : ℕ) (S : RowBits) (after : Received) (R r k : ℕ) : Type 0 where
-  pub newest : wordOf (heldBits n (after .written .history) (R / 2 + 1)) R r k ≡ wordOf S R r k
+  pub newest : wordOf (heldBits n (heldPairs (after .written .history)) (R / 2 + 1)) R r k ≡ wordOf S R r k
   pub paid : k < 239 → bit (after .written .payload) (payloadIndex (R % 2) r (k - 128)) ≡ wordOf S R r k
 
 -- What is promised of word (R, r) of an accepted call on pair R div 2: c is lent to it, and `after` stands afterwards.
@@ -57,6 +58,6 @@ pub record Promise (n : ℕ) (S W : RowBits) (c : Receiving) (after : Received) 
   -- "and its mark is the number of its bits, front as held and back as received, that differ from the sent bits (for R < 20 in the
   -- back half only)."
   pub flips : NotLost after R r
-      → markOf after R r ≡ distance 256 (wordOf (heldBits n (c .history ++ c .coded) (R / 2)) R r) (wordOf S R r)
+      → markOf after R r ≡ distance 256 (wordOf (heldBits n (heldPairs (c .history) ++ c .coded) (R / 2)) R r) (wordOf S R r)
   -- "A word with at most two wrong received bits is not marked lost": one that is checked.
   pub two-not-lost : Checked R → wrongBits S W R r ≤ 2 → NotLost after R r

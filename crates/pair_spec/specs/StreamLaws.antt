@@ -1,7 +1,7 @@
 -- Laws of a stream: what a call gives for a pair, and streams one after the other.
 -- Assumes nothing.
 use mathlib.Core.Path.{_≡_, refl, sym, ap, ap₂, _∙_}
-use mathlib.Core.List.{List}
+use mathlib.Core.List.{List, [], _∷_}
 use Prim.Native.Nat.{ℕ, zero, suc, _+_, _-_, _*_, _<_, _≤_}
 use native.Mathlib.Nat.{add-zero, zero-add}
 use native.Mathlib.Omega.{arith}
@@ -16,13 +16,17 @@ use Rattle.calls.specs.declared.Answer.the-variants.{Done}
 use Rattle.calls.specs.Calls.{after}
 use Rattle.pair_spec.specs.History.{depth, shift, fresh}
 use Rattle.pair_spec.specs.HistoryLaws.{length-shift, historyAfter}
+use Rattle.pair_spec.specs.Front.{heldPairs, historyOf, historyBytes, BeforePair}
+use Rattle.pair_spec.specs.FrontLaws.{length-front, pairs-of, length-pairs, before-of, own-before}
 use Rattle.pair_spec.specs.Encoding.{encoded}
 use Rattle.pair_spec.specs.EncodingLaws.{length-encoded}
 use Rattle.pair_spec.specs.ReceivingLaws.{length-payloadOut, length-marks}
 use Rattle.pair_spec.specs.Receiving.{payloadOut, marks}
-use Rattle.pair_spec.specs.Calls.{encodeBuffers, Encoded, afterEncode, encodePair, encodeCall, receiveBuffers, Received, afterReceive, receivePair, receiveCall}
+use Rattle.pair_spec.specs.Calls.{EncodeBuffers, encodeBuffers, Encoded, afterEncode, encodeNext, encodeCall, ReceiveBuffers, receiveBuffers, Received, afterReceive}
+use Rattle.pair_spec.specs.Calls.{receiveNext, receiveCall}
 use Rattle.pair_spec.specs.CallLaws.{encode-done, receive-done}
 use Rattle.pair_spec.specs.Stream.{Gives, Coder, pairEncoder, pairReceiver, historyAt, givenAt, givenOver, historyOver, historyBefore}
+use Rattle.pair_spec.specs.Stream.{encodeStream, receiveStream}
 
 -- ---- one pair
 
@@ -32,29 +36,30 @@ module _ (w m k a e : ℕ) (lk : k < m) (ea : a ≡ k * w) (ee : e ≡ a + w) (s
   lent-is = let size : e - a ≡ w = omega arith in ap₂ (λ x y. part x y s) ea size
 
 -- What the call that encodes a pair leaves.
-module _ (m k a e : ℕ) (lk : k < m) (ea : a ≡ k * 444) (ee : e ≡ a + 444) (number : ℕ) (ln : number < 4294967295) (payload : List ℕ) (lp : length payload ≡ m * 444)
-    (r : Answer) (c h coded history : List ℕ) (is : afterEncode r c h ≡ encodeCall (part a (e - a) payload) coded history number) (lc : length coded ≡ 512)
-    (lh : length history ≡ 512 * depth) where
-  encode-left : afterEncode r c h ≡ after (Done (number + 1)) (encodePair history number (partOf 444 payload k))
+module _ (m k a b : ℕ) (lk : k < m) (ea : a ≡ k * 444) (eb : b ≡ a + 444) (e number : ℕ) (le : e ≤ 1) (ln : number < 4294967295) (payload : List ℕ)
+    (lp : length payload ≡ m * 444) (r : Answer) (c h coded history : List ℕ) (is : afterEncode r c h ≡ encodeCall (part a (b - a) payload) coded history e number)
+    (lc : length coded ≡ 512) (own : BeforePair e number history) where
+  encode-left : afterEncode r c h ≡ after (Done (number + 1)) (encodeNext history e number (partOf 444 payload k))
   encode-left =
       is
-      ∙ sym (encode-done (part a (e - a) payload) coded history number (part-long a e 444 payload ee (omega arith)) lc lh (omega arith) _ refl)
-      ∙ ap (λ s. after (Done (number + 1)) (encodePair history number s)) (lent-is 444 m k a e lk ea ee payload lp)
+      ∙ sym (encode-done (part a (b - a) payload) coded history e number (part-long a b 444 payload eb (omega arith)) lc (own .long) (own-before own le (omega arith)) (omega arith) _ refl)
+      ∙ ap (λ s. after (Done (number + 1)) (encodeNext history e number s)) (lent-is 444 m k a b lk ea eb payload lp)
 
-  pub pair-encoded : encodeBuffers c h ≡ encodePair history number (partOf 444 payload k)
+  pub pair-encoded : encodeBuffers c h ≡ encodeNext history e number (partOf 444 payload k)
   pair-encoded = ap (λ (x : Encoded). x .written) encode-left
 
 -- What the call that receives a pair leaves.
-module _ (m k a e : ℕ) (lk : k < m) (ea : a ≡ k * 512) (ee : e ≡ a + 512) (number : ℕ) (ln : number < 4294967295) (coded : List ℕ) (lc : length coded ≡ m * 512)
-    (r : Answer) (y w h payload marks′ history : List ℕ) (is : afterReceive r y w h ≡ receiveCall (part a (e - a) coded) payload marks′ history number)
-    (lp : length payload ≡ 444) (lm : length marks′ ≡ 32) (lh : length history ≡ 512 * depth) where
-  receive-left : afterReceive r y w h ≡ after (Done (number + 1)) (receivePair depth history number (partOf 512 coded k))
+module _ (m k a b : ℕ) (lk : k < m) (ea : a ≡ k * 512) (eb : b ≡ a + 512) (e number : ℕ) (le : e ≤ 1) (ln : number < 4294967295) (coded : List ℕ)
+    (lc : length coded ≡ m * 512) (r : Answer) (y w h payload marks′ history : List ℕ)
+    (is : afterReceive r y w h ≡ receiveCall (part a (b - a) coded) payload marks′ history e number) (lp : length payload ≡ 444) (lm : length marks′ ≡ 32)
+    (own : BeforePair e number history) where
+  receive-left : afterReceive r y w h ≡ after (Done (number + 1)) (receiveNext depth history e number (partOf 512 coded k))
   receive-left =
       is
-      ∙ sym (receive-done (part a (e - a) coded) payload marks′ history number (part-long a e 512 coded ee (omega arith)) lp lm lh (omega arith) _ refl)
-      ∙ ap (λ s. after (Done (number + 1)) (receivePair depth history number s)) (lent-is 512 m k a e lk ea ee coded lc)
+      ∙ sym (receive-done (part a (b - a) coded) payload marks′ history e number (part-long a b 512 coded eb (omega arith)) lp lm (own .long) (own-before own le (omega arith)) (omega arith) _ refl)
+      ∙ ap (λ s. after (Done (number + 1)) (receiveNext depth history e number s)) (lent-is 512 m k a b lk ea eb coded lc)
 
-  pub pair-received : receiveBuffers y w h ≡ receivePair depth history number (partOf 512 coded k)
+  pub pair-received : receiveBuffers y w h ≡ receiveNext depth history e number (partOf 512 coded k)
   pair-received = ap (λ (x : Received). x .written) receive-left
 
 pub ruleset pair-calls = (pair-encoded, pair-received)
@@ -62,45 +67,58 @@ pub ruleset pair-calls = (pair-encoded, pair-received)
 -- ---- the pairs of a super-frame
 
 -- The invariant of the loop: the history before pair k.
-pub record Streaming (c : Coder) (h : List ℕ) (p : ℕ) (s : List ℕ) (k : ℕ) (history : List ℕ) : Type 0 where
-  pub long : length history ≡ 512 * depth
-  pub is : history ≡ historyAt c h p (partOf (c .given) s) k
+pub record Streaming (c : Coder) (h : List ℕ) (e p : ℕ) (s : List ℕ) (k : ℕ) (history : List ℕ) : Type 0 where
+  pub long : length history ≡ historyBytes
+  pub is : history ≡ historyOf e (p + k) (historyAt c (heldPairs h) p (partOf (c .given) s) k)
 
-pub stream-none : (c : Coder) (h : List ℕ) (p : ℕ) (s : List ℕ) → length h ≡ 512 * depth → Streaming c h p s 0 h
+pub stream-none : (c : Coder) (h : List ℕ) (e p : ℕ) (s : List ℕ) → BeforePair e p h → Streaming c h e p s 0 h
 unfolding historyAt
-stream-none c h p s l = record { long = l; is = refl }
+stream-none c h e p s b = record { long = b .long; is = b .is ∙ ap (λ n. historyOf e n (heldPairs h)) (sym (add-zero p)) }
 
-module _ {c : Coder} {h : List ℕ} {p : ℕ} {s : List ℕ} {k : ℕ} {g : List ℕ} (number : ℕ) (st : Streaming c h p s k g) (en : number ≡ p + k) where
-  pub stream-more : (g′ : List ℕ) → g′ ≡ shift g (c .newest g number (partOf (c .given) s k)) → Streaming c h p s (k + 1) g′
+module _ {c : Coder} {h : List ℕ} {e p : ℕ} {s : List ℕ} {k : ℕ} {g : List ℕ} (number : ℕ) (st : Streaming c h e p s k g) (en : number ≡ p + k) where
+  stream-pairs : heldPairs g ≡ historyAt c (heldPairs h) p (partOf (c .given) s) k
+  stream-pairs = ap heldPairs (st .is) ∙ pairs-of e (p + k) _
+
+  -- It is encoder e's before pair p + k.
+  pub stream-own : BeforePair e number g
+  stream-own = record { long = st .long; is = st .is ∙ ap₂ (historyOf e) (sym en) (sym stream-pairs) }
+
+  pub stream-more : (g′ : List ℕ) → g′ ≡ historyOf e (number + 1) (shift (heldPairs g) (c .newest (heldPairs g) number (partOf (c .given) s k)))
+      → Streaming c h e p s (k + 1) g′
   unfolding historyAt
-  stream-more g′ e =
+  stream-more g′ is =
+      let next : number + 1 ≡ p + (k + 1) = omega (arith, en) in
       record {
-        long = ap length e ∙ length-shift 10 g _ (st .long) (c .newest-long g number (partOf (c .given) s k));
-        is = e ∙ ap₂ (λ x n. shift x (c .newest x n (partOf (c .given) s k))) (st .is) en ∙ ap (historyAt c h p (partOf (c .given) s)) (sym (add-one k));
+        long = ap length is
+            ∙ length-front (e ∷ (number + 1) ∷ []) _
+            ∙ ap (λ n. 8 + n) (length-shift depth (heldPairs g) _ (length-pairs g (st .long)) (c .newest-long (heldPairs g) number (partOf (c .given) s k)));
+        is = is
+            ∙ ap₂ (historyOf e) next
+            (ap₂ (λ x n. shift x (c .newest x n (partOf (c .given) s k))) stream-pairs en ∙ ap (historyAt c (heldPairs h) p (partOf (c .given) s)) (sym (add-one k)));
       }
 
   -- What the call on pair k gives is block k of the whole.
-  stream-block : (out : Gives) (w : ℕ) (y : List ℕ) → 0 < w → length y ≡ w → y ≡ out g number (partOf (c .given) s k)
-      → y ≡ tabulate w (λ i. byteOfEach w (givenAt c h p (partOf (c .given) s) out) (k * w + i))
+  stream-block : (out : Gives) (w : ℕ) (y : List ℕ) → 0 < w → length y ≡ w → y ≡ out (heldPairs g) number (partOf (c .given) s k)
+      → y ≡ tabulate w (λ i. byteOfEach w (givenAt c (heldPairs h) p (partOf (c .given) s) out) (k * w + i))
   unfolding givenAt
-  stream-block out w y pos long e =
-      each-block (givenAt c h p (partOf (c .given) s) out) w k y pos long (e ∙ ap₂ (λ x n. out x n (partOf (c .given) s k)) (st .is) en)
+  stream-block out w y pos long is =
+      each-block (givenAt c (heldPairs h) p (partOf (c .given) s) out) w k y pos long (is ∙ ap₂ (λ x n. out x n (partOf (c .given) s k)) stream-pairs en)
 
-module _ {h : List ℕ} {p : ℕ} {s : List ℕ} {k : ℕ} {g : List ℕ} (number : ℕ) where
-  pub coded-block : (y : List ℕ) → Streaming pairEncoder h p s k g → number ≡ p + k → y ≡ encoded depth g number (partOf 444 s k)
-      → y ≡ tabulate 512 (λ i. byteOfEach 512 (givenAt pairEncoder h p (partOf 444 s) (encoded depth)) (k * 512 + i))
-  coded-block y st en e =
-      stream-block number st en (encoded depth) 512 y (lit< tt) (ap length e ∙ length-encoded depth g number (partOf 444 s k)) e
+module _ {h : List ℕ} {e p : ℕ} {s : List ℕ} {k : ℕ} {g : List ℕ} (number : ℕ) where
+  pub coded-block : (y : List ℕ) → Streaming pairEncoder h e p s k g → number ≡ p + k → y ≡ encoded depth (heldPairs g) number (partOf 444 s k)
+      → y ≡ tabulate 512 (λ i. byteOfEach 512 (givenAt pairEncoder (heldPairs h) p (partOf 444 s) (encoded depth)) (k * 512 + i))
+  coded-block y st en is =
+      stream-block number st en (encoded depth) 512 y (lit< tt) (ap length is ∙ length-encoded depth (heldPairs g) number (partOf 444 s k)) is
 
-  pub payload-block : (y : List ℕ) → Streaming pairReceiver h p s k g → number ≡ p + k → y ≡ payloadOut depth g number (partOf 512 s k)
-      → y ≡ tabulate 444 (λ i. byteOfEach 444 (givenAt pairReceiver h p (partOf 512 s) (payloadOut depth)) (k * 444 + i))
-  payload-block y st en e =
-      stream-block number st en (payloadOut depth) 444 y (lit< tt) (ap length e ∙ length-payloadOut depth g number (partOf 512 s k)) e
+  pub payload-block : (y : List ℕ) → Streaming pairReceiver h e p s k g → number ≡ p + k → y ≡ payloadOut depth (heldPairs g) number (partOf 512 s k)
+      → y ≡ tabulate 444 (λ i. byteOfEach 444 (givenAt pairReceiver (heldPairs h) p (partOf 512 s) (payloadOut depth)) (k * 444 + i))
+  payload-block y st en is =
+      stream-block number st en (payloadOut depth) 444 y (lit< tt) (ap length is ∙ length-payloadOut depth (heldPairs g) number (partOf 512 s k)) is
 
-  pub marks-block : (y : List ℕ) → Streaming pairReceiver h p s k g → number ≡ p + k → y ≡ marks depth g number (partOf 512 s k)
-      → y ≡ tabulate 32 (λ i. byteOfEach 32 (givenAt pairReceiver h p (partOf 512 s) (marks depth)) (k * 32 + i))
-  marks-block y st en e =
-      stream-block number st en (marks depth) 32 y (lit< tt) (ap length e ∙ length-marks depth g number (partOf 512 s k)) e
+  pub marks-block : (y : List ℕ) → Streaming pairReceiver h e p s k g → number ≡ p + k → y ≡ marks depth (heldPairs g) number (partOf 512 s k)
+      → y ≡ tabulate 32 (λ i. byteOfEach 32 (givenAt pairReceiver (heldPairs h) p (partOf 512 s) (marks depth)) (k * 32 + i))
+  marks-block y st en is =
+      stream-block number st en (marks depth) 32 y (lit< tt) (ap length is ∙ length-marks depth (heldPairs g) number (partOf 512 s k)) is
 
 pub stream-given : (c : Coder) (out : Gives) (w m : ℕ) (h : List ℕ) (p : ℕ) (s d : List ℕ)
     → d ≡ tabulate (m * w) (byteOfEach w (givenAt c h p (partOf (c .given) s) out))
@@ -108,12 +126,34 @@ pub stream-given : (c : Coder) (out : Gives) (w m : ℕ) (h : List ℕ) (p : ℕ
 unfolding givenOver endToEnd
 stream-given c out w m h p s d e = e
 
-pub stream-done : {c : Coder} {m : ℕ} {h : List ℕ} {p : ℕ} {s : List ℕ} {k : ℕ} {g : List ℕ} → Streaming c h p s k g → k ≤ m → m ≤ k
-    → g ≡ historyOver c m h p s
+pub stream-done : {c : Coder} {m : ℕ} {h : List ℕ} {e p : ℕ} {s : List ℕ} {k : ℕ} {g : List ℕ} → Streaming c h e p s k g → k ≤ m → m ≤ k
+    → g ≡ historyOf e (p + m) (historyOver c m (heldPairs h) p s)
 unfolding historyOver
-stream-done {c} {m} {h} {p} {s} {k} st l r = let e : k ≡ m = omega arith in st .is ∙ ap (historyAt c h p (partOf (c .given) s)) e
+stream-done {c} {m} {h} {e} {p} {s} {k} st l r =
+    let is : k ≡ m = omega arith in st .is ∙ ap (λ n. historyOf e (p + n) (historyAt c (heldPairs h) p (partOf (c .given) s) n)) is
 
-pub ruleset streaming = (stream-none, stream-more, coded-block, payload-block, marks-block, stream-given, stream-done)
+pub ruleset streaming = (stream-none, stream-own, stream-more, coded-block, payload-block, marks-block, stream-given, stream-done)
+
+-- ---- the history after a stream
+
+length-at : (c : Coder) (h : List ℕ) (p : ℕ) (f : ℕ → List ℕ) (n : ℕ) → length h ≡ 512 * depth → length (historyAt c h p f n) ≡ 512 * depth
+unfolding historyAt
+length-at c h p f zero l = l
+length-at c h p f (suc n) l = length-shift depth (historyAt c h p f n) _ (length-at c h p f n l) (c .newest-long (historyAt c h p f n) (p + n) (f n))
+
+before-next : (c : Coder) (m : ℕ) {h : List ℕ} {e p : ℕ} (s : List ℕ) {g : List ℕ} → BeforePair e p h
+    → g ≡ historyOf e (p + m) (historyOver c m (heldPairs h) p s) → BeforePair e (p + m) g
+unfolding historyOver
+before-next c m {h} {e} {p} s {g} b = before-of e (p + m) _ g (length-at c (heldPairs h) p (partOf (c .given) s) m (length-pairs h (b .long)))
+
+-- It is the encoder's before the next pair.
+pub encoded-after : (m : ℕ) {h : List ℕ} {e p : ℕ} (s : List ℕ) {q g : List ℕ} → BeforePair e p h → encodeBuffers q g ≡ encodeStream m h e p s
+    → BeforePair e (p + m) g
+encoded-after m s b made = before-next pairEncoder m s b (ap (λ (x : EncodeBuffers). x .history) made)
+
+pub received-after : (m : ℕ) {h : List ℕ} {e p : ℕ} (s : List ℕ) {y w g : List ℕ} → BeforePair e p h → receiveBuffers y w g ≡ receiveStream m h e p s
+    → BeforePair e (p + m) g
+received-after m s b made = before-next pairReceiver m s b (ap (λ (x : ReceiveBuffers). x .history) made)
 
 -- ---- one stream after the other
 

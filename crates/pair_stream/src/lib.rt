@@ -4,30 +4,51 @@ ghost use Prim.Native.Nat.{_*_, _≤_, _<_};
 ghost use lib.ListN.{length};
 ghost use Rattle.bits.specs.Parts.{partOf};
 ghost use Rattle.pair_spec.specs.History.{depth};
-ghost use Rattle.pair_spec.specs.Calls.{encodeBuffers, encodePair, receiveBuffers, receivePair};
+ghost use Rattle.pair_spec.specs.Front.{freshHistory, BeforePair};
+ghost use Rattle.pair_spec.specs.Calls.{encodeBuffers, encodeNext, receiveBuffers, receiveNext};
 ghost use Rattle.pair_spec.specs.Stream.{EncodesStream, ReceivesStream, encodeStream, receiveStream};
+
+// A history: the encoder's number, the next pair number, and ten pairs.
+type History = [u8; 5128];
+
+// A fresh history of an encoder.
+pub fn fresh(encoder: u32) -> History
+    ensures { λ r. ⌜ r ≡ freshHistory encoder ⌝ }
+{
+    let mut history = [0u8; 5128];
+    pair::front::put(encoder, 0, &mut history[0..8]);
+    history
+}
 
 // Encodes pair k.
 fn encode_next(
     k: usize,
     pairs: usize,
     payload: &[u8],
+    encoder: u32,
     number: u32,
     history: &mut [u8],
     coded: &mut [u8],
 )
-    requires { ⌜ (k < pairs) × (pairs ≤ 4294967295) × (length (now payload) ≡ pairs * 444) × (number < 4294967295) × (length (now history) ≡ 512 * depth) × (length (now coded) ≡ 512) ⌝ }
-    ensures { λ _. ⌜ encodeBuffers (now (coded .exit)) (now (history .exit)) ≡ encodePair (now (history .entry)) number (partOf 444 (now (payload .entry)) k) ⌝ }
+    requires { ⌜ (k < pairs) × (pairs ≤ 4294967295) × (length (now payload) ≡ pairs * 444) × (encoder ≤ 1) × (number < 4294967295) × BeforePair encoder number (now history) × (length (now coded) ≡ 512) ⌝ }
+    ensures { λ _. ⌜ encodeBuffers (now (coded .exit)) (now (history .exit)) ≡ encodeNext (now (history .entry)) encoder number (partOf 444 (now (payload .entry)) k) ⌝ }
 {
     let a = k * 444;
     let e = a + 444;
-    pair::encode_pair(&payload[a..e], coded, history, number);
+    pair::encode_pair(&payload[a..e], coded, history, encoder, number);
 }
 
-// Encodes the pairs, numbered from `first` on.
-pub fn encode(pairs: usize, payload: &[u8], first: u32, history: &mut [u8], coded: &mut [u8])
-    requires { ⌜ EncodesStream pairs (now payload) first (now history) (now coded) ⌝ }
-    ensures { λ _. ⌜ encodeBuffers (now (coded .exit)) (now (history .exit)) ≡ encodeStream pairs (now (history .entry)) first (now (payload .entry)) ⌝ }
+// Encodes the pairs of an encoder, numbered from `first` on.
+pub fn encode(
+    pairs: usize,
+    payload: &[u8],
+    encoder: u32,
+    first: u32,
+    history: &mut [u8],
+    coded: &mut [u8],
+)
+    requires { ⌜ EncodesStream pairs (now payload) encoder first (now history) (now coded) ⌝ }
+    ensures { λ _. ⌜ encodeBuffers (now (coded .exit)) (now (history .exit)) ≡ encodeStream pairs (now (history .entry)) encoder first (now (payload .entry)) ⌝ }
 {
     for k in 0..pairs {
         let f = k * 512;
@@ -36,6 +57,7 @@ pub fn encode(pairs: usize, payload: &[u8], first: u32, history: &mut [u8], code
             k,
             pairs,
             payload,
+            encoder,
             first + k as u32,
             history,
             &mut coded[f..g],
@@ -48,30 +70,32 @@ fn receive_next(
     k: usize,
     pairs: usize,
     coded: &[u8],
+    encoder: u32,
     number: u32,
     history: &mut [u8],
     payload: &mut [u8],
     marks: &mut [u8],
 )
-    requires { ⌜ (k < pairs) × (pairs ≤ 4294967295) × (length (now coded) ≡ pairs * 512) × (number < 4294967295) × (length (now history) ≡ 512 * depth) × (length (now payload) ≡ 444) × (length (now marks) ≡ 32) ⌝ }
-    ensures { λ _. ⌜ receiveBuffers (now (payload .exit)) (now (marks .exit)) (now (history .exit)) ≡ receivePair depth (now (history .entry)) number (partOf 512 (now (coded .entry)) k) ⌝ }
+    requires { ⌜ (k < pairs) × (pairs ≤ 4294967295) × (length (now coded) ≡ pairs * 512) × (encoder ≤ 1) × (number < 4294967295) × BeforePair encoder number (now history) × (length (now payload) ≡ 444) × (length (now marks) ≡ 32) ⌝ }
+    ensures { λ _. ⌜ receiveBuffers (now (payload .exit)) (now (marks .exit)) (now (history .exit)) ≡ receiveNext depth (now (history .entry)) encoder number (partOf 512 (now (coded .entry)) k) ⌝ }
 {
     let a = k * 512;
     let e = a + 512;
-    pair::receive_pair(&coded[a..e], payload, marks, history, number);
+    pair::receive_pair(&coded[a..e], payload, marks, history, encoder, number);
 }
 
-// Receives the pairs, numbered from `first` on.
+// Receives the pairs of an encoder, numbered from `first` on.
 pub fn receive(
     pairs: usize,
     coded: &[u8],
+    encoder: u32,
     first: u32,
     history: &mut [u8],
     payload: &mut [u8],
     marks: &mut [u8],
 )
-    requires { ⌜ ReceivesStream pairs (now coded) first (now history) (now payload) (now marks) ⌝ }
-    ensures { λ _. ⌜ receiveBuffers (now (payload .exit)) (now (marks .exit)) (now (history .exit)) ≡ receiveStream pairs (now (history .entry)) first (now (coded .entry)) ⌝ }
+    requires { ⌜ ReceivesStream pairs (now coded) encoder first (now history) (now payload) (now marks) ⌝ }
+    ensures { λ _. ⌜ receiveBuffers (now (payload .exit)) (now (marks .exit)) (now (history .exit)) ≡ receiveStream pairs (now (history .entry)) encoder first (now (coded .entry)) ⌝ }
 {
     for k in 0..pairs {
         let f = k * 444;
@@ -83,6 +107,7 @@ pub fn receive(
             k,
             pairs,
             coded,
+            encoder,
             number,
             history,
             &mut payload[f..g],

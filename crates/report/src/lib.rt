@@ -1,7 +1,7 @@
-// What the programs print of a line file: its header's numbers on one line, or the refusal. Over `header_core`, by the
-// definitions of `line_file_spec`; below the programs.
+// What the programs print of a line file: its header's numbers on one line, or the refusal. By the definitions of
+// `line_file_spec`; below the programs.
+use bits::numbers::number;
 use calls::Answer;
-use header_core::rules::number;
 use libc::STDERR_FILENO;
 use libc::STDOUT_FILENO;
 use line_file_spec::Header;

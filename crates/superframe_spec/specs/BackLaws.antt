@@ -17,7 +17,8 @@ use Rattle.calls.specs.declared.Answer.the-variants.{Done}
 use Rattle.calls.specs.Answers.{valueOr}
 use Rattle.calls.specs.Sequences.{At, Run, accepted}
 use Rattle.calls.specs.Calls.{After}
-use Rattle.pair_spec.specs.Calls.{State, start, Receiving, receive, Receivings}
+use Rattle.pair_spec.specs.Front.{historyOf, freshHistory}
+use Rattle.pair_spec.specs.Calls.{Receiving, receive, Receivings}
 use Rattle.pair_spec.specs.Stream.{pairReceiver, historyAt, payloadsOf, marksOf, historyBefore}
 use Rattle.pair_spec.specs.StreamRunLaws.{stream-payload, stream-marks, stream-history}
 use Rattle.interleaver_spec.specs.Interleaving.{apart}
@@ -29,6 +30,7 @@ use Rattle.cells_spec.specs.CellLaws.{none-illegal}
 use Rattle.frame_spec.specs.Frames.{payloadStart, ownOverhead, frameRule, unframed, differing, subFrameOf}
 use Rattle.frame_spec.specs.PlaceLaws.{located}
 use Rattle.line_spec.specs.Sides.{Side, side0, side1, encoder}
+use Rattle.line_spec.specs.LineLaws.{encoder-small}
 use Rattle.line_spec.specs.Outward.{Outward}
 use Rattle.line_spec.specs.Inward as inward
 use Rattle.line_spec.specs.Inward.{ReceivedLine, unframing, receivedByte, pairsBack, receivedPair, Inward}
@@ -189,24 +191,25 @@ module _ (p : Modulation) (n : ℕ) (h : ReceivedLine p n) where
 
   -- A list of receiving calls from fresh, whose accepted calls take the pairs received in order: accepted call k of super-frame q gives
   -- pair k's part of what the stream gives for it, from fresh on super-frame by super-frame, and leaves the stream's history.
-  module _ (e : Side) (cs : List Receiving) {t : State} (run : Run Receivings start cs t)
+  module _ (e : Side) (cs : List Receiving) {t : List ℕ} (run : Run Receivings (freshHistory (encoder e)) cs t)
       (in-order : (P : ℕ) (c : Receiving) → At (accepted Receivings cs) P c → c .coded ≡ receivedPair p n h e P)
       (q k : ℕ) (lq : q < n) (lk : k < pairsPerSuperframe p) (c : Receiving) (a : At (accepted Receivings cs) (pairsPerSuperframe p * q + k) c) where
-    -- The history before super-frame q.
+    -- The pairs before super-frame q.
     abbrev before : List ℕ
     before = historyBefore pairReceiver (pairsPerSuperframe p) (λ r. receivedPairs r e) q
 
     pub call-payload : receive c .written .payload ≡ partOf 444 (payloadsOf (pairsPerSuperframe p) before (pairsPerSuperframe p * q) (receivedPairs q e)) k
     call-payload =
-        stream-payload cs (receivedPair p n h e) in-order run (pairsPerSuperframe p) n (λ r. receivedPairs r e) (pair-of e) q k lq lk c a
+        stream-payload cs (receivedPair p n h e) in-order (encoder-small e) run (pairsPerSuperframe p) n (λ r. receivedPairs r e) (pair-of e) q k lq lk c a
 
     pub call-marks : receive c .written .marks ≡ partOf 32 (marksOf (pairsPerSuperframe p) before (pairsPerSuperframe p * q) (receivedPairs q e)) k
     call-marks =
-        stream-marks cs (receivedPair p n h e) in-order run (pairsPerSuperframe p) n (λ r. receivedPairs r e) (pair-of e) q k lq lk c a
+        stream-marks cs (receivedPair p n h e) in-order (encoder-small e) run (pairsPerSuperframe p) n (λ r. receivedPairs r e) (pair-of e) q k lq lk c a
 
-    pub call-history : receive c .written .history ≡ historyAt pairReceiver before (pairsPerSuperframe p * q) (partOf 512 (receivedPairs q e)) (suc k)
+    pub call-history : receive c .written .history
+        ≡ historyOf (encoder e) (pairsPerSuperframe p * q + suc k) (historyAt pairReceiver before (pairsPerSuperframe p * q) (partOf 512 (receivedPairs q e)) (suc k))
     call-history =
-        stream-history cs (receivedPair p n h e) in-order run (pairsPerSuperframe p) n (λ r. receivedPairs r e) (pair-of e) q k lq lk c a
+        stream-history cs (receivedPair p n h e) in-order (encoder-small e) run (pairsPerSuperframe p) n (λ r. receivedPairs r e) (pair-of e) q k lq lk c a
 
 -- Demand 3's receivers are such lists.
 module _ (p : Modulation) (o : Outward p) (i : Inward p o) (e : Side) (q k : ℕ) (lq : q < o .superframes) (lk : k < pairsPerSuperframe p) (c : Receiving)

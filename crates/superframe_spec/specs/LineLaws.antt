@@ -24,6 +24,7 @@ use Rattle.frame_spec.specs.FrameLaws.{framed-length}
 use Rattle.line_spec.specs.Sides.{Side, side0, side1}
 use Rattle.line_spec.specs.Outward as outward
 use Rattle.line_spec.specs.Outward.{Outward, codedPairs, pairsOfBuffer, mapping, payloadByte, framePayload}
+use Rattle.line_spec.specs.LineLaws.{encoder-small}
 use Rattle.line_spec.specs.OutwardLaws.{coded-at, cells-are, frame-is}
 use Rattle.superframe_spec.specs.Superframe.{bufferCells, payloadOfPairs, subFrame, framesEndToEnd, superframe}
 use Rattle.superframe_spec.specs.SuperframeLaws.{payload-within}
@@ -140,7 +141,7 @@ module _ (p : Modulation) (o : Outward p) (S : Side → ℕ → List ℕ)
   pairs-are : (e : Side) (q : ℕ) → q < o .superframes → codedIn q e ≡ codedPairsIn p o q e
   unfolding codedPairsIn
   pairs-are e =
-      stream-coded (o .calls e) (o .runs e) (pairsPerSuperframe p) (o .superframes) (S e)
+      stream-coded (o .calls e) (encoder-small e) (o .runs e) (pairsPerSuperframe p) (o .superframes) (S e)
       (λ q k lq lk. omega (arith, o .filled e, pair-lt p q k (o .superframes) lq lk)) (given e) (λ P. getD (codedPairs (o .calls e)) P [])
       (λ P c a. coded-at (o .calls e) a)
 

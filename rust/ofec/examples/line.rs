@@ -26,7 +26,7 @@ fn send(overhead: &[u8]) -> Result<Vec<u8>, Refusal> {
     let mut file = vec![0; HEADER_BYTES];
     write_header(SUPERFRAMES, &mut file)?;
     file.extend(overhead);
-    let mut encoders = [Encoder::new(), Encoder::new()];
+    let mut encoders = [Encoder::new(0), Encoder::new(1)];
     let mut coded = [vec![0; CODED_BYTES], vec![0; CODED_BYTES]];
     for superframe in 0..SUPERFRAMES as usize {
         for (number, encoder) in encoders.iter_mut().enumerate() {
@@ -49,7 +49,7 @@ struct Found {
 
 fn receive_all(line: LineFile) -> Result<Found, Refusal> {
     let mut found = Found::default();
-    let mut receivers = [Receiver::new(), Receiver::new()];
+    let mut receivers = [Receiver::new(0), Receiver::new(1)];
     let [mut coded0, mut coded1] = [vec![0; CODED_BYTES], vec![0; CODED_BYTES]];
     for superframe in 0..line.superframes() {
         let frames = line.superframe(superframe)?;

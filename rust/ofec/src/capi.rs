@@ -22,7 +22,7 @@
 #[repr(C)]
 #[derive(Debug, Clone, Copy, PartialEq, Eq)]
 pub struct Outcome {
-    /// The number of the refusal, 1 to 5, or 0 if the call was done.
+    /// The number of the refusal, 1 to 6, or 0 if the call was done.
     pub refusal: u32,
     /// The call's own number; 0 if it has none, and 0 in a refusal unless the call says otherwise.
     pub value: u32,
@@ -55,6 +55,7 @@ unsafe extern "C" {
         coded_length: usize,
         history: *mut u8,
         history_length: usize,
+        encoder: u32,
         pair: u32,
     ) -> Outcome;
     fn ofec_receive_pair(
@@ -66,6 +67,7 @@ unsafe extern "C" {
         marks_length: usize,
         history: *mut u8,
         history_length: usize,
+        encoder: u32,
         pair: u32,
     ) -> Outcome;
     fn ofec_interleave(
@@ -166,11 +168,17 @@ pub fn repair_word(word: &mut [u8], front: u32) -> Outcome {
     unsafe { ofec_repair_word(word.as_mut_ptr(), word.len(), front) }
 }
 
-/// Encodes a pair: `payload` of 444 bytes to `coded` of 512, with a `history` of 5,120, which is
-/// moved on.
+/// Encodes a pair: `payload` of 444 bytes to `coded` of 512, with a `history` of 5,128, which is
+/// moved on. The numbers of encoder and pair must be those in front of the history.
 ///
 /// Value: the next pair number; in a refusal, the number that was passed.
-pub fn encode_pair(payload: &[u8], coded: &mut [u8], history: &mut [u8], pair: u32) -> Outcome {
+pub fn encode_pair(
+    payload: &[u8],
+    coded: &mut [u8],
+    history: &mut [u8],
+    encoder: u32,
+    pair: u32,
+) -> Outcome {
     unsafe {
         ofec_encode_pair(
             payload.as_ptr(),
@@ -179,13 +187,14 @@ pub fn encode_pair(payload: &[u8], coded: &mut [u8], history: &mut [u8], pair: u
             coded.len(),
             history.as_mut_ptr(),
             history.len(),
+            encoder,
             pair,
         )
     }
 }
 
 /// Receives a pair: `coded` of 512 bytes to `payload` of 444 and `marks` of 32, with a `history` of
-/// 5,120, which is moved on.
+/// 5,128, which is moved on. The numbers of encoder and pair must be those in front of the history.
 ///
 /// Value: the next pair number; in a refusal, the number that was passed.
 pub fn receive_pair(
@@ -193,6 +202,7 @@ pub fn receive_pair(
     payload: &mut [u8],
     marks: &mut [u8],
     history: &mut [u8],
+    encoder: u32,
     pair: u32,
 ) -> Outcome {
     unsafe {
@@ -205,6 +215,7 @@ pub fn receive_pair(
             marks.len(),
             history.as_mut_ptr(),
             history.len(),
+            encoder,
             pair,
         )
     }

@@ -1,13 +1,13 @@
 //! The oFEC line reference (16-QAM and QPSK) for Rust: safe functions and types over the verified library.
 //!
 //! Every function of that library is proved to meet its contract. This crate has slices where the
-//! library has pointers, and a [`Refusal`] where it has a number; its types carry a history or an
+//! library has pointers, and a [`Refusal`] where it has a number; its types carry a [`History`] or an
 //! open file. It has no dependencies, needs no standard library, and allocates nothing.
 //!
 //! | module | holds |
 //! |---|---|
 //! | [`word`] | repair of a check word |
-//! | [`pair`] | [`Encoder`] and [`Receiver`]: pairs of rows over the ten pairs before |
+//! | [`pair`] | [`Encoder`] and [`Receiver`]: pairs of rows over a [`History`] of the ten pairs before |
 //! | [`interleaver`] | 21 pairs of each of two encoders to the bits of a buffer, and back |
 //! | [`profile`] | [`Profile`]: 16-QAM or QPSK, and the sizes that depend on it |
 //! | [`cells`] | a buffer's bits to cells, and back |
@@ -23,7 +23,7 @@
 //! Each module has constants for the lengths of its buffers, and [`Profile`] has those that depend on
 //! the profile. A buffer of any other length is refused with [`Refusal::Misfit`] (except the payload
 //! of a sub-frame number of 48 or more, which is not measured). A refused call leaves every buffer and
-//! every state as it was. The library has no state of its own, so calls may run on several threads at
+//! every history as it was. The library has no state of its own, so calls may run on several threads at
 //! once.
 //!
 //! A pair over a line that flips two bits of one word:
@@ -34,12 +34,12 @@
 //!
 //! let payload: Vec<u8> = (0..PAYLOAD_BYTES).map(|i| (i * i) as u8).collect();
 //! let mut line = [0; CODED_BYTES];
-//! Encoder::new().encode(&payload, &mut line)?;
+//! Encoder::new(0).encode(&payload, &mut line)?;
 //!
 //! line[0] ^= 0b0110_0000; // two bits of word 0
 //!
 //! let mut received = [0; PAYLOAD_BYTES];
-//! let marks = Receiver::new().receive(&line, &mut received)?;
+//! let marks = Receiver::new(0).receive(&line, &mut received)?;
 //! assert_eq!(marks[0], Mark::TwoFlips);
 //! assert!(marks[1..].iter().all(|&mark| mark == Mark::Sound));
 //! assert_eq!(received[..], payload[..]);
@@ -66,7 +66,7 @@ pub mod superframe;
 pub mod word;
 
 pub use line_file::LineFile;
-pub use pair::{Encoder, Receiver};
+pub use pair::{Encoder, History, Receiver};
 pub use profile::Profile;
 pub use refusal::Refusal;
 pub use word::Mark;

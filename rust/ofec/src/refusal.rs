@@ -23,6 +23,9 @@ pub enum Refusal {
     /// 1: a buffer does not have the stated length (except the payload of a sub-frame number above
     /// 47, which is not measured), or a file has less than 16 bytes.
     Misfit,
+    /// 6: a number in front of the history is not the one that the call names, or the encoder's number
+    /// is above 1.
+    StrayHistory,
     /// 2: a rule of the line file's header fails.
     BadHeader,
     /// 3: the pair number is 4,294,967,295, the largest.
@@ -39,10 +42,11 @@ pub enum Refusal {
 }
 
 impl Refusal {
-    /// The number, 1 to 5.
+    /// The number, 1 to 6.
     pub fn number(self) -> u32 {
         match self {
             Refusal::Misfit => 1,
+            Refusal::StrayHistory => 6,
             Refusal::BadHeader => 2,
             Refusal::CountSpent => 3,
             Refusal::NoSuchFrame => 4,
@@ -54,6 +58,7 @@ impl Refusal {
     pub fn name(self) -> &'static str {
         match self {
             Refusal::Misfit => "misfit",
+            Refusal::StrayHistory => "stray history",
             Refusal::BadHeader => "bad header",
             Refusal::CountSpent => "count spent",
             Refusal::NoSuchFrame => "no such frame",
@@ -72,6 +77,7 @@ impl Refusal {
             5 => Some(Refusal::OffGrid {
                 index: index as usize,
             }),
+            6 => Some(Refusal::StrayHistory),
             _ => unreachable!("the library has no refusal {number}"),
         }
     }

@@ -11,7 +11,7 @@
 //! [`Profile::Qpsk`](Profile) names; the constants here are those of 16-QAM.
 //!
 //! Everything is tested before the first byte is written, so a refused call leaves every buffer and
-//! every state as it was here too. Nothing is allocated; [`take_apart`] has the largest arrays, about
+//! every history as it was here too. Nothing is allocated; [`take_apart`] has the largest arrays, about
 //! 72 kB of stack, and [`take_apart_qpsk`] about 115 kB.
 //!
 //! ```
@@ -23,7 +23,7 @@
 //! let overhead = [5; OVERHEAD_BYTES];
 //!
 //! // Outward. An encoder goes on from one super-frame to the next.
-//! let mut encoders = [Encoder::new(), Encoder::new()];
+//! let mut encoders = [Encoder::new(0), Encoder::new(1)];
 //! let mut coded = [vec![0; CODED_BYTES], vec![0; CODED_BYTES]];
 //! for i in 0..2 {
 //!     encode(&mut encoders[i], &payloads[i], &mut coded[i])?;
@@ -35,7 +35,7 @@
 //! frames[300_000] ^= 1; // a payload cell, so that one bit is wrong
 //!
 //! // Inward.
-//! let mut receivers = [Receiver::new(), Receiver::new()];
+//! let mut receivers = [Receiver::new(0), Receiver::new(1)];
 //! let [mut pairs0, mut pairs1] = coded;
 //! let differing = take_apart(&frames, &overhead, [&mut pairs0, &mut pairs1])?;
 //! assert_eq!(differing, 1);
@@ -54,7 +54,7 @@ use crate::Profile::{self, Qam16, Qpsk};
 use crate::cells;
 use crate::frame::{self, FRAME_BYTES, OVERHEAD_BYTES, SUPERFRAME_BYTES, payload_bytes};
 use crate::interleaver::{self, BITS_BYTES, PAIRS_BYTES};
-use crate::{Encoder, Mark, Receiver, Refusal, pair};
+use crate::{Encoder, History, Mark, Receiver, Refusal, pair};
 
 /// Buffers of a super-frame.
 pub const BUFFERS: usize = Qam16.buffers();
@@ -75,9 +75,16 @@ fn fit(holds: bool) -> Result<(), Refusal> {
     holds.then_some(()).ok_or(Refusal::Misfit)
 }
 
+/// Refuses a history that is not the one of this encoder, 0 or 1.
+fn own(encoder: u32, history: &History) -> Result<(), Refusal> {
+    (encoder <= 1 && history.encoder() == encoder)
+        .then_some(())
+        .ok_or(Refusal::StrayHistory)
+}
+
 /// Refuses if fewer pair numbers are left than a super-frame takes.
-fn count_left(profile: Profile, next: u32) -> Result<(), Refusal> {
-    let left = u32::MAX - next;
+fn count_left(profile: Profile, history: &History) -> Result<(), Refusal> {
+    let left = u32::MAX - history.next_pair();
     (left as usize >= profile.pairs())
         .then_some(())
         .ok_or(Refusal::CountSpent)
@@ -110,7 +117,8 @@ fn legal_frames(profile: Profile, frames: &[u8], overhead: &[u8]) -> Result<(), 
 /// Encodes the next [`PAIRS`] pairs of an encoder: `payload` of [`PAYLOAD_BYTES`] to `coded` of
 /// [`CODED_BYTES`].
 ///
-/// Refusals: [`Refusal::Misfit`], [`Refusal::CountSpent`] if fewer pair numbers are left.
+/// Refusals: [`Refusal::Misfit`], [`Refusal::StrayHistory`], [`Refusal::CountSpent`] if fewer pair
+/// numbers are left.
 pub fn encode(encoder: &mut Encoder, payload: &[u8], coded: &mut [u8]) -> Result<(), Refusal> {
     encode_by(Qam16, encoder, payload, coded)
 }
@@ -128,7 +136,8 @@ fn encode_by(
     coded: &mut [u8],
 ) -> Result<(), Refusal> {
     fit(payload.len() == profile.payload_bytes() && coded.len() == profile.coded_bytes())?;
-    count_left(profile, encoder.state().pair)?;
+    own(encoder.number(), encoder.history())?;
+    count_left(profile, encoder.history())?;
     let places = coded.chunks_exact_mut(pair::CODED_BYTES);
     for (payload, place) in payload.chunks_exact(pair::PAYLOAD_BYTES).zip(places) {
         encoder.encode(payload, place)?;
@@ -314,7 +323,8 @@ fn take_buffer_apart(
 /// Receives the next [`PAIRS`] pairs of a receiver: `coded` of [`CODED_BYTES`] to `payload` of
 /// [`PAYLOAD_BYTES`] and the `marks` of [`WORDS`] words, [`pair::WORDS`] for each pair.
 ///
-/// Refusals: [`Refusal::Misfit`], [`Refusal::CountSpent`] if fewer pair numbers are left.
+/// Refusals: [`Refusal::Misfit`], [`Refusal::StrayHistory`], [`Refusal::CountSpent`] if fewer pair
+/// numbers are left.
 pub fn receive(
     receiver: &mut Receiver,
     coded: &[u8],
@@ -333,13 +343,13 @@ pub fn receive(
 ///
 /// let payload = vec![0x3c; Profile::Qpsk.payload_bytes()];
 /// let mut coded = vec![0; Profile::Qpsk.coded_bytes()];
-/// encode_qpsk(&mut Encoder::new(), &payload, &mut coded)?;
+/// encode_qpsk(&mut Encoder::new(0), &payload, &mut coded)?;
 ///
 /// coded[0] ^= 0x80; // a bit of word 0
 ///
 /// let mut received = vec![0; Profile::Qpsk.payload_bytes()];
 /// let mut marks = [Mark::Lost; Profile::Qpsk.words()];
-/// receive_qpsk(&mut Receiver::new(), &coded, &mut received, &mut marks)?;
+/// receive_qpsk(&mut Receiver::new(0), &coded, &mut received, &mut marks)?;
 /// assert_eq!(received, payload);
 /// assert_eq!(marks[0], Mark::OneFlip);
 /// assert!(marks[1..].iter().all(|&mark| mark == Mark::Sound));
@@ -363,7 +373,8 @@ fn receive_by(
 ) -> Result<(), Refusal> {
     fit(coded.len() == profile.coded_bytes())?;
     fit(payload.len() == profile.payload_bytes() && marks.len() == profile.words())?;
-    count_left(profile, receiver.state().pair)?;
+    own(receiver.number(), receiver.history())?;
+    count_left(profile, receiver.history())?;
     let payloads = payload.chunks_exact_mut(pair::PAYLOAD_BYTES);
     let places = payloads.zip(marks.chunks_exact_mut(pair::WORDS));
     for (coded, (payload, marks)) in coded.chunks_exact(pair::CODED_BYTES).zip(places) {

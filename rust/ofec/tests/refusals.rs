@@ -1,4 +1,4 @@
-//! A refused call says why, and leaves every buffer and every state as it was.
+//! A refused call says why, and leaves every buffer and every history as it was.
 
 mod common;
 
@@ -6,9 +6,9 @@ use common::BOTH;
 use ofec::frame::{FRAME_BYTES, OVERHEAD_BYTES, SUPERFRAME_BYTES, frame};
 use ofec::interleaver::{BITS_BYTES, PAIRS_BYTES, deinterleave, interleave};
 use ofec::line_file::{HEADER_BYTES, write_header};
-use ofec::pair::{CODED_BYTES, HISTORY_BYTES, PAYLOAD_BYTES, State};
+use ofec::pair::{CODED_BYTES, HISTORY_BYTES, PAYLOAD_BYTES};
 use ofec::word::{Reach, WORD_BYTES, repair};
-use ofec::{Encoder, LineFile, Mark, Profile, Receiver, Refusal};
+use ofec::{Encoder, History, LineFile, Mark, Profile, Receiver, Refusal};
 
 /// What stands in a buffer before a call.
 const LEFT: u8 = 0xa5;
@@ -32,15 +32,15 @@ fn misfits<const N: usize, T: std::fmt::Debug>(
 fn a_misfit_leaves_every_buffer() {
     misfits([WORD_BYTES], |[word]| repair(word, Reach::WholeWord));
     misfits([PAYLOAD_BYTES, CODED_BYTES], |[payload, coded]| {
-        let mut encoder = Encoder::new();
+        let mut encoder = Encoder::new(0);
         let answer = encoder.encode(payload, coded);
-        assert_eq!(encoder, Encoder::new());
+        assert_eq!(encoder, Encoder::new(0));
         answer
     });
     misfits([CODED_BYTES, PAYLOAD_BYTES], |[coded, payload]| {
-        let mut receiver = Receiver::new();
+        let mut receiver = Receiver::new(1);
         let answer = receiver.receive(coded, payload);
-        assert_eq!(receiver, Receiver::new());
+        assert_eq!(receiver, Receiver::new(1));
         answer
     });
     misfits(
@@ -71,17 +71,77 @@ fn a_misfit_leaves_every_buffer() {
     misfits([HEADER_BYTES], |[header]| write_header(1, header));
 }
 
+/// A history with these numbers in front of ones.
+fn history(encoder: u32, pair: u32) -> History {
+    let mut bytes = [1; HISTORY_BYTES];
+    bytes[..4].copy_from_slice(&encoder.to_be_bytes());
+    bytes[4..8].copy_from_slice(&pair.to_be_bytes());
+    let history = History::from(bytes);
+    assert_eq!((history.encoder(), history.next_pair()), (encoder, pair));
+    assert_eq!(history.as_bytes(), &bytes);
+    history
+}
+
+#[test]
+fn a_fresh_history_has_its_encoder_and_zeros() {
+    for encoder in [0_u32, 1, 2, 0x0102_0304] {
+        let mut bytes = [0; HISTORY_BYTES];
+        bytes[..4].copy_from_slice(&encoder.to_be_bytes());
+        let fresh = History::fresh(encoder);
+        assert_eq!(fresh.as_bytes(), &bytes);
+        assert_eq!((fresh.encoder(), fresh.next_pair()), (encoder, 0));
+        assert_eq!(fresh.pairs(), &bytes[8..]);
+        assert_eq!(Encoder::new(encoder).history(), &fresh);
+        assert_eq!(Encoder::new(encoder).number(), encoder);
+        assert_eq!(Receiver::new(encoder).history(), &fresh);
+        assert_eq!(Receiver::new(encoder).number(), encoder);
+    }
+}
+
+/// An encoder or receiver, and the history that it is given: all of them stray.
+const STRAY: [(u32, u32); 9] = [
+    (0, 1),
+    (1, 0),
+    (0, 2),
+    (2, 0),
+    (2, 2),
+    (256, 256),
+    (0, 1 << 24),
+    (1 << 24, 1 << 24),
+    (u32::MAX, u32::MAX),
+];
+
+#[test]
+fn a_stray_history_is_refused_before_a_spent_count_and_after_a_misfit() {
+    for (number, owner) in STRAY {
+        for pair in [0, 9, 10, u32::MAX - 1, u32::MAX] {
+            let given = history(owner, pair);
+            let (mut payload, mut coded) = ([LEFT; PAYLOAD_BYTES], [LEFT; CODED_BYTES]);
+            let mut encoder = Encoder::resume(number, given.clone());
+            let mut receiver = Receiver::resume(number, given.clone());
+            for (coded_bytes, expected) in [
+                (CODED_BYTES, Refusal::StrayHistory),
+                (CODED_BYTES - 1, Refusal::Misfit),
+            ] {
+                let coded = &mut coded[..coded_bytes];
+                assert_eq!(encoder.encode(&payload, coded), Err(expected));
+                assert_eq!(receiver.receive(coded, &mut payload), Err(expected));
+            }
+            assert_eq!((encoder.history(), encoder.number()), (&given, number));
+            assert_eq!((receiver.history(), receiver.number()), (&given, number));
+            assert!(payload.iter().chain(&coded).all(|&byte| byte == LEFT));
+        }
+    }
+}
+
 #[test]
 fn a_spent_count_is_refused() {
-    let state = State {
-        history: [1; HISTORY_BYTES],
-        pair: u32::MAX - 1,
-    };
+    let before = history(1, u32::MAX - 1);
     let (payload, mut coded) = ([2; PAYLOAD_BYTES], [LEFT; CODED_BYTES]);
-    let mut encoder = Encoder::resume(state.clone());
+    let mut encoder = Encoder::resume(1, before.clone());
     encoder.encode(&payload, &mut coded).expect("the last pair");
     let (last, last_coded) = (encoder.clone(), coded);
-    assert_eq!(last.state().pair, u32::MAX);
+    assert_eq!(last.history().next_pair(), u32::MAX);
     assert_eq!(
         encoder.encode(&payload, &mut coded),
         Err(Refusal::CountSpent)
@@ -89,7 +149,7 @@ fn a_spent_count_is_refused() {
     assert_eq!((encoder, coded), (last, last_coded));
 
     let mut out = [LEFT; PAYLOAD_BYTES];
-    let mut receiver = Receiver::resume(state);
+    let mut receiver = Receiver::resume(1, before);
     receiver.receive(&coded, &mut out).expect("the last pair");
     assert_eq!(out, payload);
     let last = receiver.clone();
@@ -140,6 +200,7 @@ fn a_header_rule_that_fails() {
 fn numbers_and_names() {
     let table = [
         (Refusal::Misfit, 1, "refusal 1: misfit"),
+        (Refusal::StrayHistory, 6, "refusal 6: stray history"),
         (Refusal::BadHeader, 2, "refusal 2: bad header"),
         (Refusal::CountSpent, 3, "refusal 3: count spent"),
         (Refusal::NoSuchFrame, 4, "refusal 4: no such frame"),
@@ -178,9 +239,9 @@ fn a_super_frame_that_is_a_misfit() {
         let profile = calls.profile;
         let (payload_bytes, coded_bytes) = (profile.payload_bytes(), profile.coded_bytes());
         misfits([payload_bytes, coded_bytes], |[payload, coded]| {
-            let mut encoder = Encoder::new();
+            let mut encoder = Encoder::new(1);
             let answer = (calls.encode)(&mut encoder, payload, coded);
-            assert_eq!(encoder, Encoder::new());
+            assert_eq!(encoder, Encoder::new(1));
             answer
         });
         let right = profile.words();
@@ -192,9 +253,9 @@ fn a_super_frame_that_is_a_misfit() {
                 coded_bytes - 1
             };
             misfits([length, payload_bytes], |[coded, payload]| {
-                let (mut receiver, mut marks) = (Receiver::new(), vec![Mark::TwoFlips; words]);
+                let (mut receiver, mut marks) = (Receiver::new(0), vec![Mark::TwoFlips; words]);
                 let answer = (calls.receive)(&mut receiver, coded, payload, &mut marks);
-                assert_eq!(receiver, Receiver::new());
+                assert_eq!(receiver, Receiver::new(0));
                 assert!(marks.iter().all(|&mark| mark == Mark::TwoFlips));
                 answer
             });
@@ -211,11 +272,37 @@ fn a_super_frame_that_is_a_misfit() {
 }
 
 #[test]
+fn a_super_frame_over_a_stray_history() {
+    for calls in BOTH {
+        let profile = calls.profile;
+        let mut payload = vec![LEFT; profile.payload_bytes()];
+        let mut coded = vec![LEFT; profile.coded_bytes()];
+        let mut marks = vec![Mark::TwoFlips; profile.words()];
+        for (number, owner) in STRAY {
+            // Also where too few pairs are left.
+            for pair in [0, u32::MAX - 1, u32::MAX] {
+                let given = history(owner, pair);
+                let mut encoder = Encoder::resume(number, given.clone());
+                let refused = (calls.encode)(&mut encoder, &payload, &mut coded);
+                assert_eq!(refused, Err(Refusal::StrayHistory));
+                assert_eq!(encoder, Encoder::resume(number, given.clone()));
+                let refused = (calls.encode)(&mut encoder, &payload, &mut coded[1..]);
+                assert_eq!(refused, Err(Refusal::Misfit));
+                let mut receiver = Receiver::resume(number, given.clone());
+                let refused = (calls.receive)(&mut receiver, &coded, &mut payload, &mut marks);
+                assert_eq!(refused, Err(Refusal::StrayHistory));
+                assert_eq!(receiver, Receiver::resume(number, given));
+                let refused = (calls.receive)(&mut receiver, &coded, &mut payload, &mut marks[1..]);
+                assert_eq!(refused, Err(Refusal::Misfit));
+            }
+        }
+        assert!(payload.iter().chain(&coded).all(|&byte| byte == LEFT));
+        assert!(marks.iter().all(|&mark| mark == Mark::TwoFlips));
+    }
+}
+
+#[test]
 fn a_super_frame_with_too_few_pairs_left() {
-    let state = |pair| State {
-        history: [1; HISTORY_BYTES],
-        pair,
-    };
     for calls in BOTH {
         let profile = calls.profile;
         let last = u32::MAX - profile.pairs() as u32;
@@ -223,21 +310,21 @@ fn a_super_frame_with_too_few_pairs_left() {
         let mut coded = vec![LEFT; profile.coded_bytes()];
         let mut marks = vec![Mark::TwoFlips; profile.words()];
         for pair in [last + 1, u32::MAX] {
-            let mut encoder = Encoder::resume(state(pair));
+            let mut encoder = Encoder::resume(1, history(1, pair));
             let refused = (calls.encode)(&mut encoder, &payload, &mut coded);
             assert_eq!(refused, Err(Refusal::CountSpent));
-            assert_eq!(encoder.state(), &state(pair));
-            let mut receiver = Receiver::resume(state(pair));
+            assert_eq!(encoder.history(), &history(1, pair));
+            let mut receiver = Receiver::resume(0, history(0, pair));
             let refused = (calls.receive)(&mut receiver, &coded, &mut payload, &mut marks);
             assert_eq!(refused, Err(Refusal::CountSpent));
-            assert_eq!(receiver.state(), &state(pair));
+            assert_eq!(receiver.history(), &history(0, pair));
         }
         assert!(payload.iter().chain(&coded).all(|&byte| byte == LEFT));
         assert!(marks.iter().all(|&mark| mark == Mark::TwoFlips));
 
-        let mut encoder = Encoder::resume(state(last));
+        let mut encoder = Encoder::resume(1, history(1, last));
         (calls.encode)(&mut encoder, &payload, &mut coded).expect("the last pairs");
-        assert_eq!(encoder.state().pair, u32::MAX);
+        assert_eq!(encoder.history().next_pair(), u32::MAX);
     }
 }
 

@@ -8,9 +8,11 @@ use ofec::{Encoder, Receiver};
 const THREADS: usize = 8;
 const PAIRS: u8 = 200;
 
-/// The coded pairs of this stream; each is received again, with a wrong bit that is repaired.
+/// The coded pairs of this stream, of either encoder; each is received again, with a wrong bit that is
+/// repaired.
 fn stream(seed: u8) -> Vec<u8> {
-    let (mut encoder, mut receiver) = (Encoder::new(), Receiver::new());
+    let number = u32::from(seed / 2 % 2);
+    let (mut encoder, mut receiver) = (Encoder::new(number), Receiver::new(number));
     let mut line = Vec::new();
     for number in 0..PAIRS {
         let payload = [number.wrapping_mul(seed); PAYLOAD_BYTES];

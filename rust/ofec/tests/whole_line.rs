@@ -23,8 +23,8 @@ fn bytes(seed: u32, count: usize) -> Vec<u8> {
     (0..count).map(|_| next()).collect()
 }
 
-fn encode(profile: Profile, payload: &[u8]) -> Result<Vec<u8>, Refusal> {
-    let mut encoder = Encoder::new();
+fn encode(profile: Profile, number: u32, payload: &[u8]) -> Result<Vec<u8>, Refusal> {
+    let mut encoder = Encoder::new(number);
     let mut coded = vec![0; profile.coded_bytes()];
     for (payload, place) in payload
         .chunks(PAYLOAD_BYTES)
@@ -37,7 +37,10 @@ fn encode(profile: Profile, payload: &[u8]) -> Result<Vec<u8>, Refusal> {
 
 fn send(calls: Calls, payloads: [&[u8]; 2], overhead: &[u8]) -> Result<Vec<u8>, Refusal> {
     let profile = calls.profile;
-    let coded = [encode(profile, payloads[0])?, encode(profile, payloads[1])?];
+    let coded = [
+        encode(profile, 0, payloads[0])?,
+        encode(profile, 1, payloads[1])?,
+    ];
     let mut cells = vec![0; profile.buffers() * profile.cells_bytes()];
     for (buffer, place) in cells.chunks_mut(profile.cells_bytes()).enumerate() {
         let [pairs0, pairs1] = [0, 1].map(|e| &coded[e][buffer * PAIRS_BYTES..][..PAIRS_BYTES]);
@@ -70,7 +73,7 @@ fn receive(calls: Calls, line: LineFile) -> Result<([Vec<u8>; 2], u32, u32), Ref
         cells.extend(payload);
     }
 
-    let mut receivers = [Receiver::new(), Receiver::new()];
+    let mut receivers = [Receiver::new(0), Receiver::new(1)];
     let (mut payloads, mut flips) = ([Vec::new(), Vec::new()], 0);
     for cells in cells.chunks(calls.profile.cells_bytes()) {
         let mut bits = [0; BITS_BYTES];
@@ -125,10 +128,10 @@ fn receive_superframe(calls: Calls, line: LineFile) -> Result<([Vec<u8>; 2], u32
     let coded = [&mut coded0[..], &mut coded1[..]];
     let differing = (calls.take_apart)(line.superframe(0)?, line.overhead(), coded)?;
     let (mut payloads, mut flips) = ([Vec::new(), Vec::new()], 0);
-    for (payload, coded) in payloads.iter_mut().zip([coded0, coded1]) {
+    for ((number, payload), coded) in (0..).zip(&mut payloads).zip([coded0, coded1]) {
         let mut marks = vec![Mark::Lost; profile.words()];
         *payload = vec![0xa5; profile.payload_bytes()];
-        (calls.receive)(&mut Receiver::new(), &coded, payload, &mut marks)?;
+        (calls.receive)(&mut Receiver::new(number), &coded, payload, &mut marks)?;
         flips += marks.iter().filter_map(|mark| mark.flips()).sum::<u32>();
         assert!(!marks.contains(&Mark::Lost));
     }
@@ -145,11 +148,14 @@ fn a_super_frame_at_once_is_its_calls_one_by_one() -> Result<(), Refusal> {
         let mut file = send(calls, [&payloads[0], &payloads[1]], &overhead)?;
 
         let mut coded = [0; 2].map(|_| vec![0xa5; profile.coded_bytes()]);
-        for (payload, coded) in payloads.iter().zip(&mut coded) {
-            let mut encoder = Encoder::new();
+        for ((number, payload), coded) in (0..).zip(&payloads).zip(&mut coded) {
+            let mut encoder = Encoder::new(number);
             (calls.encode)(&mut encoder, payload, coded)?;
-            assert!(*coded == encode(profile, payload)?);
-            assert_eq!(encoder.state().pair as usize, profile.pairs());
+            assert!(*coded == encode(profile, number, payload)?);
+            let history = encoder.history();
+            assert_eq!(history.encoder(), number);
+            assert_eq!(history.next_pair() as usize, profile.pairs());
+            assert!(coded.ends_with(history.pairs()));
         }
         let mut frames = vec![0xa5; SUPERFRAME_BYTES];
         (calls.make)([&coded[0], &coded[1]], &overhead, &mut frames)?;

@@ -6,8 +6,9 @@ use crate::outcome::Outcome;
 use crate::profile::Profile;
 use crate::{cells, frames, interleaver, library, rows};
 
-pub type Encode = fn(&[u8], &mut [u8], &mut [u8], u32) -> Outcome;
-pub type Receive = fn(&[u8], &mut [u8], &mut [u8], &mut [u8], u32) -> Outcome;
+/// The last two are the numbers of encoder and pair.
+pub type Encode = fn(&[u8], &mut [u8], &mut [u8], u32, u32) -> Outcome;
+pub type Receive = fn(&[u8], &mut [u8], &mut [u8], &mut [u8], u32, u32) -> Outcome;
 /// Bits to cells or cells to bits: what is read, what is written.
 pub type Mapping = fn(Profile, &[u8], &mut [u8]) -> Outcome;
 /// Framing or unframing: number, what is read, overhead list, what is written.
@@ -26,8 +27,8 @@ pub struct Calls {
 }
 
 pub const LIBRARY: Calls = Calls {
-    encode_pair: |payload, coded, history, pair| {
-        capi::encode_pair(payload, coded, history, pair).into()
+    encode_pair: |payload, coded, history, encoder, pair| {
+        capi::encode_pair(payload, coded, history, encoder, pair).into()
     },
     interleave: |pairs0, pairs1, bits| capi::interleave(pairs0, pairs1, bits).into(),
     bits_to_cells: library::bits_to_cells,
@@ -35,8 +36,8 @@ pub const LIBRARY: Calls = Calls {
     unframe: library::unframe,
     cells_to_bits: library::cells_to_bits,
     deinterleave: |bits, pairs0, pairs1| capi::deinterleave(bits, pairs0, pairs1).into(),
-    receive_pair: |coded, payload, marks, history, pair| {
-        capi::receive_pair(coded, payload, marks, history, pair).into()
+    receive_pair: |coded, payload, marks, history, encoder, pair| {
+        capi::receive_pair(coded, payload, marks, history, encoder, pair).into()
     },
 };
 

@@ -4,14 +4,14 @@ use crate::bits;
 use crate::chain::calls::Calls;
 use crate::chain::places::{index, PAIR_BITS};
 use crate::chain::refused::{refused, refused_framing, refused_misfit, refused_pair, spoil};
-use crate::chain::sending::{numbered, order, List};
+use crate::chain::sending::{and_other, numbered, order, List};
 use crate::chain::{difference, Difference, SUPERFRAME_BYTES};
 use crate::frames::{payload_bytes, rule, FRAME_BYTES};
 use crate::interleaver::{BUFFER_BYTES, PAIRS_BYTES};
 use crate::outcome::{Outcome, MISFIT};
 use crate::profile::Profile;
 use crate::random::Random;
-use crate::rows::{Place, HISTORY_BYTES, MARKS, PAIR_BYTES, PAYLOAD_BYTES};
+use crate::rows::{Numbers, Place, FRONT_BYTES, HISTORY_BYTES, MARKS, PAIR_BYTES, PAYLOAD_BYTES};
 
 /// What one side took off the line, stage by stage.
 pub struct Taken {
@@ -148,7 +148,8 @@ impl Received {
     /// A bit of the history that the call of a pair returned: that pair and the nine before it.
     pub fn returned_bit(&self, pair: usize, place: Place) -> bool {
         let history = &self.histories[HISTORY_BYTES * pair..][..HISTORY_BYTES];
-        bits::get(history, index(place) + PAIR_BITS * 9 - PAIR_BITS * pair)
+        let held = &history[FRONT_BYTES..];
+        bits::get(held, index(place) + PAIR_BITS * 9 - PAIR_BITS * pair)
     }
 }
 
@@ -160,37 +161,41 @@ pub fn receive(
     random: &mut Random,
 ) -> [Received; 2] {
     let mut received = [Received::default(), Received::default()];
-    let mut lists = [List::fresh(), List::fresh()];
+    let mut lists = [List::fresh(0), List::fresh(1)];
     for receiver in order(count, random) {
-        let (list, out) = (&mut lists[receiver], &mut received[receiver]);
-        let coded = &pairs[receiver][PAIR_BYTES * list.pair as usize..][..PAIR_BYTES];
+        let out = &mut received[receiver];
+        let [list, other] = and_other(&mut lists, receiver);
+        let Numbers { encoder, pair } = list.numbers;
+        let coded = &pairs[receiver][PAIR_BYTES * pair as usize..][..PAIR_BYTES];
         let mut payload = random.bytes(PAYLOAD_BYTES);
         let mut marks = random.bytes(MARKS);
         let written: [&mut [u8]; 2] = [&mut payload, &mut marks];
-        refused_receiving(list, calls, coded, written, random);
+        refused_receiving([list, other], calls, coded, written, random);
         let outcome = (calls.receive_pair)(
             coded,
             &mut payload,
             &mut marks,
             &mut list.history,
-            list.pair,
+            encoder,
+            pair,
         );
         list.accept(outcome);
         out.payload.extend(payload);
         out.marks.extend(marks);
         out.histories.extend(&list.history);
     }
-    for list in &mut lists {
+    for receiver in [0, 1] {
+        let both = and_other(&mut lists, receiver);
         let coded = random.bytes(PAIR_BYTES);
         let (mut payload, mut marks) = (random.bytes(PAYLOAD_BYTES), random.bytes(MARKS));
-        refused_receiving(list, calls, &coded, [&mut payload, &mut marks], random);
+        refused_receiving(both, calls, &coded, [&mut payload, &mut marks], random);
     }
     received
 }
 
-/// None, one or several.
+/// None, one or several of the first list.
 fn refused_receiving(
-    list: &mut List,
+    [list, other]: [&mut List; 2],
     calls: &Calls,
     coded: &[u8],
     [payload, marks]: [&mut [u8]; 2],
@@ -204,11 +209,12 @@ fn refused_receiving(
             &mut list.history,
         ];
         refused_pair(
-            list.pair,
+            list.numbers,
             own,
+            &mut other.history,
             random,
-            |[coded, payload, marks, history], number| {
-                (calls.receive_pair)(coded, payload, marks, history, number)
+            |[coded, payload, marks, history], Numbers { encoder, pair }| {
+                (calls.receive_pair)(coded, payload, marks, history, encoder, pair)
             },
         );
     }

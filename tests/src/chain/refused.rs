@@ -5,10 +5,11 @@ use std::hint::black_box;
 
 use crate::compare::misfit;
 use crate::frames::{own_overhead, OVERHEAD, SUBFRAMES};
-use crate::outcome::{Outcome, COUNT_SPENT, MISFIT, NO_SUCH_FRAME};
+use crate::outcome::{Outcome, COUNT_SPENT, MISFIT, NO_SUCH_FRAME, STRAY_HISTORY};
+use crate::pair_calls::{above, any_encoder, other};
 use crate::profile::Profile;
 use crate::random::Random;
-use crate::rows::SPENT;
+use crate::rows::{Numbers, FRONT_BYTES, SPENT};
 
 /// Makes a call that must be refused with this answer.
 pub fn refused<const N: usize>(
@@ -51,24 +52,91 @@ fn assert_as_before<const N: usize>(buffers: [&mut [u8]; N], before: [Vec<u8>; N
     }
 }
 
-/// A pair call, given the list's own number or another: count spent, or wrong lengths, or both.
+/// A pair call on a list's own buffers, of which the history is the last, or on another history; it names
+/// the list's numbers or others. Every refusal is given, alone and where others apply too.
 pub fn refused_pair<const N: usize>(
-    pair: u32,
-    own: [&mut [u8]; N],
+    numbers: Numbers,
+    mut own: [&mut [u8]; N],
+    others_history: &mut [u8],
     random: &mut Random,
-    call: impl FnOnce([&mut [u8]; N], u32) -> Outcome,
+    call: impl FnOnce([&mut [u8]; N], Numbers) -> Outcome,
 ) {
-    let number = match random.between(0, 4) {
+    let (refusal, named, mut copy);
+    let mut lent = own.each_mut().map(|buffer| &mut **buffer);
+    match random.between(0, 8) {
+        // Wrong lengths, whatever is named; every other time the history has these numbers too.
         0 => {
-            let expected = Outcome::refused_pair(COUNT_SPENT, SPENT);
-            return refused(expected, own, |lent| call(lent, SPENT));
+            let named = [numbers, spent(numbers), others(numbers, random)][random.between(0, 3)];
+            if random.bit() {
+                copy = with_front(named, lent[N - 1]);
+                lent[N - 1] = &mut copy;
+            }
+            let expected = Outcome::refused_pair(MISFIT, named.pair);
+            return refused_misfit(expected, lent, random, |lent| call(lent, named));
         }
-        1 => SPENT,
-        2 => random.next_u64() as u32,
-        _ => pair,
-    };
-    let expected = Outcome::refused_pair(MISFIT, number);
-    refused_misfit(expected, own, random, |lent| call(lent, number));
+        // The history without its front.
+        1 => {
+            named = [numbers, spent(numbers)][random.between(0, 2)];
+            copy = lent[N - 1][FRONT_BYTES..].to_vec();
+            lent[N - 1] = &mut copy;
+            refusal = MISFIT;
+        }
+        // The own history, and not its numbers; perhaps the largest pair number.
+        2 | 3 => {
+            named = others(numbers, random);
+            refusal = STRAY_HISTORY;
+        }
+        // The other list's history.
+        4 => {
+            lent[N - 1] = others_history;
+            named = [numbers, spent(numbers)][random.between(0, 2)];
+            refusal = STRAY_HISTORY;
+        }
+        // An encoder that there is not, in front and call.
+        5 => {
+            let encoder = above(random);
+            let pair = [numbers.pair, SPENT][random.between(0, 2)];
+            named = Numbers { encoder, pair };
+            copy = with_front(named, lent[N - 1]);
+            lent[N - 1] = &mut copy;
+            refusal = STRAY_HISTORY;
+        }
+        // The history after the last pair.
+        _ => {
+            named = Numbers {
+                encoder: any_encoder(random),
+                pair: SPENT,
+            };
+            copy = with_front(named, lent[N - 1]);
+            lent[N - 1] = &mut copy;
+            refusal = COUNT_SPENT;
+        }
+    }
+    let expected = Outcome::refused_pair(refusal, named.pair);
+    refused(expected, lent, |lent| call(lent, named));
+}
+
+fn spent(numbers: Numbers) -> Numbers {
+    Numbers {
+        pair: SPENT,
+        ..numbers
+    }
+}
+
+/// Numbers of which one at least is another.
+fn others(numbers: Numbers, random: &mut Random) -> Numbers {
+    let encoder = [numbers.encoder ^ 1, above(random)][random.between(0, 2)];
+    let pair = other(numbers.pair, random);
+    match random.between(0, 3) {
+        0 => Numbers { encoder, pair },
+        1 => Numbers { encoder, ..numbers },
+        _ => Numbers { pair, ..numbers },
+    }
+}
+
+/// The same history with other numbers in front.
+fn with_front(front: Numbers, history: &[u8]) -> Vec<u8> {
+    front.history(&history[FRONT_BYTES..])
 }
 
 /// Framing or unframing: wrong lengths, a number above 47, or an illegal byte in list or cells. The rule

@@ -8,7 +8,7 @@ use crate::interleaver::{BUFFER_BYTES, PAIRS_BYTES};
 use crate::outcome::{Outcome, MISFIT};
 use crate::profile::Profile;
 use crate::random::Random;
-use crate::rows::{HISTORY_BYTES, PAIR_BYTES, PAYLOAD_BYTES};
+use crate::rows::{fresh, Numbers, PAIR_BYTES, PAYLOAD_BYTES};
 
 /// What one side made of two streams of payload, stage by stage.
 pub struct Sent {
@@ -51,20 +51,22 @@ pub fn send(
     let pairs = payloads.map(|payload| payload.len() / PAYLOAD_BYTES);
     let mut coded = pairs.map(|pairs| random.bytes(PAIR_BYTES * pairs));
     let mut histories = [Vec::new(), Vec::new()];
-    let mut lists = [List::fresh(), List::fresh()];
+    let mut lists = [List::fresh(0), List::fresh(1)];
     for encoder in order(pairs, random) {
-        let list = &mut lists[encoder];
-        let pair = list.pair as usize;
-        let payload = &payloads[encoder][PAYLOAD_BYTES * pair..][..PAYLOAD_BYTES];
-        let place = &mut coded[encoder][PAIR_BYTES * pair..][..PAIR_BYTES];
-        list.refused_encoding(calls, payload, place, random);
-        let outcome = (calls.encode_pair)(payload, place, &mut list.history, list.pair);
+        let [list, other] = and_other(&mut lists, encoder);
+        let Numbers { encoder: own, pair } = list.numbers;
+        let place = pair as usize;
+        let payload = &payloads[encoder][PAYLOAD_BYTES * place..][..PAYLOAD_BYTES];
+        let place = &mut coded[encoder][PAIR_BYTES * place..][..PAIR_BYTES];
+        list.refused_encoding(other, calls, payload, place, random);
+        let outcome = (calls.encode_pair)(payload, place, &mut list.history, own, pair);
         list.accept(outcome);
         histories[encoder].extend(&list.history);
     }
-    for list in &mut lists {
+    for encoder in [0, 1] {
+        let [list, other] = and_other(&mut lists, encoder);
         let (payload, mut place) = (random.bytes(PAYLOAD_BYTES), random.bytes(PAIR_BYTES));
-        list.refused_encoding(calls, &payload, &mut place, random);
+        list.refused_encoding(other, calls, &payload, &mut place, random);
     }
     let bits = interleave(calls, &coded, random);
     let cells = bits_to_cells(calls, profile, &bits, random);
@@ -78,29 +80,35 @@ pub fn send(
     }
 }
 
-/// The history and pair number of one list of calls.
+/// The history of one list of calls, and the numbers that its next call names.
 #[derive(Clone)]
 pub struct List {
     pub history: Vec<u8>,
-    pub pair: u32,
+    pub numbers: Numbers,
 }
 
 impl List {
-    pub fn fresh() -> Self {
+    pub fn fresh(encoder: u32) -> Self {
         List {
-            history: vec![0; HISTORY_BYTES],
-            pair: 0,
+            history: fresh(encoder),
+            numbers: Numbers { encoder, pair: 0 },
         }
     }
 
+    /// The accepted calls of a list from fresh are its encoder's pairs 0, 1, 2 and on.
     pub fn accept(&mut self, outcome: Outcome) {
-        assert_eq!(outcome, Outcome::accepted(self.pair + 1));
-        self.pair = outcome.value;
+        let next = self.numbers.next();
+        let expected = Outcome::accepted(next.pair);
+        assert_eq!(outcome, expected, "answer of a call to be accepted");
+        let front = Numbers::of(&self.history);
+        assert_eq!(front, next, "numbers in front of a history moved on");
+        self.numbers = next;
     }
 
     /// None, one or several.
     fn refused_encoding(
         &mut self,
+        other: &mut List,
         calls: &Calls,
         payload: &[u8],
         coded: &mut [u8],
@@ -109,14 +117,24 @@ impl List {
         while random.between(0, 4) == 0 {
             let own = [&mut payload.to_vec(), &mut *coded, &mut self.history];
             refused_pair(
-                self.pair,
+                self.numbers,
                 own,
+                &mut other.history,
                 random,
-                |[payload, coded, history], number| {
-                    (calls.encode_pair)(payload, coded, history, number)
+                |[payload, coded, history], Numbers { encoder, pair }| {
+                    (calls.encode_pair)(payload, coded, history, encoder, pair)
                 },
             );
         }
+    }
+}
+
+/// A list of two, and the other one.
+pub fn and_other(lists: &mut [List; 2], chosen: usize) -> [&mut List; 2] {
+    let [list0, list1] = lists;
+    match chosen {
+        0 => [list0, list1],
+        _ => [list1, list0],
     }
 }
 

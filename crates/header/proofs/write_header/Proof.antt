@@ -15,8 +15,9 @@ write-header-spec =
     (λ c. search kit)  -- returns
     (λ c. search kit)  -- returns-2
     (λ c. search kit)  -- returns-3
-    (λ c. search kit)  -- mul-put-numbers
-    (λ c. search kit)  -- add-put-numbers
+    (λ c. search kit)  -- mul-numbers
+    (λ c. search kit)  -- add-numbers
+    (λ c. search kit)  -- slice-aggregate-put-numbers
     (λ c κs. search kit)  -- put-numbers-requires
     (λ c. search kit)  -- same-length
     (λ c. search kit))  -- returns-4

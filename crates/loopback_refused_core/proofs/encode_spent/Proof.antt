@@ -11,8 +11,9 @@ pub encode-spent-spec : {M : Type 1} → statement M
 encode-spent-spec =
     tie.close
     (tie.spec
+    (λ c κs. search kit)  -- spent-requires
     (λ c. search kit)  -- slice-aggregate-encode-pair
     (λ c. search kit)  -- slice-aggregate-encode-pair-2
+    (λ c. search kit)  -- slice-aggregate-encode-pair-3
     (λ c κs. search kit)  -- encode-pair-requires
-    (λ c. search kit)  -- same-length
-    (λ c. (search kit, search kit)))  -- returns
+    (λ c. search kit))  -- returns

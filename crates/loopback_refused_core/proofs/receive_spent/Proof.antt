@@ -11,9 +11,10 @@ pub receive-spent-spec : {M : Type 1} → statement M
 receive-spent-spec =
     tie.close
     (tie.spec
+    (λ c κs. search kit)  -- spent-requires
     (λ c. search kit)  -- slice-aggregate-receive-pair
     (λ c. search kit)  -- slice-aggregate-receive-pair-2
     (λ c. search kit)  -- slice-aggregate-receive-pair-3
+    (λ c. search kit)  -- slice-aggregate-receive-pair-4
     (λ c κs. search kit)  -- receive-pair-requires
-    (λ c. search kit)  -- same-length
-    (λ c. (search kit, search kit)))  -- returns
+    (λ c. search kit))  -- returns

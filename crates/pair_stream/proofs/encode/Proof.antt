@@ -5,6 +5,7 @@ use Prim.Native.Nat.{_+_, _-_, _*_}
 use Rattle.bits.specs.Filling.{Blocks, by-blocks, blocks-next}
 use Rattle.bits.specs.Parts.{partOf, byteOfEach}
 use Rattle.pair_spec.specs.History.{depth}
+use Rattle.pair_spec.specs.Front.{heldPairs}
 use Rattle.pair_spec.specs.Encoding.{encoded}
 use Rattle.pair_spec.specs.Calls.{EncodeBuffers, encodeBuffers}
 use Rattle.pair_spec.specs.Stream.{pairEncoder, givenAt}
@@ -16,11 +17,11 @@ use Rattle.pair_stream.proofs.encode.Tie as tie
 ruleset kit = (needs, by-blocks, streaming)
 
 abbrev Inv-loop : tie.InvT-loop
-Inv-loop pairs payload first history₀ coded₀ k₀ history coded k =
-    Blocks (byteOfEach 512 (givenAt pairEncoder history₀ first (partOf 444 payload) (encoded depth))) 512 pairs k coded × Streaming pairEncoder history₀ first payload k history
+Inv-loop pairs payload encoder first history₀ coded₀ k₀ history coded k =
+    Blocks (byteOfEach 512 (givenAt pairEncoder (heldPairs history₀) first (partOf 444 payload) (encoded depth))) 512 pairs k coded × Streaming pairEncoder history₀ encoder first payload k history
 
 abbrev μ-loop : tie.MeasureT-loop
-μ-loop pairs payload first history₀ coded₀ k₀ history coded k = pairs - k
+μ-loop pairs payload encoder first history₀ coded₀ k₀ history coded k = pairs - k
 
 pub encode-spec : {M : Type 1} → statement M
 encode-spec =

@@ -5,6 +5,7 @@ use Prim.Native.Nat.{_+_, _-_, _*_}
 use Rattle.bits.specs.Filling.{Blocks, by-blocks, blocks-next}
 use Rattle.bits.specs.Parts.{partOf, byteOfEach}
 use Rattle.pair_spec.specs.History.{depth}
+use Rattle.pair_spec.specs.Front.{heldPairs}
 use Rattle.pair_spec.specs.Receiving.{payloadOut, marks as pairMarks}
 use Rattle.pair_spec.specs.Calls.{ReceiveBuffers}
 use Rattle.pair_spec.specs.CallLaws.{receive-written}
@@ -17,13 +18,13 @@ use Rattle.pair_stream.proofs.receive.Tie as tie
 ruleset kit = (needs, by-blocks, streaming)
 
 abbrev Inv-loop : tie.InvT-loop
-Inv-loop pairs coded first history₀ payload₀ marks₀ k₀ history payload marks k =
-    Blocks (byteOfEach 444 (givenAt pairReceiver history₀ first (partOf 512 coded) (payloadOut depth))) 444 pairs k payload
-    × Blocks (byteOfEach 32 (givenAt pairReceiver history₀ first (partOf 512 coded) (pairMarks depth))) 32 pairs k marks
-    × Streaming pairReceiver history₀ first coded k history
+Inv-loop pairs coded encoder first history₀ payload₀ marks₀ k₀ history payload marks k =
+    Blocks (byteOfEach 444 (givenAt pairReceiver (heldPairs history₀) first (partOf 512 coded) (payloadOut depth))) 444 pairs k payload
+    × Blocks (byteOfEach 32 (givenAt pairReceiver (heldPairs history₀) first (partOf 512 coded) (pairMarks depth))) 32 pairs k marks
+    × Streaming pairReceiver history₀ encoder first coded k history
 
 abbrev μ-loop : tie.MeasureT-loop
-μ-loop pairs coded first history₀ payload₀ marks₀ k₀ history payload marks k = pairs - k
+μ-loop pairs coded encoder first history₀ payload₀ marks₀ k₀ history payload marks k = pairs - k
 
 pub receive-spec : {M : Type 1} → statement M
 receive-spec =
@@ -44,7 +45,7 @@ receive-spec =
     (λ c. search kit)  -- sub-receive-next-2
     (λ c. search kit)  -- part-receive-next-start-2
     (λ c. search kit)  -- part-receive-next-end-2
-    (λ c κs. search kit)  -- receive-next-requires
+    (λ c κs. (search needs, search needs, search needs, search needs, search needs, search kit, search kit, search kit))  -- receive-next-requires
     (λ c. search kit)  -- add-k
     (λ c. search kit)  -- loop-less
     (λ c. let made = c .before .before .before .before .before .before .receive-next .ensures in

@@ -3,7 +3,7 @@
 use ofec_tests::bits;
 use ofec_tests::chain::calls::{Encode, Receive, LIBRARY};
 use ofec_tests::random::Random;
-use ofec_tests::rows::{self, HISTORY_BYTES, MARKS, PAIR_BYTES, PAYLOAD_BYTES};
+use ofec_tests::rows::{self, MARKS, PAIR_BYTES, PAYLOAD_BYTES};
 use ofec_tests::word::LOST;
 
 use crate::same_structure;
@@ -11,6 +11,8 @@ use crate::table::three;
 
 /// Pairs of a super-frame of 16-QAM: 21 of each encoder in each of eight buffers.
 pub const PAIRS: usize = 336;
+/// The encoder whose pairs they are taken to be.
+const ENCODER: u32 = 1;
 
 /// Gives a line about the damage.
 pub fn run(random: &mut Random) -> String {
@@ -58,13 +60,13 @@ fn damaged(coded: &[u8], in_a_thousand: usize, random: &mut Random) -> Vec<u8> {
 
 /// The pairs of one encoder from fresh.
 pub fn encode_all(encode: Encode, payloads: &[u8], coded: &mut [u8]) {
-    let mut history = [0; HISTORY_BYTES];
+    let mut history = rows::fresh(ENCODER);
     let mut pair = 0;
     let pairs = payloads
         .chunks(PAYLOAD_BYTES)
         .zip(coded.chunks_mut(PAIR_BYTES));
     for (payload, coded) in pairs {
-        pair = encode(payload, coded, &mut history, pair).value;
+        pair = encode(payload, coded, &mut history, ENCODER, pair).value;
     }
     assert_eq!(pair as usize, payloads.len() / PAYLOAD_BYTES);
 }
@@ -82,14 +84,14 @@ pub fn receive_all(receive: Receive, coded: &[u8]) -> Received {
         payloads: vec![0; pairs * PAYLOAD_BYTES],
         marks: vec![0; pairs * MARKS],
     };
-    let mut history = [0; HISTORY_BYTES];
+    let mut history = rows::fresh(ENCODER);
     let mut pair = 0;
     let places = received
         .payloads
         .chunks_mut(PAYLOAD_BYTES)
         .zip(received.marks.chunks_mut(MARKS));
     for (coded, (payload, marks)) in coded.chunks(PAIR_BYTES).zip(places) {
-        pair = receive(coded, payload, marks, &mut history, pair).value;
+        pair = receive(coded, payload, marks, &mut history, ENCODER, pair).value;
     }
     assert_eq!(pair as usize, pairs);
     received

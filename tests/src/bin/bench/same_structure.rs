@@ -1,5 +1,5 @@
 //! The library's functions once more, in plain Rust with the same loops: what is left between the two
-//! when the structure is the same. It follows crates/pair, pair_core, pair_words_core, word, gf256, interleaver,
+//! when the structure is the same. It follows crates/bits, pair, pair_core, pair_words_core, word, gf256, interleaver,
 //! interleaver_core, block_core, cells, levels_core, mapping_core, mapping_qpsk_core, cells_core, frame, frame_core and
 //! frame_legal_core function by function, and changes with them.
 //!
@@ -15,15 +15,17 @@
     clippy::manual_is_multiple_of
 )]
 
-use ofec_tests::outcome::{Outcome, COUNT_SPENT, MISFIT, NO_SUCH_FRAME};
+use ofec_tests::outcome::{Outcome, COUNT_SPENT, MISFIT, NO_SUCH_FRAME, STRAY_HISTORY};
 use ofec_tests::profile::Profile;
 
 mod block_core;
 mod cells_core;
 mod frame_core;
 mod frame_legal_core;
+mod front;
 mod mapping_core;
 mod mapping_qpsk_core;
+mod numbers;
 mod pair_core;
 mod pair_words_core;
 mod word;
@@ -38,17 +40,34 @@ fn flip(s: &mut [u8], i: usize) {
 }
 
 #[inline(never)]
-pub fn encode_pair(payload: &[u8], coded: &mut [u8], history: &mut [u8], pair: u32) -> Outcome {
-    let (Ok(payload), Ok(coded), Ok(history)) =
-        (payload.try_into(), coded.try_into(), history.try_into())
+pub fn encode_pair(
+    payload: &[u8],
+    coded: &mut [u8],
+    history: &mut [u8],
+    encoder: u32,
+    pair: u32,
+) -> Outcome {
+    let history: Result<&mut [u8; 5128], _> = history.try_into();
+    let (Ok(payload), Ok(coded), Ok(history)) = (payload.try_into(), coded.try_into(), history)
     else {
         return Outcome::refused_pair(MISFIT, pair);
     };
+    if front::stray(history, encoder, pair) {
+        return Outcome::refused_pair(STRAY_HISTORY, pair);
+    }
     if pair == u32::MAX {
         return Outcome::refused_pair(COUNT_SPENT, pair);
     }
-    pair_core::encode_into(payload, coded, history, pair);
+    let (shown, pairs) = split_front(history);
+    pair_core::encode_into(payload, coded, pairs, pair);
+    front::put(encoder, pair + 1, shown);
     Outcome::accepted(pair + 1)
+}
+
+/// The two numbers of a history, and the ten pairs behind them.
+fn split_front(history: &mut [u8; 5128]) -> (&mut [u8], &mut [u8; 5120]) {
+    let (shown, pairs) = history.split_at_mut(8);
+    (shown, pairs.try_into().expect("ten pairs"))
 }
 
 #[inline(never)]
@@ -57,20 +76,27 @@ pub fn receive_pair(
     payload: &mut [u8],
     marks: &mut [u8],
     history: &mut [u8],
+    encoder: u32,
     pair: u32,
 ) -> Outcome {
+    let history: Result<&mut [u8; 5128], _> = history.try_into();
     let (Ok(coded), Ok(payload), Ok(marks), Ok(history)) = (
         coded.try_into(),
         payload.try_into(),
         marks.try_into(),
-        history.try_into(),
+        history,
     ) else {
         return Outcome::refused_pair(MISFIT, pair);
     };
+    if front::stray(history, encoder, pair) {
+        return Outcome::refused_pair(STRAY_HISTORY, pair);
+    }
     if pair == u32::MAX {
         return Outcome::refused_pair(COUNT_SPENT, pair);
     }
-    pair_core::receive_into(coded, payload, marks, history, pair);
+    let (shown, pairs) = split_front(history);
+    pair_core::receive_into(coded, payload, marks, pairs, pair);
+    front::put(encoder, pair + 1, shown);
     Outcome::accepted(pair + 1)
 }
 

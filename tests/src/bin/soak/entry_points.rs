@@ -1,6 +1,8 @@
 //! The entry points of `include/ofec.h`.
 
-use ofec_tests::outcome::{BAD_HEADER, COUNT_SPENT, MISFIT, NO_SUCH_FRAME, OFF_GRID};
+use ofec_tests::outcome::{
+    BAD_HEADER, COUNT_SPENT, MISFIT, NO_SUCH_FRAME, OFF_GRID, STRAY_HISTORY,
+};
 use ofec_tests::profile::Profile::{Qam16, Qpsk};
 
 use crate::round::Round;
@@ -33,12 +35,12 @@ pub const ENTRY_POINTS: [EntryPoint; 16] = [
     entry_point("ofec_repair_word", &[MISFIT], pairs::repair_word),
     entry_point(
         "ofec_encode_pair",
-        &[MISFIT, COUNT_SPENT],
+        &[MISFIT, STRAY_HISTORY, COUNT_SPENT],
         pairs::encode_pair,
     ),
     entry_point(
         "ofec_receive_pair",
-        &[MISFIT, COUNT_SPENT],
+        &[MISFIT, STRAY_HISTORY, COUNT_SPENT],
         pairs::receive_pair,
     ),
     entry_point("ofec_interleave", &[MISFIT], line::interleave),

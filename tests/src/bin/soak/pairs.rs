@@ -4,9 +4,11 @@ use ofec_tests::bits;
 use ofec_tests::capi;
 use ofec_tests::chain::sending::List;
 use ofec_tests::compare::agreed;
-use ofec_tests::outcome::Outcome;
+use ofec_tests::pair_calls::{above, any_encoder, other, Call, WAYS};
 use ofec_tests::random::Random;
-use ofec_tests::rows::{self, HISTORY_BYTES, MARKS, PAIR_BYTES, PAYLOAD_BYTES, SPENT};
+use ofec_tests::rows::{
+    self, Numbers, FRONT_BYTES, HELD_BYTES, MARKS, PAIR_BYTES, PAYLOAD_BYTES, SPENT,
+};
 use ofec_tests::word::{self, WORD_BITS, WORD_BYTES};
 
 use crate::draw::{any_number, lent, rarely, to_write};
@@ -43,22 +45,24 @@ fn damaged_word(random: &mut Random) -> Vec<u8> {
 pub fn encode_pair(round: &mut Round) -> Verdict {
     let random = &mut round.random;
     let goes_on = random.bit();
-    let List { history, pair } = if goes_on {
-        round.encoder.clone()
+    let (history, named) = if goes_on {
+        going_on(&round.encoder, random)
     } else {
-        any_state(random)
+        any_history(random)
     };
+    let Numbers { encoder, pair } = named;
     let payload = lent(random.bytes(PAYLOAD_BYTES), random);
     let coded = to_write(PAIR_BYTES, random);
     let history = lent(history, random);
     let (outcome, [_, _, history]) = agreed(
         [&payload, &coded, &history],
-        |[payload, coded, history]| capi::encode_pair(payload, coded, history, pair),
-        |[payload, coded, history]| rows::encode_pair(payload, coded, history, pair),
+        |[payload, coded, history]| capi::encode_pair(payload, coded, history, encoder, pair),
+        |[payload, coded, history]| rows::encode_pair(payload, coded, history, encoder, pair),
     )
-    .map_err(|difference| format!("pair {pair}, {difference}"))?;
+    .map_err(|difference| format!("encoder {encoder}, pair {pair}, {difference}"))?;
     if goes_on && outcome.refusal == 0 {
-        round.encoder = next(outcome, history);
+        round.encoder.history = history;
+        round.encoder.accept(outcome);
     }
     Ok(outcome.refusal)
 }
@@ -67,27 +71,33 @@ pub fn receive_pair(round: &mut Round) -> Verdict {
     let random = &mut round.random;
     let goes_on = random.bit();
     let mut sender = round.sender.clone();
-    let (coded, List { history, pair }) = if goes_on {
+    let (coded, (history, named)) = if goes_on {
         (
             sent_with_errors(&mut sender, random),
-            round.receiver.clone(),
+            going_on(&round.receiver, random),
         )
     } else {
-        (random.bytes(PAIR_BYTES), any_state(random))
+        (random.bytes(PAIR_BYTES), any_history(random))
     };
+    let Numbers { encoder, pair } = named;
     let coded = lent(coded, random);
     let payload = to_write(PAYLOAD_BYTES, random);
     let marks = to_write(MARKS, random);
     let history = lent(history, random);
     let (outcome, [_, _, _, history]) = agreed(
         [&coded, &payload, &marks, &history],
-        |[coded, payload, marks, history]| capi::receive_pair(coded, payload, marks, history, pair),
-        |[coded, payload, marks, history]| rows::receive_pair(coded, payload, marks, history, pair),
+        |[coded, payload, marks, history]| {
+            capi::receive_pair(coded, payload, marks, history, encoder, pair)
+        },
+        |[coded, payload, marks, history]| {
+            rows::receive_pair(coded, payload, marks, history, encoder, pair)
+        },
     )
-    .map_err(|difference| format!("pair {pair}, {difference}"))?;
+    .map_err(|difference| format!("encoder {encoder}, pair {pair}, {difference}"))?;
     if goes_on && outcome.refusal == 0 {
         round.sender = sender;
-        round.receiver = next(outcome, history);
+        round.receiver.history = history;
+        round.receiver.accept(outcome);
     }
     Ok(outcome.refusal)
 }
@@ -96,7 +106,8 @@ pub fn receive_pair(round: &mut Round) -> Verdict {
 fn sent_with_errors(sender: &mut List, random: &mut Random) -> Vec<u8> {
     let mut coded = vec![0; PAIR_BYTES];
     let payload = random.bytes(PAYLOAD_BYTES);
-    let outcome = rows::encode_pair(&payload, &mut coded, &mut sender.history, sender.pair);
+    let Numbers { encoder, pair } = sender.numbers;
+    let outcome = rows::encode_pair(&payload, &mut coded, &mut sender.history, encoder, pair);
     sender.accept(outcome);
     for word in 0..MARKS {
         if rarely(3, random) {
@@ -109,20 +120,25 @@ fn sent_with_errors(sender: &mut List, random: &mut Random) -> Vec<u8> {
     coded
 }
 
-/// What an accepted call leaves.
-fn next(outcome: Outcome, history: Vec<u8>) -> List {
-    List {
-        history,
-        pair: outcome.value,
+/// The history of a list, and the numbers of its next call; now and then others are named.
+fn going_on(list: &List, random: &mut Random) -> (Vec<u8>, Numbers) {
+    let mut named = list.numbers;
+    if rarely(6, random) {
+        named.encoder = [named.encoder ^ 1, above(random)][random.between(0, 2)];
     }
+    if rarely(6, random) {
+        named.pair = other(named.pair, random);
+    }
+    (list.history.clone(), named)
 }
 
-/// A history of any content, and a pair number near the start, at the end, or any.
-fn any_state(random: &mut Random) -> List {
-    let history = if random.bit() {
-        random.bytes(HISTORY_BYTES)
+/// A history of any content, at a pair near the start, at the end, or any; and the numbers that the call
+/// names, to which the history is stray every other time.
+fn any_history(random: &mut Random) -> (Vec<u8>, Numbers) {
+    let held = if random.bit() {
+        random.bytes(HELD_BYTES)
     } else {
-        vec![0; HISTORY_BYTES]
+        vec![0; HELD_BYTES]
     };
     let pair = match random.between(0, 5) {
         0 => random.between(0, 24) as u32,
@@ -130,5 +146,15 @@ fn any_state(random: &mut Random) -> List {
         2 => SPENT,
         _ => any_number(random),
     };
-    List { history, pair }
+    let encoder = any_encoder(random);
+    let mut call = Call::of(Numbers { encoder, pair });
+    if random.bit() {
+        call = WAYS[random.between(0, WAYS.len())](call, random);
+    }
+    let mut history = call.front.history(&held);
+    if rarely(20, random) {
+        // Without its front.
+        history.drain(..FRONT_BYTES);
+    }
+    (history, call.named)
 }

@@ -4,8 +4,8 @@ use std::fmt;
 
 use crate::entry_points::ENTRY_POINTS;
 
-/// Done, and the five refusals.
-const ANSWERS: usize = 6;
+/// Done, and the six refusals.
+const ANSWERS: usize = 7;
 
 #[derive(Default)]
 pub struct Tally {

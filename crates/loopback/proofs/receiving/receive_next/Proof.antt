@@ -19,13 +19,16 @@ receive-next-spec =
     (λ c. search needs)  -- slice-aggregate-receive
     (λ c. search needs)  -- slice-aggregate-receive-2
     (λ c κs. search needs)  -- receive-requires
+    (λ c. search needs)  -- sub-compare
+    (λ c. search needs)  -- part-compare-start
+    (λ c. search needs)  -- part-compare-end
     (λ c. search needs)  -- slice-aggregate-compare
     (λ c. search needs)  -- slice-aggregate-compare-2
     (λ c κs. search needs)  -- compare-requires
     (λ c. search needs)  -- same-length
     (λ c. search needs)  -- same-length-2
     (λ c.
-    let made = c .before .before .before .before .before .before .before .before .before .before .before .receive .ensures in (
-      step-history _ _ _ _ _ refl refl _ _ _ made,
-      pair-taken _ _ _ _ _ refl refl _ _ _ made _ _ _ _ (c .before .before .compare .ensures),
+    let made = c .before .before .before .before .before .before .before .before .before .before .before .before .receive .ensures in (
+      step-history _ _ _ _ _ _ refl refl _ _ _ made,
+      pair-taken _ _ _ _ _ _ refl refl _ _ _ made _ _ _ (search needs) (c .before .before .compare .ensures),
     )))  -- returns

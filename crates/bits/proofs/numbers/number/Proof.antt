@@ -1,9 +1,9 @@
--- `header_core::number` meets its contract: two halves are one number.
+-- `bits::numbers::number` meets its contract: two halves are one number.
 -- Assumes nothing.
-use Rattle.line_file_spec.specs.HeaderLaws.{by-halves}
+use Rattle.bits.specs.Numbers32Laws.{by-halves}
 use borrow.Author.Needs.{needs}
-use Rattle.header_core.proofs.rules.number.Statement.{statement}
-use Rattle.header_core.proofs.rules.number.Tie as tie
+use Rattle.bits.proofs.numbers.number.Statement.{statement}
+use Rattle.bits.proofs.numbers.number.Tie as tie
 
 ruleset kit = (needs, by-halves)
 
