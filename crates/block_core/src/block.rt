@@ -4,8 +4,12 @@
 ghost use mathlib.Core.Path.{_≡_};
 ghost use Prim.Native.Nat.{_<_};
 ghost use lib.ListN.{getD};
-ghost use Rattle.interleaver_spec.specs.Block.{block, reordered, restored};
-ghost use Rattle.interleaver_spec.specs.Moves.{chosen, turned, turnedBit, movedBit, transposed};
+ghost use Rattle.blocks.specs.Block.{block};
+ghost use Rattle.interleaver_spec.specs.Block.{reordered, restored};
+ghost use Rattle.blocks.specs.Moves.{transposed};
+ghost use Rattle.interleaver_spec.specs.Moves.{turnedBit, movedBit};
+use blocks::choose;
+use blocks::turn;
 use interleaver_spec::BitRow;
 
 // The columns i, column 0 the most significant bit, for which 2i + d has 8, 4, 2 and 1 in it.
@@ -24,21 +28,6 @@ fn row(b: &[u16; 16], i: BitRow) -> u16
 {
     let i = i.0;
     b[i]
-}
-
-// A row turned left by n columns.
-pub fn turn(x: u16, n: usize) -> u16
-    requires { ⌜ n < 16 ⌝ }
-    ensures { λ r. ⌜ r ≡ turned x n ⌝ }
-{
-    (x << n) | ((x >> 1) >> (15 - n))
-}
-
-// The columns of m from x, the others from y.
-fn choose(m: u16, x: u16, y: u16) -> u16
-    ensures { λ r. ⌜ r ≡ chosen m x y ⌝ }
-{
-    y ^ ((x ^ y) & m)
 }
 
 // Each row turned left by n times its number.

@@ -5,3 +5,4 @@ pub mod Division
 pub mod Field
 pub mod Tables
 pub mod PowerLaws
+pub mod RootLaws

@@ -1,9 +1,10 @@
--- Laws of the table of powers: its step rule, and by that rule no zero divisors, and the tables of exponents and of cubes.
+-- Laws of the table of powers: its step rule, and by that rule products by exponents, no zero divisors, and the tables of exponents and of
+-- cubes.
 -- Assumes nothing.
-use mathlib.Core.Path.{_≡_, refl, sym, ap, _∙_, subst}
+use mathlib.Core.Path.{_≡_, refl, sym, ap, ap₂, _∙_, subst}
 use mathlib.Core.List.{List}
 use mathlib.Core.Logic.{_⊎_, inl, inr}
-use Prim.Native.Nat.{ℕ, zero, suc, _+_, _-_, _<_}
+use Prim.Native.Nat.{ℕ, zero, suc, _+_, _-_, _<_, _≤_}
 use native.Mathlib.Nat.{zero-add}
 use native.Mathlib.Omega.{arith}
 use lib.Dec.{ltb, ltb→lt}
@@ -13,8 +14,8 @@ use Rattle.bits.specs.Xor.{_⊕_}
 use Rattle.gf256.specs.Polynomials.{polynomialNumber, reduce}
 use Rattle.gf256.specs.Powers.{firstFactor, timesA}
 use Rattle.gf256.specs.Linear.{lin, units, lin-lt}
-use Rattle.gf256.specs.Field.{shiftA, a-columns, timesA-shiftA, shiftA-linear, byte, byte-id, byte-·, orbit, _·_, ·-comm, ·-one}
-use Rattle.gf256.specs.Field.{·-shiftA, shiftA-·, ·-assoc, zero-·, cube, cube-zero, cube-shiftA}
+use Rattle.gf256.specs.Field.{shiftA, a-columns, timesA-shiftA, byte, byte-id, byte-·, orbit, _·_, ·-comm, ·-one}
+use Rattle.gf256.specs.Field.{·-shiftA, shiftA-·, ·-assoc, ·-left, zero-·, cube, cube-zero, cube-shiftA}
 use Rattle.gf256.specs.Tables.{powers, logs, cubed}
 
 -- ---- the rule of the table of powers, computed once over all entries
@@ -59,25 +60,64 @@ log-of (suc x) p h = (log-lt (suc x) h, power-log x (omega arith))
 pub log-in : (t : List ℕ) (x : ℕ) → t ≡ logs → 0 < x → x < 256 → (getD t x 0 < 255) × (getD powers (getD t x 0) 0 ≡ x)
 log-in t x e p l = rw e (log-of x p l)
 
+-- ---- products by exponents
+
+-- A step in the first exponent is a step in the product.
+factor-step : (i j : ℕ) → i < 254 → getD powers (suc i) 0 · getD powers j 0 ≡ shiftA (getD powers i 0 · getD powers j 0)
+factor-step i j h = ap (λ u. u · getD powers j 0) (sym (powers-next i h)) ∙ shiftA-· (getD powers i 0) (getD powers j 0)
+
+-- a^i times a^j is a^(i + j) ..
+exponents-add : (i j k : ℕ) → i + j ≡ k → k < 255 → getD powers i 0 · getD powers j 0 ≡ getD powers k 0
+exponents-add zero j k e h =
+    ap (λ u. u · getD powers j 0) powers-first ∙ ·-comm 1 (getD powers j 0) ∙ ·-one (getD powers j 0)
+    ∙ byte-id (getD powers j 0) (powers-lt j (omega arith)) ∙ ap (λ n. getD powers n 0) (sym (zero-add j) ∙ e)
+exponents-add (suc i) j zero e h = absurd (omega arith)
+exponents-add (suc i) j (suc k) e h =
+    factor-step i j (omega arith) ∙ ap shiftA (exponents-add i j k (omega arith) (omega arith)) ∙ powers-next k (omega arith)
+
+-- .. and a^255 is 1.
+exponents-round : (i j k : ℕ) → i + j ≡ k + 255 → i < 255 → j < 255 → getD powers i 0 · getD powers j 0 ≡ getD powers k 0
+exponents-round zero j k e hi hj = absurd (omega arith)
+exponents-round (suc i) j zero e hi hj =
+    factor-step i j (omega arith) ∙ ap shiftA (exponents-add i j 254 (omega arith) (omega arith)) ∙ powers-round ∙ sym powers-first
+exponents-round (suc i) j (suc k) e hi hj =
+    factor-step i j (omega arith) ∙ ap shiftA (exponents-round i j k (omega arith) (omega arith) (omega arith)) ∙ powers-next k (omega arith)
+
+-- Lookups in a lent table, with the exponents of two elements.
+module _ (t : List ℕ) (x y i j : ℕ) (e : t ≡ powers) (hi : i < 255) (p : getD powers i 0 ≡ x) (hj : j < 255) (q : getD powers j 0 ≡ y) where
+  pub times-low : i + j < 255 → getD t (i + j) 0 ≡ x · y
+  times-low h = sym (ap₂ _·_ (sym p) (sym q) ∙ exponents-add i j (i + j) refl h ∙ ap (λ s. getD s (i + j) 0) (sym e))
+
+  pub times-round : 255 ≤ i + j → getD t (i + j - 255) 0 ≡ x · y
+  times-round h =
+      sym (ap₂ _·_ (sym p) (sym q) ∙ exponents-round i j (i + j - 255) (omega arith) hi hj ∙ ap (λ s. getD s (i + j - 255) 0) (sym e))
+
+  pub over-low : j ≤ i → getD t (i - j) 0 · y ≡ x
+  over-low h = ap₂ (λ (s : List ℕ) (u : ℕ). getD s (i - j) 0 · u) e (sym q) ∙ exponents-add (i - j) j i (omega arith) hi ∙ p
+
+  pub over-round : i < j → getD t (i + 255 - j) 0 · y ≡ x
+  over-round h =
+      ap₂ (λ (s : List ℕ) (u : ℕ). getD s (i + 255 - j) 0 · u) e (sym q) ∙ exponents-round (i + 255 - j) j i (omega arith) (omega arith) hj ∙ p
+
+pub over-zero : (x y : ℕ) → x ≡ 0 → 0 · y ≡ x
+over-zero x y e = zero-· y ∙ sym e
+
+pub ruleset multiplying = (times-low, times-round)
+
+pub ruleset dividing = (over-low, over-round, over-zero)
+
 -- ---- no zero divisors
 
--- a^i times a^j is a^254 where i and j add up to 254: a step up in the one for a step down in the other.
-ends : (i j : ℕ) → i + j ≡ 254 → getD powers i 0 · getD powers j 0 ≡ getD powers 254 0
-ends zero j e =
-    ap (λ u. u · getD powers j 0) powers-first ∙ ·-comm 1 (getD powers j 0) ∙ ·-one (getD powers j 0)
-    ∙ byte-id (getD powers j 0) (powers-lt j (omega arith)) ∙ ap (λ k. getD powers k 0) (sym (zero-add j) ∙ e)
-ends (suc i) j e =
-    ap (λ u. u · getD powers j 0) (sym (powers-next i (omega arith))) ∙ shiftA-· (getD powers i 0) (getD powers j 0)
-    ∙ sym (·-shiftA (getD powers i 0) (getD powers j 0)) ∙ ap (λ u. getD powers i 0 · u) (powers-next j (omega arith))
-    ∙ ends i (suc j) (omega arith)
+-- Each entry has an inverse.
+inverse : (i j : ℕ) → i + j ≡ 254 → getD powers i 0 · shiftA (getD powers j 0) ≡ 1
+inverse i j e =
+    ·-shiftA (getD powers i 0) (getD powers j 0) ∙ ap shiftA (exponents-add i j 254 e (omega arith)) ∙ powers-round
 
 -- An entry can be divided out.
 divide : (i j x : ℕ) → i + j ≡ 254 → x · getD powers i 0 ≡ 0 → byte x ≡ 0
 divide i j x h e =
-    sym (·-one x) ∙ ap (λ u. x · u) (sym powers-round) ∙ ·-shiftA x (getD powers 254 0)
-    ∙ ap shiftA
-    (ap (λ u. x · u) (sym (ends i j h)) ∙ sym (·-assoc x (getD powers i 0) (getD powers j 0)) ∙ ap (λ u. u · getD powers j 0) e ∙ zero-· (getD powers j 0))
-    ∙ shiftA-linear .at-zero
+    let v = shiftA (getD powers j 0) in
+    sym (·-one x) ∙ ap (λ u. x · u) (sym (inverse i j h)) ∙ sym (·-assoc x (getD powers i 0) v) ∙ ap (λ u. u · v) e ∙ zero-· v
 
 pub no-zero-divisors : (x y : ℕ) → x < 256 → y < 256 → x · y ≡ 0 → (x ≡ 0) ⊎ (y ≡ 0)
 no-zero-divisors x zero hx hy e = inr refl
@@ -93,6 +133,23 @@ byte-lt x = lin-lt 8 (units 8) tt x
 
 pub ·-lt : (x y : ℕ) → x · y < 256
 ·-lt x y = subst (λ u. u < 256) (byte-· x y) (byte-lt (x · y))
+
+-- x is s times some element, unless s is 0.
+pub record Over (x s : ℕ) : Type 0 where
+  pub value : ℕ
+  pub small : value < 256
+  pub times : s · value ≡ x
+
+pub over : (x s : ℕ) → x < 256 → 0 < s → s < 256 → Over x s
+over x s hx p hs =
+    let k = getD logs s 0 in
+    let l = log-of s p hs in
+    let v = shiftA (getD powers (254 - k) 0) in
+    record {
+      value = x · v;
+      small = ·-lt x v;
+      times = ·-left s x v ∙ ap (λ u. x · u) (ap (λ u. u · v) (sym (l .1)) ∙ inverse k (254 - k) (omega (arith, l .0))) ∙ ·-one x ∙ byte-id x hx;
+    }
 
 -- ---- cubes
 

@@ -1,21 +1,10 @@
-// A block row: its eight blocks of sixteen words side by side, word i of block C being number 8i+C. And the four block rows in which the
-// same bit rows of the four subsets stand, side by side again: word x of that of a subset is number 4x+subset.
+// The four block rows in which the same bit rows of the four subsets stand, side by side: word x of that of a subset is number 4x+subset.
 ghost use mathlib.Core.Path.{_≡_};
 ghost use Prim.Native.Nat.{_+_, _*_, _<_};
 ghost use lib.ListN.{length};
 ghost use Rattle.bits.specs.Lists.{tabulate};
-ghost use Rattle.interleaver_spec.specs.BlockBuffer.{laidIn, joinedWord, joined, subsetWord};
+ghost use Rattle.interleaver_spec.specs.BlockBuffer.{joinedWord, joined, subsetWord};
 use interleaver_spec::SubsetBitRow;
-
-// Puts the words of block C into a block row.
-pub fn lay(row: &mut [u16], block: usize, b: [u16; 16])
-    requires { ⌜ (length (now row) ≡ 128) × (block < 8) ⌝ }
-    ensures { λ _. ⌜ now (row .exit) ≡ laidIn (now (row .entry)) block b ⌝ }
-{
-    for i in 0..16 {
-        row[8 * i + block] = b[i];
-    }
-}
 
 // Word x of each of four block rows.
 fn put_four(rows: &[[u16; 128]; 4], x: usize, words: &mut [u16])

@@ -4,14 +4,15 @@ ghost use Prim.Native.Nat.{_+_, _*_, _<_};
 ghost use lib.ListN.{length};
 ghost use Rattle.bits.specs.Bits.{pack};
 ghost use Rattle.bits.specs.Lists.{tabulate};
-ghost use Rattle.interleaver_spec.specs.BlockBuffer.{laid, pairsWords, sentWords, wordsBlock, reorderedIn, subsetRowAt, joinedRow, outputBit, columnByte};
-use crate::buffer::lay;
+ghost use Rattle.blocks.specs.SideBySide.{laid};
+ghost use Rattle.interleaver_spec.specs.BlockBuffer.{pairsWords, sentWords, reorderedIn, subsetRowAt, joinedRow, outputBit, columnByte};
 use crate::buffer::side_by_side;
 use crate::buffer::subset_word;
 use crate::rows::block_row_of;
 use crate::rows::pairs_byte;
 use block_core::block::reorder;
-use block_core::block::turn;
+use blocks::block_in;
+use blocks::lay;
 use interleaver_spec::BitRow;
 use interleaver_spec::BlockRow;
 use interleaver_spec::SubsetBitRow;
@@ -38,18 +39,6 @@ fn sent_words(pairs0: &[u8], pairs1: &[u8], k: BlockRow) -> [u16; 128]
         return pairs_words(pairs0, k);
     }
     pairs_words(pairs1, k)
-}
-
-// Block C of these words, its bytes exchanged.
-fn block_in(words: &[u16; 128], block: usize) -> [u16; 16]
-    requires { ⌜ block < 8 ⌝ }
-    ensures { λ b. ⌜ b ≡ wordsBlock (now (words .entry)) block ⌝ }
-{
-    let mut b = [0u16; 16];
-    for r in 0..16 {
-        b[r] = turn(words[8 * r + block], 8);
-    }
-    b
 }
 
 // The reordered blocks of a block row, by columns.

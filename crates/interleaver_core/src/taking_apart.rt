@@ -1,13 +1,13 @@
 // From the bits of a buffer to the pairs of two encoders, block row by block row.
 ghost use mathlib.Core.Path.{_≡_};
 ghost use Prim.Native.Nat.{_+_, _*_, _<_};
-ghost use lib.ListN.{length, getD};
-ghost use Rattle.bits.specs.Lists.{tabulate};
-ghost use Rattle.interleaver_spec.specs.BlockBuffer.{lineColumns, restoredRow, rowByte};
+ghost use lib.ListN.{length};
+ghost use Rattle.interleaver_spec.specs.BlockBuffer.{lineColumns, restoredRow};
 ghost use Rattle.interleaver_spec.specs.Interleaving.{apart};
-use crate::buffer::lay;
 use crate::rows::output_byte;
 use block_core::block::restore;
+use blocks::lay;
+use blocks::write_row;
 use interleaver_spec::BlockRow;
 
 // Block C of a block row by columns, as the bits have it: bit rows 0 to 7 of a column are one byte, 8 to 15 are four bytes on.
@@ -33,28 +33,6 @@ fn restored_row(bits: &[u8], k: BlockRow) -> [u16; 128]
         lay(&mut row, block, restore(line_block(bits, k, block)));
     }
     row
-}
-
-// A word of a block row.
-fn row_word(row: &[u16; 128], x: usize) -> u16
-    requires { ⌜ x < 128 ⌝ }
-    ensures { λ w. ⌜ w ≡ getD (now (row .entry)) x 0 ⌝ }
-{
-    row[x]
-}
-
-// The bytes of a block row, two a word: as its encoder's pairs hold them.
-fn write_row(row: &[u16; 128], out: &mut [u8])
-    requires { ⌜ length (now out) ≡ 256 ⌝ }
-    ensures { λ _. ⌜ now (out .exit) ≡ tabulate 256 (rowByte (now (row .entry))) ⌝ }
-{
-    for x in 0..128 {
-        let w = row_word(row, x);
-        let a = 2 * x;
-        let e = a + 1;
-        out[a] = (w / 256 % 256) as u8;
-        out[e] = (w % 256) as u8;
-    }
 }
 
 // An encoder's pairs of a buffer of bits.

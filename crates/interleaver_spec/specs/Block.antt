@@ -1,26 +1,12 @@
--- A block, and how it is reordered. 01, "Interleaver": "Each block of 16 bit rows is reordered by itself".
--- A block is a list of sixteen 16-bit rows, column 0 the most significant bit of a row.
+-- How a block is reordered. 01, "Interleaver": "Each block of 16 bit rows is reordered by itself".
 -- Assumes nothing.
 use mathlib.Core.Bool.{cond}
 use mathlib.Core.List.{List}
 use Prim.Native.Nat.{ℕ, _+_, _-_, _*_, _/_, _%_}
 use lib.Dec.{ltb, eqb}
-use lib.ListN.{getD}
-use Rattle.bits.specs.Lists.{tabulate}
-use Rattle.bits.specs.Bits.{bitOf, fromBits}
 use Rattle.bits.specs.Tests.{both}
 use Rattle.bits.specs.Least.{least}
-
--- The bit of a block at place (i, j): bit row i, column j.
-unfoldable pub bitAt : List ℕ → ℕ → ℕ → ℕ
-bitAt b i j = bitOf 16 (getD b i 0) j
-
--- Bit row i of the block whose bit at (i, j) is f i j, and that block.
-unfoldable pub rowWord : (ℕ → ℕ → ℕ) → ℕ → ℕ
-rowWord f i = fromBits 16 (f i)
-
-unfoldable pub block : (ℕ → ℕ → ℕ) → List ℕ
-block f = tabulate 16 (rowWord f)
+use Rattle.blocks.specs.Block.{bitAt, block}
 
 -- "d = 0 for i < 8 and 1 otherwise"
 unfoldable pub rowShift : ℕ → ℕ

@@ -1,35 +1,21 @@
 -- The 84 block rows of a buffer as the calls hold them between reading and writing: the eight blocks of a block row side by side, word
 -- i of block C being number 8i+C; outward, where each column takes one word from four block rows, those four side by side too.
 -- Assumes nothing.
-use mathlib.Core.Bool.{cond}
 use mathlib.Core.List.{List, []}
 use Prim.Native.Nat.{ℕ, _+_, _*_, _/_, _%_}
-use lib.Dec.{eqb}
 use lib.ListN.{getD}
 use Rattle.bits.specs.Bits.{bitOf, bit, fromBits, byteOf}
 use Rattle.bits.specs.Lists.{tabulate}
 use Rattle.interleaver_spec.specs.declared.BlockRow.{BlockRow}
 use Rattle.interleaver_spec.specs.declared.SubsetBitRow.{SubsetBitRow}
-use Rattle.interleaver_spec.specs.Rows.{blockRow, encoderIn, rowIn, blockRowOf, bitRowWithin}
-use Rattle.interleaver_spec.specs.Block.{block, reordered, restored}
-use Rattle.interleaver_spec.specs.Moves.{turned, transposed}
+use Rattle.interleaver_spec.specs.Rows.{encoderIn, rowIn, blockRowOf, bitRowWithin}
+use Rattle.blocks.specs.Block.{block}
+use Rattle.interleaver_spec.specs.Block.{reordered, restored}
+use Rattle.blocks.specs.Moves.{transposed}
+use Rattle.blocks.specs.SideBySide.{laid, wordsBlock}
 use Rattle.interleaver_spec.specs.Positions.{outColumn, tOf, subsetOf, bOf}
 use Rattle.interleaver_spec.specs.PositionLaws.{outputAt}
 use Rattle.interleaver_spec.specs.Interleaving.{pairsBit, pairsOf}
-
--- Word x of the block row whose blocks f gives, and that block row.
-unfoldable pub laidWord : (ℕ → List ℕ) → ℕ → ℕ
-laidWord f x = getD (f (x % 8)) (x / 8) 0
-
-unfoldable pub laid : (ℕ → List ℕ) → List ℕ
-laid f = tabulate 128 (laidWord f)
-
--- Word x of a block row into which block C was put, and that block row.
-unfoldable pub laidAt : List ℕ → ℕ → List ℕ → ℕ → ℕ
-laidAt row C b x = cond (eqb (x % 8) C) (getD b (x / 8) 0) (getD row x 0)
-
-unfoldable pub laidIn : List ℕ → ℕ → List ℕ → List ℕ
-laidIn row C b = tabulate 128 (laidAt row C b)
 
 -- ---- from pairs to bits
 
@@ -51,10 +37,7 @@ pairsWords pairs k = tabulate 128 (pairsWord pairs k)
 unfoldable pub sentWords : List ℕ → List ℕ → BlockRow → List ℕ
 sentWords pairs0 pairs1 k = pairsWords (pairsOf pairs0 pairs1 (encoderIn k)) k
 
--- Block C of such words, and that block reordered, by columns.
-unfoldable pub wordsBlock : List ℕ → ℕ → List ℕ
-wordsBlock words C = tabulate 16 (λ r. turned (getD words (8 * r + C) 0) 8)
-
+-- Block C of such words reordered, by columns.
 unfoldable pub reorderedIn : List ℕ → ℕ → List ℕ
 reorderedIn words C = transposed (reordered (wordsBlock words C))
 
@@ -121,7 +104,3 @@ restoredBlock bits k C = restored (lineBlock bits k C)
 
 unfoldable pub restoredRow : List ℕ → ℕ → List ℕ
 restoredRow bits k = laid (restoredBlock bits (record { 0 = k }))
-
--- Byte y of a block row, two bytes a word.
-unfoldable pub rowByte : List ℕ → ℕ → ℕ
-rowByte row y = fromBits 8 (λ c. bitOf 16 (getD row (y / 2) 0) (8 * (y % 2) + c))

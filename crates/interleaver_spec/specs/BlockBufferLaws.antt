@@ -6,30 +6,35 @@ use Prim.Native.Nat.{ℕ, _+_, _-_, _*_, _/_, _%_, _^_, _<_, _≤_}
 use native.Mathlib.Omega.{arith}
 use borrow.Author.Tests.{eq-eqb, ne-eqb}
 use borrow.Rule.Slice.PartMut.{putMid}
-use lib.ListN.{length, getD, set, length-set}
+use lib.ListN.{length, getD}
 use Rattle.bits.specs.Bits.{bitOf, bit, fromBits, byteOf, pack}
-use Rattle.bits.specs.BitLaws.{bit-lt, bitOf-fromBits, fromBits-ext, pack-ext}
-use Rattle.bits.specs.Filling.{Filling, fill-none, fill-done, Blocks, blocks-none, blocks-next, blocks-done, fill-two}
+use Rattle.bits.specs.BitLaws.{bit-lt, fromBits-ext, pack-ext}
+use Rattle.bits.specs.Filling.{Blocks, blocks-none, blocks-next, blocks-done}
 use Rattle.bits.specs.ListLaws.{getD-tabulate, tabulate-ext}
 use Rattle.bits.specs.Lists.{tabulate}
 use Rattle.interleaver_spec.specs.declared.BlockRow.{BlockRow}
 use Rattle.interleaver_spec.specs.declared.SubsetBitRow.{SubsetBitRow}
 use Rattle.bits.specs.NumberLaws.{two-bytes, half-is}
 use Rattle.interleaver_spec.specs.Rows.{firstOf, blockRow, encoderIn, rowIn, blockRowOf}
-use Rattle.interleaver_spec.specs.Block.{bitAt, rowWord, block, sourceRow, sourceColumn, reordered, restored}
-use Rattle.interleaver_spec.specs.BlockLaws.{bitAt-block-of, block-ext, bitAt-reordered, bitAt-restored, targetRow, targetColumn}
+use Rattle.blocks.specs.Block.{bitAt, rowWord, block}
+use Rattle.interleaver_spec.specs.Block.{sourceRow, sourceColumn, reordered, restored}
+use Rattle.blocks.specs.BlockLaws.{bitAt-block-of, block-ext}
+use Rattle.interleaver_spec.specs.BlockLaws.{bitAt-reordered, bitAt-restored, targetRow, targetColumn}
 use Rattle.interleaver_spec.specs.BlockLaws.{targetRow-lt, targetColumn-lt, sourceRow-lt, sourceColumn-lt}
-use Rattle.interleaver_spec.specs.Moves.{turned, moved, transposed}
-use Rattle.interleaver_spec.specs.MoveLaws.{transposed-bit}
+use Rattle.blocks.specs.Moves.{moved, transposed}
+use Rattle.blocks.specs.MoveLaws.{transposed-bit}
 use Rattle.interleaver_spec.specs.Positions.{outColumn, tOf, subsetOf, bOf, outBlockRow, placeRow, placeColumn, encoderOf, rowOf, blockOf}
 use Rattle.interleaver_spec.specs.Positions.{bitRowOf, columnOf}
 use Rattle.interleaver_spec.specs.PositionLaws.{part-column, part-t, part-subset, part-b, outputAt, outputFor, output-upper, output-lower}
 use Rattle.interleaver_spec.specs.Interleaving.{pairsBit, pairsOf, sourceOf, interleavedBit, interleaved, outputOf, apart}
 use Rattle.interleaver_spec.specs.InterleavingLaws.{outputFrom, outputOf-is}
-use Rattle.interleaver_spec.specs.BlockBuffer.{laidWord, laid, pairsPlace, pairsWord, pairsWords, sentWords, wordsBlock}
+use Rattle.blocks.specs.SideBySide.{laidWord, laid, wordsBlock}
+use Rattle.blocks.specs.Laying.{laid-bit, words-block}
+use Rattle.interleaver_spec.specs.BlockBuffer.{pairsPlace, pairsWord, pairsWords, sentWords}
 use Rattle.interleaver_spec.specs.BlockBuffer.{reorderedIn, sentBlock, reorderedBlock, reorderedRow, joinedWord, joined, subsetRowAt}
 use Rattle.interleaver_spec.specs.BlockBuffer.{joinedRow, subsetWord, partsBit, outputBit, columnByte}
-use Rattle.interleaver_spec.specs.BlockBuffer.{linePlace, lineBlock, lineColumn, lineColumns, restoredBlock, restoredRow, rowByte}
+use Rattle.blocks.specs.SideBySide.{rowByte}
+use Rattle.interleaver_spec.specs.BlockBuffer.{linePlace, lineBlock, lineColumn, lineColumns, restoredBlock, restoredRow}
 
 -- ---- a word of the buffer by its block row, block and number
 
@@ -38,12 +43,6 @@ word-block i C l = omega arith
 
 word-number : (i C : ℕ) → C < 8 → (8 * i + C) / 8 ≡ i
 word-number i C l = omega arith
-
-laid-bit : (g : ℕ → List ℕ) (C i j : ℕ) → C < 8 → i < 16 → bitOf 16 (getD (laid g) (8 * i + C) 0) j ≡ bitAt (g C) i j
-unfolding bitAt laid laidWord
-laid-bit g C i j lC li =
-    ap (λ w. bitOf 16 w j)
-    (getD-tabulate 128 (laidWord g) (8 * i + C) 0 (omega arith) ∙ ap₂ (λ x y. getD (g x) y 0) (word-block i C lC) (word-number i C lC))
 
 -- ---- from pairs to bits, as code finds them
 
@@ -69,26 +68,14 @@ sent-1 pairs0 pairs1 k w e p = p ∙ simp (ne-eqb (k .0 % 2) 0 e)
 -- Turned by 8 columns more, the words of block C are its bit rows.
 block-words : (pairs0 pairs1 : List ℕ) (k : BlockRow) (C : ℕ) → C < 8
     → wordsBlock (sentWords pairs0 pairs1 k) C ≡ sentBlock pairs0 pairs1 k C
-unfolding wordsBlock sentWords sentBlock pairsWords pairsWord block rowWord turned
-block-words pairs0 pairs1 k C lC = tabulate-ext 16 (λ r. turned (getD (pairsWords s k) (8 * r + C) 0) 8) (rowWord (pairsPlace s k C)) row
+unfolding sentWords sentBlock pairsWords pairsWord
+block-words pairs0 pairs1 k C lC =
+    words-block (pairsWords s k) (pairsPlace s k C) C
+    (λ r lr. getD-tabulate 128 (pairsWord s k) (8 * r + C) 0 (omega arith)
+    ∙ ap₂ (λ x y. fromBits 16 (λ c. pairsPlace s k x y ((c + 8) % 16))) (word-block r C lC) (word-number r C lC))
   where
     s : List ℕ
     s = pairsOf pairs0 pairs1 (encoderIn k)
-
-    twice : (x : ℕ) → x % 2 % 2 ≡ x % 2
-    twice x = omega arith
-
-    row : (r : ℕ) → r < 16 → turned (getD (pairsWords s k) (8 * r + C) 0) 8 ≡ rowWord (pairsPlace s k C) r
-    row r lr =
-        ap (λ z. turned z 8)
-        (getD-tabulate 128 (pairsWord s k) (8 * r + C) 0 (omega arith)
-        ∙ ap₂ (λ x y. fromBits 16 (λ c. pairsPlace s k x y ((c + 8) % 16))) (word-block r C lC) (word-number r C lC))
-        ∙ fromBits-ext 16 (λ c. bitOf 16 (fromBits 16 (λ d. pairsPlace s k C r ((d + 8) % 16))) ((c + 8) % 16)) (pairsPlace s k C r)
-        (λ c lc.
-        let n : ((c + 8) % 16 + 8) % 16 ≡ c = omega arith in
-        ap (λ z. z % 2)
-        (bitOf-fromBits 16 (λ d. pairsPlace s k C r ((d + 8) % 16)) ((c + 8) % 16) (omega arith) ∙ ap (λ d. pairsPlace s k C r d % 2) n)
-        ∙ twice (pairsPlace s k C r c))
 
 pub reordered-in : (words : List ℕ) (C : ℕ) (b r : List ℕ) → b ≡ wordsBlock words C → r ≡ transposed (reordered b) → r ≡ reorderedIn words C
 unfolding reorderedIn
@@ -222,39 +209,6 @@ restored-block bits k C b r p q =
     ∙ ap restored
     (block-ext (λ i j. bitAt (block (lineColumn bits k C)) j i) (linePlace bits k C)
     (λ i j li lj. bitAt-block-of (lineColumn bits k C) (λ u v. line-lt bits k C v u) j i lj li))
-
--- A word's bytes.
-row-half : (row : List ℕ) (x h w : ℕ) → w ≡ getD row x 0 → w < 2 ^ 16 → h < 2 → w / 2 ^ (8 - 8 * h) % 256 ≡ rowByte row (2 * x + h)
-unfolding rowByte
-row-half row x h w e l lh =
-    let word : (2 * x + h) / 2 ≡ x = omega arith in
-    let half : (2 * x + h) % 2 ≡ h = omega arith in
-    rw (word, half) (half-is w h l lh ∙ ap (λ v. fromBits 8 (λ c. bitOf 16 v (8 * h + c))) e)
-
-pub row-upper : (row : List ℕ) (x w : ℕ) → w ≡ getD row x 0 → w < 2 ^ 16 → w / 256 % 256 ≡ rowByte row (2 * x)
-row-upper row x w e l = let n : 2 * x + 0 ≡ 2 * x = omega arith in row-half row x 0 w e l (omega arith) ∙ ap (rowByte row) n
-
-pub row-lower : (row : List ℕ) (x w : ℕ) → w ≡ getD row x 0 → w < 2 ^ 16 → w % 256 ≡ rowByte row (2 * x + 1)
-row-lower row x w e l = omega (arith, row-half row x 1 w e l (omega arith))
-
--- The invariant of the loop that writes them: none / more / done.
-pub record Twos (f : ℕ → ℕ) (x : ℕ) (d : List ℕ) : Type 0 where
-  pub filled : Filling f 256 (2 * x) d
-
-pub twos-none : (f : ℕ → ℕ) (d : List ℕ) → length d ≡ 256 → Twos f 0 d
-twos-none f d e = record { filled = fill-none f 256 d e }
-
-pub twos-room : {f : ℕ → ℕ} {x : ℕ} {d : List ℕ} (u : ℕ) → Twos f x d → x < 128 → 2 * x + 1 < length (set d (2 * x) u)
-twos-room {f} {x} {d} u h l = omega (arith, length-set d (2 * x) u, h .filled .long)
-
-pub twos-more : {f : ℕ → ℕ} {x : ℕ} {d : List ℕ} (u v : ℕ) → Twos f x d → x < 128 → u ≡ f (2 * x) → v ≡ f (2 * x + 1)
-    → Twos f (x + 1) (set (set d (2 * x) u) (2 * x + 1) v)
-twos-more u v h l p q = record { filled = fill-two u v (h .filled) (omega arith) p q (omega arith) }
-
-pub twos-done : {f : ℕ → ℕ} {x : ℕ} {d : List ℕ} → Twos f x d → 128 ≤ x → d ≡ tabulate 256 f
-twos-done h l = fill-done (h .filled) (omega arith)
-
-pub ruleset twos = (twos-none, twos-room, twos-more, twos-done, row-upper, row-lower)
 
 -- Of a restored block row, each bit is that of the encoder's pairs which stands there.
 from-at : (e m : ℕ)

@@ -14,5 +14,4 @@ pub mod Calls
 pub mod CallLaws
 pub mod ResultLaws
 pub mod BlockBuffer
-pub mod Laying
 pub mod BlockBufferLaws

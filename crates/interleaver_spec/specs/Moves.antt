@@ -1,22 +1,10 @@
--- A block by whole rows: a row turned, columns chosen between two rows, a block whose bits were moved, and a block by columns.
+-- The steps in which a block is reordered by whole rows.
 -- Assumes nothing.
 use mathlib.Core.List.{List}
-use Prim.Native.Nat.{ℕ, zero, suc, _+_, _*_, _%_}
-use Rattle.bits.specs.Bits.{bitOf, fromBits}
-use Rattle.interleaver_spec.specs.Block.{bitAt, block}
-
--- Row x turned left by n columns.
-unfoldable pub turned : ℕ → ℕ → ℕ
-turned x n = fromBits 16 (λ c. bitOf 16 x ((c + n) % 16))
-
--- The second for 0, else the first.
-unfoldable pub pick : ℕ → ℕ → ℕ → ℕ
-pick zero u v = v
-pick (suc t) u v = u
-
--- Row x in the columns of m, row y in the others.
-unfoldable pub chosen : ℕ → ℕ → ℕ → ℕ
-chosen m x y = fromBits 16 (λ c. pick (bitOf 16 m c) (bitOf 16 x c) (bitOf 16 y c))
+use Prim.Native.Nat.{ℕ, _+_, _*_, _%_}
+use Rattle.bits.specs.Bits.{bitOf}
+use Rattle.blocks.specs.Block.{bitAt}
+use Rattle.blocks.specs.Moves.{pick}
 
 -- The bit at (i, c) of a block whose rows were turned left by n times their number; and of one whose columns of m were moved up by
 -- n rows, the first coming after the last.
@@ -25,11 +13,3 @@ turnedBit n b i c = bitAt b i ((c + n * i % 16) % 16)
 
 unfoldable pub movedBit : ℕ → ℕ → List ℕ → ℕ → ℕ → ℕ
 movedBit n m b i c = bitAt b (pick (bitOf 16 m c) ((i + n) % 16) i) c
-
--- The block that has at (i, c) the bit of b at (row i c, column i c).
-unfoldable pub moved : (ℕ → ℕ → ℕ) → (ℕ → ℕ → ℕ) → List ℕ → List ℕ
-moved row column b = block (λ i c. bitAt b (row i c) (column i c))
-
--- A block by columns: its row j is column j, bit row 0 first.
-unfoldable pub transposed : List ℕ → List ℕ
-transposed = moved (λ i c. c) (λ i c. i)

@@ -60,7 +60,7 @@ codedIndex-is w k =
     let m : (128 + k) % 16 ≡ k % 16 = omega arith in
     rw (e, m) (omega arith)
 
-coded-back : (w k : ℕ) → w < 32 → k < 128 → (codedIndex w k / 128 ≡ w) × (codedPlace (codedIndex w k) ≡ k)
+pub coded-back : (w k : ℕ) → w < 32 → k < 128 → (codedIndex w k / 128 ≡ w) × (codedPlace (codedIndex w k) ≡ k)
 unfolding codedPlace
 coded-back w k lw lk =
     let e = codedIndex-is w k in

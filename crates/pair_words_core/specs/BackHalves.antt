@@ -123,14 +123,17 @@ exchanged-bit x i l c b e p = p ∙ ap (λ n. x / 2 ^ (7 - n) % 2) e
 pub exchanged-lt : (x n : ℕ) → x / n % 2 < 2
 exchanged-lt x n = mod-lt (x / n) (zero-lt-suc 1)
 
-payload-low : (i : ℕ) → i < 3072 → payloadSource i ≡ i % 512 / 16 * 128 + i / 512 * 16 + i % 16
+pub payload-low : (i : ℕ) → i < 3072 → payloadSource i ≡ i % 512 / 16 * 128 + i / 512 * 16 + i % 16
 unfolding payloadSource
 payload-low i l = simp (lt-ltb i 3072 l)
 
+pub payload-last : (i : ℕ) → 3072 ≤ i → payloadSource i ≡ (i - 3072) / 15 * 128 + 96 + (i - 3072) % 15
+unfolding payloadSource
+payload-last i l = simp (le-ltb i 3072 l)
+
 pub payload-high : (s : List ℕ) (i b : ℕ) → 3072 ≤ i → b ≡ bit s ((i - 3072) / 15 * 128 + 96 + (i - 3072) % 15)
     → b ≡ bit s (payloadSource i)
-unfolding payloadSource
-payload-high s i b l p = let t : ltb i 3072 ≡ false = le-ltb i 3072 l in p ∙ rw t
+payload-high s i b l p = p ∙ ap (bit s) (sym (payload-last i l))
 
 pub payload-copied : (s : List ℕ) (j : ℕ) → length s ≡ 512 → ((i : ℕ) → getD s i 0 < 256) → j < 384
     → getD s (j % 64 / 2 * 16 + j / 64 * 2 + j % 2) 0 ≡ byteOf (λ i. bit s (payloadSource i)) j
@@ -166,39 +169,63 @@ payloadSource-is i = go (ltb i 3072)
 
 -- ---- what is gathered from the words' back halves is their coded pair and their payload
 
-module _ (words : ℕ → Word) (bits : (w k : ℕ) → w < 32 → k < 256 → words w k < 2) (backs : List ℕ) (e : backs ≡ pack 512 (backHalves words)) where
-  back-at : (i w k : ℕ) → w < 32 → k < 128 → i ≡ 128 * w + k → bit backs i ≡ words w (128 + k)
+-- Where b gives the bits of the back halves.
+module _ (words : ℕ → Word) (b : ℕ → ℕ) (e : (m : ℕ) → m < 4096 → b m ≡ backHalves words m) where
+  back-at : (i w k : ℕ) → w < 32 → k < 128 → i ≡ 128 * w + k → b i ≡ words w (128 + k)
   unfolding backHalves
   back-at i w k lw lk p =
       let d : i / 128 ≡ w = omega arith in
       let m : i % 128 ≡ k = omega arith in
-      ap (λ s. bit s i) e ∙ bit-pack 512 (backHalves words) i (omega arith) ∙ rw (d, m) (omega (arith, bits w (128 + k) lw (omega arith)))
+      e i (omega arith) ∙ rw (d, m)
 
-  coded-gathered : codedFrom backs ≡ codedPair words
-  unfolding codedPair codedFrom
+  pub coded-gathered : pack 512 (λ i. b (codedSource i)) ≡ codedPair words
+  unfolding codedPair
   coded-gathered =
-      pack-ext 512 (λ i. bit backs (codedSource i)) (laidOut 128 codedIndex words)
+      pack-ext 512 (λ i. b (codedSource i)) (laidOut 128 codedIndex words)
       (λ i l. back-at (codedSource i) (i / 128) (codedPlace i) (omega arith) (codedPlace-lt i) (codedSource-is i) ∙ sym (coded-laid words i (omega arith)))
 
-  payload-gathered : payloadFrom backs ≡ payloadOf words
-  unfolding payloadOf payloadFrom
+  pub payload-gathered : pack 444 (λ i. b (payloadSource i)) ≡ payloadOf words
+  unfolding payloadOf
   payload-gathered =
-      pack-ext 444 (λ i. bit backs (payloadSource i)) (laidOut 111 ownIndex words)
+      pack-ext 444 (λ i. b (payloadSource i)) (laidOut 111 ownIndex words)
       (λ i l. let o = own-from i (omega arith) in
       back-at (payloadSource i) (ownWord i) (ownPlace i) (o .word) (omega (arith, o .place)) (payloadSource-is i) ∙ sym (payload-laid words i (omega arith)))
 
+-- Words whose values are bits.
+abbrev pub OfBits : (ℕ → Word) → Type 0
+OfBits words = (w k : ℕ) → w < 32 → k < 256 → words w k < 2
+
+pub back-bits : (words : ℕ → Word) → OfBits words → (m : ℕ) → m < 4096 → backHalves words m % 2 ≡ backHalves words m
+unfolding backHalves
+back-bits words bits m l = omega (arith, bits (m / 128) (128 + m % 128) (omega arith) (omega arith))
+
+pub encoded-bits : (n : ℕ) (h : List ℕ) (P : ℕ) (y : List ℕ) → OfBits (encodedWord n h P y)
+encoded-bits n h P y w k lw l = encoded-code n h P y w .bits k l
+
+pub repaired-bits : (n : ℕ) (h : List ℕ) (P : ℕ) (p : List ℕ) → OfBits (repairedWord n h P p)
+repaired-bits n h P p w k lw l = repairedWord-bits n h P p w k
+
+-- In bytes.
+packed-bit : (words : ℕ → Word) → OfBits words → (s : List ℕ) → s ≡ pack 512 (backHalves words) → (m : ℕ) → m < 4096
+    → bit s m ≡ backHalves words m
+packed-bit words bits s e m l = ap (λ t. bit t m) e ∙ bit-pack 512 (backHalves words) m l ∙ back-bits words bits m l
+
 pub encoded-by-words : (n : ℕ) (h : List ℕ) (P : ℕ) (y s q : List ℕ) → s ≡ pack 512 (backHalves (encodedWord n h P y)) → q ≡ codedFrom s
     → q ≡ encoded n h P y
-unfolding encoded
-encoded-by-words n h P y s q e p = p ∙ coded-gathered (encodedWord n h P y) (λ w k lw l. encoded-code n h P y w .bits k l) s e
+unfolding encoded codedFrom
+encoded-by-words n h P y s q e p =
+    p ∙ coded-gathered (encodedWord n h P y) (bit s) (packed-bit (encodedWord n h P y) (encoded-bits n h P y) s e)
 
 module _ (n : ℕ) (h : List ℕ) (P : ℕ) (p s : List ℕ) (e : s ≡ pack 512 (backHalves (repairedWord n h P p))) where
+  repaired-bit : (m : ℕ) → m < 4096 → bit s m ≡ backHalves (repairedWord n h P p) m
+  repaired-bit = packed-bit (repairedWord n h P p) (repaired-bits n h P p) s e
+
   pub payload-by-words : (y : List ℕ) → y ≡ payloadFrom s → y ≡ payloadOut n h P p
-  unfolding payloadOut
-  payload-by-words y g = g ∙ payload-gathered (repairedWord n h P p) (λ w k lw l. repairedWord-bits n h P p w k) s e
+  unfolding payloadOut payloadFrom
+  payload-by-words y g = g ∙ payload-gathered (repairedWord n h P p) (bit s) repaired-bit
 
   pub shifted-is : (q t : List ℕ) → q ≡ codedFrom s → t ≡ shift h q → t ≡ shift h (newestPair n h P p)
-  unfolding newestPair
-  shifted-is q t eq et = et ∙ ap (shift h) (eq ∙ coded-gathered (repairedWord n h P p) (λ w k lw l. repairedWord-bits n h P p w k) s e)
+  unfolding newestPair codedFrom
+  shifted-is q t eq et = et ∙ ap (shift h) (eq ∙ coded-gathered (repairedWord n h P p) (bit s) repaired-bit)
 
 pub ruleset gathered = (encoded-by-words, payload-by-words, shifted-is)

@@ -1,4 +1,8 @@
 pub mod Shifting
 pub mod WordBits
 pub mod BackHalves
+pub mod Halves
+pub mod HalvesLaws
+pub mod NumberBits
+pub mod PayloadParts
 pub mod WordBytes

@@ -16,7 +16,7 @@ ghost use Rattle.pair_words_core.specs.WordBytes.{frontStored, ownBit};
 ghost use Rattle.pair_words_core.specs.BackHalves.{lastHalf};
 
 // Exclusive or of two columns or bit rows.
-fn xor16(a: usize, b: usize) -> usize
+pub fn xor16(a: usize, b: usize) -> usize
     requires { ⌜ (a < 16) × (b < 16) ⌝ }
     ensures { λ r. ⌜ (r ≡ a ⊕ b) × (r < 16) ⌝ }
 {

@@ -5,3 +5,5 @@ pub mod Checking
 pub mod Finding
 pub mod Applying
 pub mod Completing
+pub mod TwoPlaces
+pub mod Telling

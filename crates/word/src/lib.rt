@@ -5,6 +5,7 @@ pub mod completion;
 mod locating;
 pub mod syndrome;
 pub mod tables;
+pub mod telling;
 
 use calls::Answer;
 use calls::Refusal;

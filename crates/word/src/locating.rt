@@ -10,7 +10,7 @@ ghost use Rattle.gf256.specs.Tables.{powers, logs as exponents, cubed};
 ghost use Rattle.word.specs.Finding.{cubeSum, FirstPartners};
 
 // The place that an element of GF(256) stands for.
-fn place_of(x: u8, logs: &[u8; 256]) -> usize
+pub fn place_of(x: u8, logs: &[u8; 256]) -> usize
     requires { ⌜ now logs ≡ exponents ⌝ }
     ensures { λ r. ⌜ (r < 256) × (locator r ≡ x) ⌝ }
 {

@@ -6,3 +6,4 @@
 pub mod cells;
 pub mod frames;
 pub mod interleaver;
+pub mod pairs;

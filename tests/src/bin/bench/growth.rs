@@ -1,11 +1,12 @@
 //! How times grow with the number of super-frames.
 
-use ofec_tests::chain::calls::LIBRARY;
+use ofec_tests::chain::calls::{Receive, LIBRARY};
 use ofec_tests::random::Random;
 use ofec_tests::rows::{self, PAIR_BYTES, PAYLOAD_BYTES};
 
 use crate::files::{program, Files};
-use crate::rows::{encode_all, receive_all, PAIRS};
+use crate::for_speed::pairs;
+use crate::rows::{encode_all, receive_all, Received, PAIRS};
 use crate::table::{medians, milliseconds, ratio};
 
 pub const SUPERFRAMES: [usize; 4] = [1, 2, 4, 8];
@@ -25,14 +26,18 @@ pub fn run(random: &mut Random) {
     row("encode, written apart", |i| {
         encode_all(rows::encode_pair, &payloads[i], &mut coded[i])
     });
-    row("receive clean pairs, library", |i| {
-        let received = receive_all(LIBRARY.receive_pair, &coded[i]);
-        assert!(received.payloads == payloads[i]);
-    });
-    row("receive clean pairs, written apart", |i| {
-        let received = receive_all(rows::receive_pair, &coded[i]);
-        assert!(received.payloads == payloads[i]);
-    });
+    let mut received = SUPERFRAMES.map(|n| Received::of(n * PAIRS));
+    let sides: [(&str, Receive); 3] = [
+        ("library", LIBRARY.receive_pair),
+        ("written apart", rows::receive_pair),
+        ("for speed", pairs::receive_pair),
+    ];
+    for (side, receive) in sides {
+        row(&format!("receive clean pairs, {side}"), |i| {
+            receive_all(receive, &coded[i], &mut received[i]);
+            assert!(received[i].payloads == payloads[i]);
+        });
+    }
     if let Some(linemake) = program("linemake") {
         let files = SUPERFRAMES.map(|n| Files::new(n, random));
         row("linemake", |i| files[i].make_by_program(&linemake));

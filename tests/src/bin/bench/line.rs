@@ -11,58 +11,70 @@ use ofec_tests::profile::{Profile, PROFILES};
 use ofec_tests::random::Random;
 
 use crate::for_speed::interleaver::{by_rows, packed};
-use crate::table::{for_speed, head_for_speed, three};
+use crate::table::{for_speed, head_for_speed, row};
 use crate::{for_speed as fast, same_structure};
 
 pub fn run(random: &mut Random) {
     let pairs = [0; 2].map(|_| random.bytes(PAIRS_BYTES));
-    three(
+    row(
         "interleave a buffer",
         vec![0; BUFFER_BYTES],
-        |bits| done(capi::interleave(&pairs[0], &pairs[1], bits)),
-        |bits| done(interleaver::interleave(&pairs[0], &pairs[1], bits)),
-        |bits| done(same_structure::interleave(&pairs[0], &pairs[1], bits)),
+        [
+            &|bits| done(capi::interleave(&pairs[0], &pairs[1], bits)),
+            &|bits| done(interleaver::interleave(&pairs[0], &pairs[1], bits)),
+            &|bits| done(same_structure::interleave(&pairs[0], &pairs[1], bits)),
+        ],
     );
 
     let bits = random.bytes(BUFFER_BYTES);
-    three(
+    row(
         "take a buffer apart",
         [0; 2].map(|_| vec![0; PAIRS_BYTES]),
-        |[pairs0, pairs1]| done(capi::deinterleave(&bits, pairs0, pairs1)),
-        |[pairs0, pairs1]| done(interleaver::deinterleave(&bits, pairs0, pairs1)),
-        |[pairs0, pairs1]| done(same_structure::deinterleave(&bits, pairs0, pairs1)),
+        [
+            &|[pairs0, pairs1]| done(capi::deinterleave(&bits, pairs0, pairs1)),
+            &|[pairs0, pairs1]| done(interleaver::deinterleave(&bits, pairs0, pairs1)),
+            &|[pairs0, pairs1]| done(same_structure::deinterleave(&bits, pairs0, pairs1)),
+        ],
     );
 
     for profile in PROFILES {
         let stages = Stages::new(profile, random);
-        three(
+        row(
             &stages.name("bits to cells, a buffer"),
             vec![0; profile.cells_bytes()],
-            |cells| done(library::bits_to_cells(profile, &stages.bits, cells)),
-            |cells| done(cells::bits_to_cells(profile, &stages.bits, cells)),
-            |cells| done(same_structure::bits_to_cells(profile, &stages.bits, cells)),
+            [
+                &|cells| done(library::bits_to_cells(profile, &stages.bits, cells)),
+                &|cells| done(cells::bits_to_cells(profile, &stages.bits, cells)),
+                &|cells| done(same_structure::bits_to_cells(profile, &stages.bits, cells)),
+            ],
         );
-        three(
+        row(
             &stages.name("cells to bits, a buffer"),
             vec![0; BUFFER_BYTES],
-            |bits| done(library::cells_to_bits(profile, &stages.cells, bits)),
-            |bits| done(cells::cells_to_bits(profile, &stages.cells, bits)),
-            |bits| done(same_structure::cells_to_bits(profile, &stages.cells, bits)),
+            [
+                &|bits| done(library::cells_to_bits(profile, &stages.cells, bits)),
+                &|bits| done(cells::cells_to_bits(profile, &stages.cells, bits)),
+                &|bits| done(same_structure::cells_to_bits(profile, &stages.cells, bits)),
+            ],
         );
-        three(
+        row(
             &stages.name("frame a super-frame"),
             vec![0; SUBFRAMES as usize * FRAME_BYTES],
-            |frames| stages.frame_all(library::frame, frames),
-            |frames| stages.frame_all(frames::frame, frames),
-            |frames| stages.frame_all(same_structure::frame, frames),
+            [
+                &|frames| stages.frame_all(library::frame, frames),
+                &|frames| stages.frame_all(frames::frame, frames),
+                &|frames| stages.frame_all(same_structure::frame, frames),
+            ],
         );
         let received = stages.received(random);
-        three(
+        row(
             &stages.name("unframe a super-frame"),
             (vec![0; stages.payload.len()], 0),
-            |out| stages.unframe_all(&received, library::unframe, out),
-            |out| stages.unframe_all(&received, frames::unframe, out),
-            |out| stages.unframe_all(&received, same_structure::unframe, out),
+            [
+                &|out| stages.unframe_all(&received, library::unframe, out),
+                &|out| stages.unframe_all(&received, frames::unframe, out),
+                &|out| stages.unframe_all(&received, same_structure::unframe, out),
+            ],
         );
     }
 }

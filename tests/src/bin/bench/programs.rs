@@ -7,7 +7,7 @@ use ofec_tests::line_file::Header;
 use ofec_tests::random::Random;
 
 use crate::files::{program, Files};
-use crate::table::{one, two};
+use crate::table::row;
 
 const SUPERFRAMES: usize = 8;
 /// The most that a line file can have.
@@ -24,12 +24,10 @@ fn linemake(random: &mut Random) {
         return;
     };
     let files = Files::new(SUPERFRAMES, random);
-    two(
-        "linemake, n = 8, files read and written",
-        (),
-        |()| files.make_by_program(&linemake),
-        |()| files.make_apart(),
-    );
+    let by_program = |_: &mut ()| files.make_by_program(&linemake);
+    let apart = |_: &mut ()| files.make_apart();
+    let name = "linemake, n = 8, files read and written";
+    row(name, (), [&by_program, &apart]);
     files.assert_same();
 }
 
@@ -47,11 +45,12 @@ fn linehead(random: &mut Random) {
         "superframes {MOST_SUPERFRAMES} overhead 16 frames 12304 total {}\n",
         header.total
     );
-    one("linehead, n = 64, 22,818,832 bytes", || {
+    let by_program = |_: &mut ()| {
         let output = Command::new(&linehead)
             .stdin(File::open(&path).expect("the line file"))
             .output()
             .expect("linehead runs");
         assert_eq!(output.stdout, expected.as_bytes());
-    });
+    };
+    row("linehead, n = 64, 22,818,832 bytes", (), [&by_program]);
 }

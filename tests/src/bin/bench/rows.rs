@@ -6,8 +6,9 @@ use ofec_tests::random::Random;
 use ofec_tests::rows::{self, MARKS, PAIR_BYTES, PAYLOAD_BYTES};
 use ofec_tests::word::LOST;
 
+use crate::for_speed::pairs;
 use crate::same_structure;
-use crate::table::three;
+use crate::table::row;
 
 /// Pairs of a super-frame of 16-QAM: 21 of each encoder in each of eight buffers.
 pub const PAIRS: usize = 336;
@@ -17,12 +18,14 @@ const ENCODER: u32 = 1;
 /// Gives a line about the damage.
 pub fn run(random: &mut Random) -> String {
     let payloads = random.bytes(PAIRS * PAYLOAD_BYTES);
-    let coded = three(
+    let coded = row(
         "encode 336 pairs",
         vec![0; PAIRS * PAIR_BYTES],
-        |coded| encode_all(LIBRARY.encode_pair, &payloads, coded),
-        |coded| encode_all(rows::encode_pair, &payloads, coded),
-        |coded| encode_all(same_structure::encode_pair, &payloads, coded),
+        [
+            &|coded| encode_all(LIBRARY.encode_pair, &payloads, coded),
+            &|coded| encode_all(rows::encode_pair, &payloads, coded),
+            &|coded| encode_all(same_structure::encode_pair, &payloads, coded),
+        ],
     );
 
     receive("clean", &coded);
@@ -35,12 +38,15 @@ pub fn run(random: &mut Random) -> String {
 
 /// Says how many words were flawed.
 fn receive(damage: &str, coded: &[u8]) -> String {
-    let received = three(
+    let received = row(
         &format!("receive 336 pairs, {damage}"),
-        Received::default(),
-        |received| *received = receive_all(LIBRARY.receive_pair, coded),
-        |received| *received = receive_all(rows::receive_pair, coded),
-        |received| *received = receive_all(same_structure::receive_pair, coded),
+        Received::of(PAIRS),
+        [
+            &|received| receive_all(LIBRARY.receive_pair, coded, received),
+            &|received| receive_all(rows::receive_pair, coded, received),
+            &|received| receive_all(same_structure::receive_pair, coded, received),
+            &|received| receive_all(pairs::receive_pair, coded, received),
+        ],
     );
     let count = |mark| received.marks.iter().filter(|&&m| m == mark).count();
     let (repaired, lost) = (count(1) + count(2), count(LOST as u8));
@@ -71,19 +77,25 @@ pub fn encode_all(encode: Encode, payloads: &[u8], coded: &mut [u8]) {
     assert_eq!(pair as usize, payloads.len() / PAYLOAD_BYTES);
 }
 
-#[derive(Clone, Default, PartialEq)]
+/// What is received of some pairs.
+#[derive(Clone, PartialEq)]
 pub struct Received {
     pub payloads: Vec<u8>,
     pub marks: Vec<u8>,
 }
 
+impl Received {
+    /// Buffers for so many pairs.
+    pub fn of(pairs: usize) -> Self {
+        Received {
+            payloads: vec![0; pairs * PAYLOAD_BYTES],
+            marks: vec![0; pairs * MARKS],
+        }
+    }
+}
+
 /// The pairs of one receiver from fresh.
-pub fn receive_all(receive: Receive, coded: &[u8]) -> Received {
-    let pairs = coded.len() / PAIR_BYTES;
-    let mut received = Received {
-        payloads: vec![0; pairs * PAYLOAD_BYTES],
-        marks: vec![0; pairs * MARKS],
-    };
+pub fn receive_all(receive: Receive, coded: &[u8], received: &mut Received) {
     let mut history = rows::fresh(ENCODER);
     let mut pair = 0;
     let places = received
@@ -93,6 +105,5 @@ pub fn receive_all(receive: Receive, coded: &[u8]) -> Received {
     for (coded, (payload, marks)) in coded.chunks(PAIR_BYTES).zip(places) {
         pair = receive(coded, payload, marks, &mut history, ENCODER, pair).value;
     }
-    assert_eq!(pair as usize, pairs);
-    received
+    assert_eq!(pair as usize, coded.len() / PAIR_BYTES);
 }

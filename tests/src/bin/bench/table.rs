@@ -7,6 +7,9 @@ const ROUNDS: usize = 15;
 /// Of works that take microseconds.
 const SHORT_ROUNDS: usize = 1001;
 
+/// The most sides that a table has.
+const SIDES: usize = 4;
+
 /// Medians of so many runs of each of N works, which take turns; `run` is told which.
 pub fn medians<const N: usize>(rounds: usize, mut run: impl FnMut(usize)) -> [Duration; N] {
     let mut times = [const { Vec::new() }; N];
@@ -25,59 +28,20 @@ pub fn medians<const N: usize>(rounds: usize, mut run: impl FnMut(usize)) -> [Du
 
 pub fn head() {
     println!("Medians of {ROUNDS} runs, which take turns; a ratio is the library's time to that of the column before.\n");
-    println!("| work | library | written apart | ratio | same structure | ratio |");
-    println!("|---|---:|---:|---:|---:|---:|");
-}
-
-/// The row of a work that the library alone does.
-pub fn one(name: &str, work: impl Fn()) {
-    let [time] = medians(ROUNDS, |_| work());
-    println!("| {name} | {} | | | | |", milliseconds(time));
-}
-
-/// The row of a work that the library and the code written apart do, each in a copy of `out`.
-pub fn two<T: Clone + PartialEq>(
-    name: &str,
-    out: T,
-    library: impl Fn(&mut T),
-    apart: impl Fn(&mut T),
-) {
-    let ([library, apart], _) = agreed(name, ROUNDS, out, [&library, &apart]);
-    println!("| {name} | {} | | |", compared(library, apart));
-}
-
-/// The same, with Rust code of the library's structure; gives what they all wrote.
-pub fn three<T: Clone + PartialEq>(
-    name: &str,
-    out: T,
-    library: impl Fn(&mut T),
-    apart: impl Fn(&mut T),
-    same_structure: impl Fn(&mut T),
-) -> T {
-    let ([library, apart, same], [out, ..]) =
-        agreed(name, ROUNDS, out, [&library, &apart, &same_structure]);
     println!(
-        "| {name} | {} | {} | {:.2} |",
-        compared(library, apart),
-        milliseconds(same),
-        ratio(library, same)
+        "| work | library | written apart | ratio | same structure | ratio | for speed | ratio |"
     );
-    out
+    println!("|---|---:|---:|---:|---:|---:|---:|---:|");
 }
 
-/// Times of works that are found to write the same before they are timed, and what they write.
-fn agreed<T: Clone + PartialEq, const N: usize>(
+/// The row of a work, by the library and then by those other sides that do it, in the order of the columns: each in a copy of `out`.
+/// Gives what they all wrote.
+pub fn row<T: Clone + PartialEq, const N: usize>(
     name: &str,
-    rounds: usize,
     out: T,
     works: [&dyn Fn(&mut T); N],
-) -> ([Duration; N], [T; N]) {
-    let mut outs = [(); N].map(|()| out.clone());
-    for (work, out) in works.iter().zip(&mut outs) {
-        work(out);
-    }
-    assert!(outs.iter().all(|out| *out == outs[0]), "{name}");
-    (medians(rounds, |side| works[side](&mut outs[side])), outs)
+) -> T {
+    timed_row(name, ROUNDS, milliseconds, out, works)
 }
 
 /// The head of the table of short works beside Rust code of the library's structure and Rust code written for speed.
@@ -87,31 +51,46 @@ pub fn head_for_speed() {
     println!("|---|---:|---:|---:|---:|---:|---:|---:|");
 }
 
-/// The row of a work, by the library, by the same structure and then by the one or two forms written for speed.
+/// The same as `row` for the table of short works.
 pub fn for_speed<T: Clone + PartialEq, const N: usize>(
     name: &str,
     out: T,
     works: [&dyn Fn(&mut T); N],
-) {
-    let (times, _) = agreed(name, SHORT_ROUNDS, out, works);
-    print!("| {name} | {} ", microseconds(times[0]));
-    for other in &times[1..] {
-        print!(
-            "| {} | {:.2} ",
-            microseconds(*other),
-            ratio(times[0], *other)
-        );
-    }
-    println!("|{}", " | |".repeat(4 - N));
+) -> T {
+    timed_row(name, SHORT_ROUNDS, microseconds, out, works)
 }
 
-fn compared(library: Duration, apart: Duration) -> String {
-    format!(
-        "{} | {} | {:.2}",
-        milliseconds(library),
-        milliseconds(apart),
-        ratio(library, apart)
-    )
+fn timed_row<T: Clone + PartialEq, const N: usize>(
+    name: &str,
+    rounds: usize,
+    written: fn(Duration) -> String,
+    out: T,
+    works: [&dyn Fn(&mut T); N],
+) -> T {
+    let (times, out) = agreed(name, rounds, out, works);
+    print!("| {name} | {} ", written(times[0]));
+    for other in &times[1..] {
+        print!("| {} | {:.2} ", written(*other), ratio(times[0], *other));
+    }
+    println!("|{}", " | |".repeat(SIDES - N));
+    out
+}
+
+/// Times of works that are found to write the same before they are timed, and what they write.
+fn agreed<T: Clone + PartialEq, const N: usize>(
+    name: &str,
+    rounds: usize,
+    out: T,
+    works: [&dyn Fn(&mut T); N],
+) -> ([Duration; N], T) {
+    let mut outs = [(); N].map(|()| out.clone());
+    for (work, out) in works.iter().zip(&mut outs) {
+        work(out);
+    }
+    assert!(outs.iter().all(|out| *out == outs[0]), "{name}");
+    let times = medians(rounds, |side| works[side](&mut outs[side]));
+    let out = outs.into_iter().next().expect("a side");
+    (times, out)
 }
 
 pub fn ratio(one: Duration, other: Duration) -> f64 {

@@ -3,7 +3,7 @@
 use Prim.Native.Nat.{_-_}
 use Rattle.interleaver_spec.specs.BlockBuffer.{reorderedIn}
 use Rattle.interleaver_spec.specs.BlockBufferLaws.{reordered-in}
-use Rattle.interleaver_spec.specs.Laying.{Laid, laying}
+use Rattle.blocks.specs.Laying.{Laid, laying}
 use borrow.Author.Needs.{needs}
 use Rattle.interleaver_core.proofs.joining.reordered_row.Statement.{statement}
 use Rattle.interleaver_core.proofs.joining.reordered_row.Tie as tie

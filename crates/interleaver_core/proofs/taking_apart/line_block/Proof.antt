@@ -2,7 +2,7 @@
 -- Assumes nothing.
 use Prim.Native.Nat.{_-_}
 use Rattle.bits.specs.Filling.{Filling, fill}
-use Rattle.interleaver_spec.specs.Block.{rowWord, block}
+use Rattle.blocks.specs.Block.{rowWord, block}
 use Rattle.interleaver_spec.specs.BlockBuffer.{lineColumn}
 use Rattle.interleaver_spec.specs.BlockBufferLaws.{line-word}
 use borrow.Author.Needs.{needs}

@@ -3,7 +3,7 @@
 use Prim.Native.Nat.{_-_}
 use Rattle.interleaver_spec.specs.BlockBuffer.{restoredBlock, restoredRow}
 use Rattle.interleaver_spec.specs.BlockBufferLaws.{restored-block}
-use Rattle.interleaver_spec.specs.Laying.{Laid, laying}
+use Rattle.blocks.specs.Laying.{Laid, laying}
 use borrow.Author.Needs.{needs}
 use Rattle.interleaver_core.proofs.taking_apart.restored_row.Statement.{statement}
 use Rattle.interleaver_core.proofs.taking_apart.restored_row.Tie as tie

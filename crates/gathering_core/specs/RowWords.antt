@@ -1,0 +1,58 @@
+-- Rows of coded bytes as words of sixteen bits, eight blocks side by side: as they are read, and with the words of a pair put in order.
+-- Assumes nothing.
+use mathlib.Core.List.{List}
+use Prim.Native.Nat.{ℕ, _+_, _*_, _/_, _%_}
+use lib.ListN.{getD}
+use Rattle.bits.specs.Bits.{bit, fromBits}
+use Rattle.bits.specs.Lists.{tabulate}
+use Rattle.bits.specs.Xor.{_⊕_}
+use Rattle.blocks.specs.Exchanges.{rowsExchanged, columnsExchanged}
+use Rattle.blocks.specs.Moves.{transposed}
+use Rattle.blocks.specs.SideBySide.{laid, wordsBlock}
+
+-- Bytes j and j+1 as they are read, the second the upper: its columns are turned by 8.
+unfoldable pub readWord : List ℕ → ℕ → ℕ
+readWord s j = fromBits 16 (λ c. bit s (8 * j + (c + 8) % 16))
+
+-- The 128 words of the row of 256 bytes that starts at a byte.
+unfoldable pub rowWords : List ℕ → ℕ → List ℕ
+rowWords s from = tabulate 128 (λ x. readWord s (from + 2 * x))
+
+-- Those of the front halves: block C from pair C of a history, from the row that starts at a byte of its pair. With each C that is a pair
+-- of 512 bytes and a block of two further on.
+unfoldable pub frontWord : List ℕ → ℕ → ℕ → ℕ
+frontWord h from x = readWord h (514 * (x % 8) + 16 * (x / 8) + from)
+
+unfoldable pub frontWords : List ℕ → ℕ → List ℕ
+frontWords h from = tabulate 128 (frontWord h from)
+
+-- Words read whose bit rows, or whose columns, were exchanged block by block: bit r of number 8j+C is bit 16C+j of the front half of
+-- word r; number 8r+C holds bits 16C to 16C+15 of the back half of word r.
+unfoldable pub frontsBlock : List ℕ → ℕ → List ℕ
+frontsBlock words C = rowsExchanged (wordsBlock words C)
+
+unfoldable pub frontsIn : List ℕ → List ℕ
+frontsIn words = laid (frontsBlock words)
+
+unfoldable pub backsBlock : List ℕ → ℕ → List ℕ
+backsBlock words C = columnsExchanged (wordsBlock words C)
+
+unfoldable pub backsIn : List ℕ → List ℕ
+backsIn words = laid (backsBlock words)
+
+-- The back halves of the 32 words of a coded pair in numbers of sixteen bits: "V(R, (k−128) div 16, r, (k mod 16)^r)".
+unfoldable pub codedHalf : List ℕ → ℕ → ℕ
+codedHalf p n = fromBits 16 (λ c. bit p (16 * n + (c ⊕ (n / 8 % 16))))
+
+unfoldable pub codedHalves : List ℕ → List ℕ
+codedHalves p = tabulate 256 (codedHalf p)
+
+-- Block C of row s of such halves, and its columns side by side: bit r of number 8j+C is bit 16C+j of the back half of word 16s+r.
+unfoldable pub halfBlock : List ℕ → ℕ → ℕ → List ℕ
+halfBlock halves s C = tabulate 16 (λ r. getD halves (128 * s + 8 * r + C) 0)
+
+unfoldable pub columnsBlock : List ℕ → ℕ → ℕ → List ℕ
+columnsBlock halves s C = transposed (halfBlock halves s C)
+
+unfoldable pub columnsOf : List ℕ → ℕ → List ℕ
+columnsOf halves s = laid (columnsBlock halves s)

@@ -1,0 +1,12 @@
+-- Definitions first; the laws about each stand in the file below it.
+pub mod Networks
+pub mod NetworkLaws
+pub mod Circuits
+pub mod CircuitLaws
+pub mod Sums
+pub mod SumLaws
+pub mod ParityLaws
+pub mod Dirty
+pub mod Collecting
+pub mod Gathering
+pub mod GatheringLaws

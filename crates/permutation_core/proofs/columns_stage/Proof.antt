@@ -1,0 +1,46 @@
+-- `permutation_core::columns_stage` meets its contract: two bit rows a turn.
+-- Assumes nothing.
+use Prim.Native.Nat.{_-_}
+use Rattle.blocks.specs.Block.{rowWord, block}
+use Rattle.blocks.specs.Twos.{Twos, twos}
+use Rattle.permutation_core.specs.Stages.{columnsStage}
+use Rattle.permutation_core.specs.StageLaws.{stage-rows}
+use borrow.Author.Needs.{needs}
+use Rattle.permutation_core.proofs.columns_stage.Statement.{statement}
+use Rattle.permutation_core.proofs.columns_stage.Tie as tie
+
+ruleset kit = (needs, twos, stage-rows)
+
+abbrev Inv-loop : tie.InvT-loop
+Inv-loop m n b out₀ k₀ out k = Twos (rowWord (columnsStage m n b)) 8 k out
+
+abbrev μ-loop : tie.MeasureT-loop
+μ-loop m n b out₀ k₀ out k = 8 - k
+
+pub columns-stage-spec : {M : Type 1} → statement M
+unfolding block
+columns-stage-spec =
+    tie.close
+    (tie.spec
+    Inv-loop
+    μ-loop
+    (λ c. search kit)  -- loop-holds
+    (λ c. search kit)  -- mul-i
+    (λ c. search kit)  -- add-j
+    (λ c. search kit)  -- add-y
+    (λ c. search kit)  -- mul-y
+    (λ c. search kit)  -- array-read-y
+    (λ c κs. search kit)  -- bit-row-requires
+    (λ c. search kit)  -- mul-out
+    (λ c. search kit)  -- array-write-out
+    (λ c. search kit)  -- cast-choose
+    (λ c. search kit)  -- shr-choose
+    (λ c. search kit)  -- cast-choose-2
+    (λ c. search kit)  -- shl-choose
+    (λ c κs. search kit)  -- choose-requires
+    (λ c. search kit)  -- mul-out-2
+    (λ c. search kit)  -- array-write-out-2
+    (λ c. search kit)  -- add-k
+    (λ c. search kit)  -- loop-less
+    (λ c. search kit)  -- loop-again
+    (λ c. search kit))  -- returns

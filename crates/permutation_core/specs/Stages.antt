@@ -1,0 +1,36 @@
+-- The permutations of a block go in four stages of one shape: bit rows k and k+8 give bit rows 2k and 2k+1, which after four stages
+-- brings each bit row home. What a stage does with the columns depends on a mask of columns.
+-- Assumes nothing.
+use mathlib.Core.List.{List}
+use Prim.Native.Nat.{ℕ, _+_, _-_, _/_, _%_}
+use Rattle.bits.specs.Bits.{bitOf}
+use Rattle.blocks.specs.Block.{bitAt}
+use Rattle.blocks.specs.Moves.{pick}
+
+-- The bit row that gives bit row i, and the one beside it in its stage.
+unfoldable pub own : ℕ → ℕ
+own i = pick (i % 2) (8 + i / 2) (i / 2)
+
+unfoldable pub other : ℕ → ℕ
+other i = pick (i % 2) (i / 2) (8 + i / 2)
+
+-- Two bit rows exchange the columns of m.
+unfoldable pub rowsStage : ℕ → List ℕ → ℕ → ℕ → ℕ
+rowsStage m b i c = bitAt b (pick (bitOf 16 m c) (other i) (own i)) c
+
+-- Of two bit rows the second exchanges the columns of m with those n before them.
+unfoldable pub columnsColumn : ℕ → ℕ → ℕ → ℕ → ℕ
+columnsColumn m n i c = pick (i % 2) (pick (bitOf 16 m c) (c - n) (c + n)) c
+
+unfoldable pub columnsStage : ℕ → ℕ → List ℕ → ℕ → ℕ → ℕ
+columnsStage m n b i c = bitAt b (own i) (columnsColumn m n i c)
+
+-- The columns of m of the first of two bit rows change places with those n before them of the second.
+unfoldable pub crossRow : ℕ → ℕ → ℕ → ℕ
+crossRow m i c = pick (bitOf 16 m c) (8 + i / 2) (i / 2)
+
+unfoldable pub crossColumn : ℕ → ℕ → ℕ → ℕ → ℕ
+crossColumn m n i c = pick (i % 2) (pick (bitOf 16 m c) c (c + n)) (pick (bitOf 16 m c) (c - n) c)
+
+unfoldable pub crossStage : ℕ → ℕ → List ℕ → ℕ → ℕ → ℕ
+crossStage m n b i c = bitAt b (crossRow m i c) (crossColumn m n i c)

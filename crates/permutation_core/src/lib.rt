@@ -1,0 +1,98 @@
+// The permutations of a block, each in four stages of one shape: bit rows k and k+8 give bit rows 2k and 2k+1. Over `blocks`; the words
+// of a row are put in order with them.
+use blocks::choose;
+ghost use mathlib.Core.Path.{_≡_};
+ghost use Prim.Native.Nat.{_<_};
+ghost use lib.ListN.{getD};
+ghost use Rattle.blocks.specs.Block.{block};
+ghost use Rattle.blocks.specs.Moves.{transposed};
+ghost use Rattle.blocks.specs.Exchanges.{rowsExchanged, columnsExchanged};
+ghost use Rattle.permutation_core.specs.Stages.{rowsStage, columnsStage, crossStage};
+ghost use Rattle.permutation_core.specs.StageLaws.{Mask};
+
+// Two bit rows exchange the columns of m.
+fn rows_stage(b: [u16; 16], m: u16) -> [u16; 16]
+    ensures { λ r. ⌜ r ≡ block (rowsStage m b) ⌝ }
+{
+    let mut out = [0u16; 16];
+    for k in 0..8 {
+        let i = 2 * k;
+        let j = i + 1;
+        let x = b[k];
+        let y = b[8 + k];
+        out[i] = choose(m, y, x);
+        out[j] = choose(m, x, y);
+    }
+    out
+}
+
+// A bit row of a block.
+fn bit_row(b: &[u16; 16], i: usize) -> u16
+    requires { ⌜ i < 16 ⌝ }
+    ensures { λ x. ⌜ x ≡ getD (now (b .entry)) i 0 ⌝ }
+{
+    b[i]
+}
+
+// Of two bit rows the second exchanges the columns of m with those n before them.
+fn columns_stage(b: [u16; 16], m: u16, n: usize) -> [u16; 16]
+    requires { ⌜ Mask m n × (n < 16) ⌝ }
+    ensures { λ r. ⌜ r ≡ block (columnsStage m n b) ⌝ }
+{
+    let mut out = [0u16; 16];
+    for k in 0..8 {
+        let i = 2 * k;
+        let j = i + 1;
+        let y = b[8 + k];
+        out[i] = bit_row(&b, k);
+        out[j] = choose(m, y >> n, y << n);
+    }
+    out
+}
+
+// The columns of m of the first of two bit rows change places with those n before them of the second.
+fn cross_stage(b: [u16; 16], m: u16, n: usize) -> [u16; 16]
+    requires { ⌜ Mask m n × (n < 16) ⌝ }
+    ensures { λ r. ⌜ r ≡ block (crossStage m n b) ⌝ }
+{
+    let mut out = [0u16; 16];
+    for k in 0..8 {
+        let i = 2 * k;
+        let j = i + 1;
+        let x = b[k];
+        let y = b[8 + k];
+        out[i] = choose(m, y >> n, x);
+        out[j] = choose(m, y, x << n);
+    }
+    out
+}
+
+// In column c, bit row i changes places with bit row i^c.
+pub fn exchange_rows(b: [u16; 16]) -> [u16; 16]
+    ensures { λ r. ⌜ r ≡ rowsExchanged b ⌝ }
+{
+    let t = rows_stage(b, 0x00FF);
+    let u = rows_stage(t, 0x0F0F);
+    let v = rows_stage(u, 0x3333);
+    rows_stage(v, 0x5555)
+}
+
+// In bit row i, column c changes places with column c^i.
+pub fn exchange_columns(b: [u16; 16]) -> [u16; 16]
+    ensures { λ r. ⌜ r ≡ columnsExchanged b ⌝ }
+{
+    let t = columns_stage(b, 0x00FF, 8);
+    let u = columns_stage(t, 0x0F0F, 4);
+    let v = columns_stage(u, 0x3333, 2);
+    columns_stage(v, 0x5555, 1)
+}
+
+// Bit row i, column c changes places with bit row c, column i.
+pub fn transpose(b: [u16; 16]) -> [u16; 16]
+    ensures { λ r. ⌜ r ≡ transposed b ⌝ }
+{
+    let t = cross_stage(b, 0x00FF, 8);
+    let u = cross_stage(t, 0x0F0F, 4);
+    let v = cross_stage(u, 0x3333, 2);
+    cross_stage(v, 0x5555, 1)
+}

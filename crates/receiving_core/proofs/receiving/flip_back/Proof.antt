@@ -1,0 +1,22 @@
+-- `receiving_core::receiving::flip_back` meets its contract.
+-- Assumes nothing.
+use Rattle.receiving_core.specs.MendingLaws.{flipping}
+use borrow.Author.Needs.{needs}
+use Rattle.receiving_core.proofs.receiving.flip_back.Statement.{statement}
+use Rattle.receiving_core.proofs.receiving.flip_back.Tie as tie
+
+ruleset kit = (needs, flipping)
+
+pub flip-back-spec : {M : Type 1} → statement M
+flip-back-spec =
+    tie.close
+    (tie.spec
+    (λ c. search kit)  -- returns
+    (λ c. search kit)  -- mul-n
+    (λ c. search kit)  -- add-n
+    (λ c. search kit)  -- mul-v
+    (λ c. search kit)  -- element-copy-out-v
+    (λ c κs. search kit)  -- flipped-number-requires
+    (λ c. search kit)  -- mul-halves
+    (λ c. search kit)  -- element-write-halves
+    (λ c. search kit))  -- returns-2

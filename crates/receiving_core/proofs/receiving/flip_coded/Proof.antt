@@ -1,0 +1,22 @@
+-- `receiving_core::receiving::flip_coded` meets its contract.
+-- Assumes nothing.
+use Rattle.receiving_core.specs.MendingLaws.{flipping}
+use borrow.Author.Needs.{needs}
+use Rattle.receiving_core.proofs.receiving.flip_coded.Statement.{statement}
+use Rattle.receiving_core.proofs.receiving.flip_coded.Tie as tie
+
+ruleset kit = (needs, flipping)
+
+pub flip-coded-spec : {M : Type 1} → statement M
+flip-coded-spec =
+    tie.close
+    (tie.spec
+    (λ c. search kit)  -- returns
+    (λ c κs. search kit)  -- xor16-requires
+    (λ c. search kit)  -- mul-flip
+    (λ c. search kit)  -- mul-flip-2
+    (λ c. search kit)  -- add-flip
+    (λ c. search kit)  -- add-flip-2
+    (λ c κs. search kit)  -- flip-requires
+    (λ c. search kit)  -- same-length
+    (λ c. search kit))  -- returns-2

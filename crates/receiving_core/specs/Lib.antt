@@ -1,0 +1,3 @@
+pub mod Tables
+pub mod Mending
+pub mod MendingLaws

@@ -1,0 +1,83 @@
+-- Repairs put into the back halves of a pair's words, where these stand in numbers of sixteen bits. "Repaired back halves enter payload
+-- out (444 bytes) and history; front flips are counted but not stored."
+-- Assumes nothing.
+use mathlib.Core.Path.{_≡_}
+use mathlib.Core.Bool.{Bool, cond}
+use mathlib.Core.List.{List}
+use Prim.Native.Nat.{ℕ, _+_, _-_, _*_, _/_, _%_, _≤_}
+use lib.Dec.{ltb, leb, eqb}
+use lib.ListN.{length, getD, set}
+use Rattle.bits.specs.Bits.{bit, bitOf, fromBits, pack, flipped}
+use Rattle.bits.specs.Filling.{Filling}
+use Rattle.bits.specs.Xor.{_⊕_}
+use Rattle.word_spec.specs.CodeWord.{Word}
+use Rattle.word_spec.specs.Repair.{repair, repaired, mark}
+use Rattle.word_spec.specs.RepairLaws.{Bits}
+use Rattle.word_spec.specs.declared.Repair.{Repair}
+use Rattle.word_spec.specs.declared.Repair.the-variants.{Sound, One, Two, Lost}
+use Rattle.pair_spec.specs.History.{shift}
+use Rattle.pair_spec.specs.Pairs.{codedPair}
+use Rattle.pair_words_core.specs.Halves.{wordHalves, payloadIn}
+use Rattle.gathering_spec.specs.Sums.{Gathered, Parities}
+use Rattle.gathering_spec.specs.Dirty.{Dirty}
+
+-- A number of sixteen bits with bit j flipped.
+unfoldable pub flippedNumber : ℕ → ℕ → ℕ
+flippedNumber v j = fromBits 16 (flipped j (bitOf 16 v))
+
+-- The halves with bit k of word w flipped, if it is one of the back half.
+unfoldable pub flippedBack : ℕ → ℕ → List ℕ → List ℕ
+flippedBack w k s = cond (ltb k 128) s (set s (8 * w + (k - 128) / 16) (flippedNumber (getD s (8 * w + (k - 128) / 16) 0) (k % 16)))
+
+-- Where that bit stands in a coded pair, "V(R, (k−128) div 16, r, (k mod 16)^r)", and the coded pair with it flipped.
+unfoldable pub codedBit : ℕ → ℕ → ℕ
+codedBit w k = 128 * w + (k - 128) / 16 * 16 + ((k % 16) ⊕ (w % 16))
+
+unfoldable pub flippedCoded : ℕ → ℕ → List ℕ → List ℕ
+flippedCoded w k c = cond (ltb k 128) c (pack (length c) (flipped (codedBit w k) (bit c)))
+
+-- With the places of a repair flipped, by what flips one.
+unfoldable pub mendedBy : (ℕ → List ℕ → List ℕ) → Repair → List ℕ → List ℕ
+mendedBy flip Sound s = s
+mendedBy flip (One i) s = flip i s
+mendedBy flip (Two i j) s = flip i (flip j s)
+mendedBy flip Lost s = s
+
+-- Words of which word w is v.
+unfoldable pub updated : ℕ → Word → (ℕ → Word) → ℕ → Word
+updated w v f u = cond (eqb u w) v (f u)
+
+-- Halves and coded pair of the same words.
+pub record Holding (f : ℕ → Word) (halves coded : List ℕ) : Type 0 where
+  pub halves-are : halves ≡ wordHalves f
+  pub coded-is : coded ≡ codedPair f
+
+-- Word w was handled by what was gathered, t, q and d: whatever words those are of, and whatever words halves and coded pair are of if word
+-- w is the same, m is the mark of its repair, and halves and coded pair have it repaired.
+pub record Handled (t : List ℕ) (q d : ℕ) (front : Bool) (w : ℕ) (s c : List ℕ) (m : ℕ) (s′ c′ : List ℕ) : Type 0 where
+  pub done : (words : ℕ → Word) → ((u : ℕ) → Bits (words u)) → Gathered words t → Parities words q → Dirty words d
+      → (f : ℕ → Word) → ((u : ℕ) → Bits (f u)) → f w ≡ words w → Holding f s c
+      → (m ≡ mark (repair front (words w))) × Holding (updated w (repaired (repair front (words w)) (words w)) f) s′ c′
+
+-- Each word repaired.
+unfoldable pub repairedBy : Bool → (ℕ → Word) → ℕ → Word
+repairedBy front words u = repaired (repair front (words u)) (words u)
+
+-- The first w of them are f's, the others g's.
+unfoldable pub upTo : ℕ → (ℕ → Word) → (ℕ → Word) → ℕ → Word
+upTo w f g u = cond (ltb u w) (f u) (g u)
+
+-- The first w words were handled so: their marks are put, and halves and coded pair have them repaired.
+pub record HandledTo (t : List ℕ) (q d : ℕ) (front : Bool) (w : ℕ) (s c marks s′ c′ : List ℕ) : Type 0 where
+  pub upto : w ≤ 32
+  pub long : length marks ≡ 32
+  pub done : (words : ℕ → Word) → ((u : ℕ) → Bits (words u)) → Gathered words t → Parities words q → Dirty words d → Holding words s c
+      → Filling (λ i. mark (repair front (words i))) 32 w marks × Holding (upTo w (repairedBy front words) words) s′ c′
+
+-- What a pair with repairs leaves: marks, and payload and history from the words repaired.
+pub record Repaired (t : List ℕ) (q d P : ℕ) (p s h y ms g : List ℕ) : Type 0 where
+  pub halves : List ℕ
+  pub coded : List ℕ
+  pub handled : HandledTo t q d (leb 10 P) 32 s p ms halves coded
+  pub payload : y ≡ payloadIn halves
+  pub history : g ≡ shift h coded

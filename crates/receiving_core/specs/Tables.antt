@@ -1,0 +1,13 @@
+-- The tables that are lent to the functions on words.
+-- Assumes nothing.
+use mathlib.Core.Path.{_≡_}
+use mathlib.Core.List.{List}
+use Prim.Native.Nat.{ℕ}
+use Rattle.gf256.specs.Tables.{powers, logs, cubed, rooted}
+
+-- The four that a repair reads: powers of a, their exponents, cubes, roots.
+pub record Tables (p l q r : List ℕ) : Type 0 where
+  pub powers-are : p ≡ powers
+  pub logs-are : l ≡ logs
+  pub cubes-are : q ≡ cubed
+  pub roots-are : r ≡ rooted

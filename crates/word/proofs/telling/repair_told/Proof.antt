@@ -1,0 +1,17 @@
+-- `word::telling::repair_told` meets its contract: what is located and confined.
+-- Assumes nothing.
+use Rattle.word.specs.Applying.{confined-inside}
+use Rattle.word.specs.Telling.{located-told}
+use borrow.Author.Needs.{needs}
+use Rattle.word.proofs.telling.repair_told.Statement.{statement}
+use Rattle.word.proofs.telling.repair_told.Tie as tie
+
+ruleset kit = (needs, confined-inside, located-told)
+
+pub repair-told-spec : {M : Type 1} → statement M
+repair-told-spec =
+    tie.close
+    (tie.spec
+    (λ c κs. search kit)  -- locate-requires
+    (λ c κs. search kit)  -- confine-requires
+    (λ c. search kit))  -- returns

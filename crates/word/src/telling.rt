@@ -1,0 +1,83 @@
+// The repair that syndromes tell, two places by a table of roots. Prepared for the receiver that gathers by rows (02, E3); no call uses it
+// yet.
+use crate::confine;
+use crate::locating::place_of;
+use word_spec::Repair;
+use word_spec::Syndromes;
+ghost use mathlib.Core.Path.{_≡_};
+ghost use Prim.Native.Nat.{_<_};
+ghost use Rattle.word_spec.specs.Locating.{Located};
+ghost use Rattle.gf256.specs.Tables.{powers, logs as exponents, cubed, rooted};
+ghost use Rattle.word.specs.Applying.{Inside};
+ghost use Rattle.word.specs.Telling.{Told};
+
+// The two places of an even word whose S1 is not 0: their locators add up to S1 and the cubes of these to S3. With the locators x and
+// x + S1, where x = S1 y, the cubes add up to S1^3 (y y + y) + S1^3.
+fn locate_two(
+    s: Syndromes,
+    table: &[u8; 255],
+    logs: &[u8; 256],
+    cubes: &[u8; 256],
+    roots: &[u8; 256],
+) -> Repair
+    requires { ⌜ (s .parity ≡ 0) × (0 < s .s1) × (now table ≡ powers) × (now logs ≡ exponents) × (now cubes ≡ cubed) × (now roots ≡ rooted) ⌝ }
+    ensures { λ r. ⌜ Located s r ⌝ }
+{
+    let q = gf256::cube_in(cubes, s.s1);
+    let c = gf256::over(s.s3 ^ q, q, table, logs);
+    let y = gf256::root_in(roots, c);
+    if y == 0 {
+        return Repair::Lost;
+    }
+    let x = gf256::times(s.s1, y, table, logs);
+    let i = place_of(x, logs);
+    let j = place_of(x ^ s.s1, logs);
+    if i < j {
+        return Repair::Two(i, j);
+    }
+    Repair::Two(j, i)
+}
+
+// The places that the syndromes tell: one of an odd word, none or two of an even one.
+fn locate(
+    s: Syndromes,
+    table: &[u8; 255],
+    logs: &[u8; 256],
+    cubes: &[u8; 256],
+    roots: &[u8; 256],
+) -> Repair
+    requires { ⌜ (s .parity < 2) × (now table ≡ powers) × (now logs ≡ exponents) × (now cubes ≡ cubed) × (now roots ≡ rooted) ⌝ }
+    ensures { λ r. ⌜ Located s r ⌝ }
+{
+    let s1 = s.s1;
+    let s3 = s.s3;
+    if s.parity == 1 {
+        if gf256::cube_in(cubes, s1) == s3 {
+            return Repair::One(place_of(s1, logs));
+        }
+        return Repair::Lost;
+    }
+    if s1 == 0 {
+        if s3 == 0 {
+            return Repair::Sound;
+        }
+        return Repair::Lost;
+    }
+    locate_two(s, table, logs, cubes, roots)
+}
+
+// The repair of a word that has these syndromes; `front` says whether flips may fall in the front half. The tables are those of powers,
+// exponents, cubes and roots.
+pub fn repair_told(
+    s: Syndromes,
+    front: bool,
+    table: &[u8; 255],
+    logs: &[u8; 256],
+    cubes: &[u8; 256],
+    roots: &[u8; 256],
+) -> Repair
+    requires { ⌜ (s .parity < 2) × (now table ≡ powers) × (now logs ≡ exponents) × (now cubes ≡ cubed) × (now roots ≡ rooted) ⌝ }
+    ensures { λ r. ⌜ Told front s r × Inside r ⌝ }
+{
+    confine(locate(s, table, logs, cubes, roots), front)
+}
