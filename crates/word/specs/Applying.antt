@@ -9,18 +9,23 @@ use lib.Dec.{ltb}
 use lib.ListN.{length, getD}
 use Rattle.bits.specs.Bits.{bit, pack, flipped}
 use Rattle.bits.specs.BitLaws.{bit-lt, bit-pack-of, flipped-lt, length-pack, pack-bit, pack-ext}
+use Rattle.bits.specs.Xor.{_⊕_}
+use Rattle.bits.specs.XorLaws.{⊕-zero}
 use Rattle.word_spec.specs.CodeWord.{Word}
 use Rattle.word_spec.specs.Repair.{places, flipAll, repaired, repair}
-use Rattle.word_spec.specs.RepairLaws.{flipped-ext}
-use Rattle.word_spec.specs.Locating.{Located, confined, located-repair, one-lost, two-lost}
+use Rattle.word_spec.specs.RepairLaws.{Bits, code-ext, flipped-ext}
+use Rattle.word_spec.specs.RepairTheorems.{repair-is}
+use Rattle.word_spec.specs.Locating.{Located, confined, one-lost, two-lost}
 use Rattle.word_spec.specs.Syndromes.{syndromesOf}
-use Rattle.word_spec.specs.Checks.{check}
+use Rattle.word_spec.specs.RemainderLaws.{added}
+use Rattle.word_spec.specs.Checks.{check, tail}
+use Rattle.word_spec.specs.CheckLaws.{checked-code}
+use Rattle.word_spec.specs.CompletionLaws.{tail-zero}
 use Rattle.word_spec.specs.declared.Repair.{Repair}
 use Rattle.word_spec.specs.declared.Repair.the-variants.{Sound, One, Two, Lost}
 use Rattle.word_spec.specs.declared.Syndromes.{Syndromes}
-use Rattle.word.specs.Partial.{syndromes}
-use Rattle.word.specs.Checking.{syndromes-none}
-use Rattle.word.specs.Finding.{even-sound}
+use Rattle.word.specs.Checking.{syndromes-are}
+use Rattle.word.specs.Telling.{Told}
 
 -- The places of a repair lie in the word.
 abbrev pub Inside : Repair → Type 0
@@ -90,23 +95,26 @@ pub confined-inside : (s : Syndromes) (front : Bool) (q r : Repair) → Located 
 confined-inside s front q r L e = rw e (within front q (located-inside s q L))
 
 -- The whole of a repair in place.
-pub repaired-in-place : (s d : List ℕ) (front : Bool) (y : Syndromes) (q r : Repair) → y ≡ syndromesOf (bit s) → Located y q
-    → r ≡ confined front q
-    → d ≡ pack 32 (repaired r (bit s)) → (r ≡ repair front (bit s)) × (d ≡ pack 32 (repaired (repair front (bit s)) (bit s)))
-repaired-in-place s d front y q r ey L er ed =
-    let e : r ≡ repair front (bit s) = er ∙ sym (located-repair (bit s) (λ k l. bit-lt s k) front q (rw ey at L)) in
-    (e, ed ∙ ap (λ x. pack 32 (repaired x (bit s))) e)
+pub repaired-in-place : (s d : List ℕ) (front : Bool) (v : ℕ) (y : Syndromes) (r : Repair) → (v ≡ check (bit s)) × (v < 131072)
+    → y ≡ syndromesOf (tail v) → Told front y r × Inside r → d ≡ pack 32 (repaired r (bit s))
+    → (r ≡ repair front (bit s)) × (d ≡ pack 32 (repaired (repair front (bit s)) (bit s)))
+repaired-in-place s d front v y r e ey t ed =
+    let is : r ≡ repair front (bit s) = t .0 .told (bit s) (λ k l. bit-lt s k) (syndromes-are s v y e ey) in
+    (is, ed ∙ ap (λ x. pack 32 (repaired x (bit s))) is)
 
--- A word whose check bits are all 0.
+-- A word whose check bits are all 0 is a code word.
 pub sound-in-place : (s : List ℕ) (front : Bool) (v : ℕ) → length s ≡ 32 → ((j : ℕ) → getD s j 0 < 256) → (v ≡ check (bit s)) × (v < 131072)
     → v ≡ 0 → (Sound ≡ repair front (bit s)) × (s ≡ pack 32 (repaired (repair front (bit s)) (bit s)))
-unfolding confined
-sound-in-place s front v l b e z =
-    repaired-in-place s s front (syndromes 0 0 0) Sound Sound (syndromes-none s v e z) (even-sound (syndromes 0 0 0) (omega arith) (λ o. omega arith) refl refl)
-    (still front) (apply-none s Sound l b (sound-none Sound refl))
+unfolding added repaired places flipAll
+sound-in-place s front v l b e z = (is, apply-none s (repair front (bit s)) l b (sound-none (repair front (bit s)) (sym is)))
   where
-    still : (t : Bool) → Sound ≡ confined t Sound
-    still true = refl
-    still false = refl
+    bits : Bits (bit s)
+    bits k h = bit-lt s k
 
-pub ruleset applying = (inside-one, inside-second, inside-first, apply-one, apply-two, confined-inside, repaired-in-place)
+    same : (k : ℕ) → k < 256 → added (bit s) (tail (check (bit s))) k ≡ repaired Sound (bit s) k
+    same k h = ap (λ u. bit s k ⊕ u) (ap (λ u. tail u k) (sym (e .0) ∙ z) ∙ tail-zero k) ∙ ⊕-zero (bit s k)
+
+    is : Sound ≡ repair front (bit s)
+    is = sym (repair-is front (bit s) bits Sound tt (code-ext _ _ same (checked-code (bit s) bits)))
+
+pub ruleset applying = (inside-one, inside-second, inside-first, apply-one, apply-two)

@@ -16,10 +16,10 @@ use Rattle.gf256.specs.Field.{cube}
 use Rattle.word_spec.specs.CodeWord.{Word}
 use Rattle.word_spec.specs.Syndromes.{locator, syndromesOf}
 use Rattle.word_spec.specs.Checks.{checks, check, tail}
-use Rattle.word_spec.specs.CompletionLaws.{tail-low, tail-high, tail-zero}
+use Rattle.word_spec.specs.CompletionLaws.{tail-low, tail-high}
 use Rattle.word_spec.specs.CheckLaws.{check-lt, check-syndromes}
 use Rattle.word_spec.specs.declared.Syndromes.{Syndromes}
-use Rattle.word.specs.Partial.{Absorbing, partial, syndromes, syndromes-eq, absorb-done}
+use Rattle.word.specs.Partial.{Absorbing, partial, syndromes, syndromes-eq}
 
 pub taken-none : (b e : ℕ) → b ≡ 0 → 0 ≡ b * e
 taken-none b e z = rw z (sym (zero-mul e))
@@ -79,13 +79,4 @@ pub syndromes-are : (s : List ℕ) (v : ℕ) (y : Syndromes) → (v ≡ check (b
     → y ≡ syndromesOf (bit s)
 syndromes-are s v y e f = f ∙ ap (λ u. syndromesOf (tail u)) (e .0) ∙ check-syndromes (bit s) (λ k l. bit-lt s k)
 
--- A word whose check bits are all 0.
-pub syndromes-none : (s : List ℕ) (v : ℕ) → (v ≡ check (bit s)) × (v < 131072) → v ≡ 0 → syndromes 0 0 0 ≡ syndromesOf (bit s)
-syndromes-none s v e z =
-    syndromes-are s v (syndromes 0 0 0) e
-    (absorb-done {w = tail v} {n = 256} (record { upto = omega arith; is = sym (zeros-absorbed 256 (tail v) none) }) (omega arith))
-  where
-    none : (k : ℕ) → k < 256 → tail v k ≡ 0
-    none k l = ap (λ u. tail u k) z ∙ tail-zero k
-
-pub ruleset tailing = (absorb-tail, tail-bit, syndromes-are, syndromes-none)
+pub ruleset tailing = (absorb-tail, tail-bit)

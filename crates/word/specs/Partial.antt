@@ -1,6 +1,6 @@
 -- The syndromes as they are gathered, one place after the other: the invariant of the pass over a word.
 -- Assumes nothing.
-use mathlib.Core.Path.{_≡_, refl, sym, ap, _∙_}
+use mathlib.Core.Path.{_≡_, sym, ap, _∙_}
 use mathlib.Core.Bool.{cond}
 use Prim.Native.Nat.{ℕ, zero, suc, _+_, _-_, _*_, _%_, _<_, _≤_}
 use native.Mathlib.Nat.{zero-mul, one-mul}
@@ -9,7 +9,7 @@ use borrow.Author.Tests.{eq-eqb, ne-eqb}
 use lib.Dec.{eqb}
 use Rattle.bits.specs.Count.{count}
 use Rattle.bits.specs.CountLaws.{count-suc}
-use Rattle.bits.specs.Folding.{Folding, fold-none, fold-more, fold-done}
+use Rattle.bits.specs.Folding.{Folding, fold-more, fold-done}
 use Rattle.bits.specs.Xor.{_⊕_, xorSum}
 use Rattle.bits.specs.XorLaws.{⊕-zero}
 use Rattle.gf256.specs.Field.{cube}
@@ -40,10 +40,6 @@ partial n w = syndromes (xorSum n (λ k. w k * locator k)) (xorSum n (λ k. w k 
 -- Of the 256 bits of w, n are taken in.
 abbrev pub Absorbing : Word → ℕ → Syndromes → Type 0
 Absorbing w = Folding partial w 256
-
-pub absorb-none : (w : Word) → Absorbing w 0 (syndromes 0 0 0)
-unfolding partial xorSum count
-absorb-none w = fold-none partial w 256 (syndromes 0 0 0) refl
 
 pub absorb-parity : {w : Word} {n : ℕ} {s : Syndromes} → Absorbing w n s → s .parity < 2
 unfolding partial
@@ -76,4 +72,4 @@ pub absorb-done : {w : Word} {n : ℕ} {s : Syndromes} → Absorbing w n s → 2
 unfolding partial syndromesOf S1 S3 parity
 absorb-done h l = fold-done h l
 
-pub ruleset absorbing = (absorb-zero, absorb-one, absorb-none, absorb-parity, absorb-more, absorb-done)
+pub ruleset absorbing = (absorb-zero, absorb-one, absorb-parity, absorb-more, absorb-done)

@@ -2,10 +2,9 @@
 // 01, "Code words": "A word lent by itself is 32 bytes, bit 0 first".
 pub mod checks;
 pub mod completion;
-mod locating;
+pub mod locating;
 pub mod syndrome;
 pub mod tables;
-pub mod telling;
 
 use calls::Answer;
 use calls::Refusal;
@@ -15,39 +14,11 @@ ghost use Prim.Native.Nat.{_<_};
 ghost use lib.ListN.{length};
 ghost use Rattle.bits.specs.Bits.{bit, pack};
 ghost use Rattle.word_spec.specs.Repair.{repair, repaired, mark};
-ghost use Rattle.word_spec.specs.Locating.{confined};
 ghost use Rattle.word_spec.specs.Checks.{check};
-ghost use Rattle.gf256.specs.Tables.{powers, logs as exponents, cubed};
+ghost use Rattle.gf256.specs.Tables.{powers, logs as exponents, cubed, rooted};
 ghost use Rattle.word.specs.Applying.{Inside};
 ghost use Rattle.word_spec.specs.Calls.{repairCall};
 ghost use Rattle.calls.specs.Calls.{after};
-
-// Lost where a place falls in the front half and may not.
-fn confine(r: Repair, front: bool) -> Repair
-    ensures { λ q. ⌜ q ≡ confined front r ⌝ }
-{
-    if front {
-        return r;
-    }
-    match r {
-        Repair::Sound => Repair::Sound,
-        Repair::One(i) => {
-            if i < 128 {
-                Repair::Lost
-            } else {
-                Repair::One(i)
-            }
-        }
-        Repair::Two(i, j) => {
-            if i < 128 {
-                Repair::Lost
-            } else {
-                Repair::Two(i, j)
-            }
-        }
-        Repair::Lost => Repair::Lost,
-    }
-}
 
 // Flips the places of a repair.
 fn apply(w: &mut [u8], r: Repair)
@@ -65,24 +36,25 @@ fn apply(w: &mut [u8], r: Repair)
     }
 }
 
-// Repairs a word of 32 bytes that has these check bits, and says what it flipped; `front` says whether flips may fall in the front half. The
-// tables are those of powers, exponents and cubes. A word whose check bits are all zero needs no repair.
-pub fn repair_in_place(
+// Repairs a word of 32 bytes that has these check bits, and says what it flipped; `front` says whether flips may fall in the front half.
+// The tables are those of powers, exponents, cubes and roots. A word whose check bits are all zero needs no repair.
+fn repair_in_place(
     w: &mut [u8],
     v: u32,
     front: bool,
     table: &[u8; 255],
     logs: &[u8; 256],
     cubes: &[u8; 256],
+    roots: &[u8; 256],
 ) -> Repair
-    requires { ⌜ (length (now w) ≡ 32) × ((v ≡ check (bit (now w))) × (v < 131072)) × (now table ≡ powers) × (now logs ≡ exponents) × (now cubes ≡ cubed) ⌝ }
+    requires { ⌜ (length (now w) ≡ 32) × ((v ≡ check (bit (now w))) × (v < 131072)) × (now table ≡ powers) × (now logs ≡ exponents) × (now cubes ≡ cubed) × (now roots ≡ rooted) ⌝ }
     ensures { λ r. ⌜ (r ≡ repair front (bit (now (w .entry)))) × (now (w .exit) ≡ pack 32 (repaired (repair front (bit (now (w .entry)))) (bit (now (w .entry))))) ⌝ }
 {
     if v == 0 {
         return Repair::Sound;
     }
     let s = syndrome::tail_syndromes(v, table, cubes);
-    let r = confine(locating::locate(s, table, logs, cubes), front);
+    let r = locating::repair_told(s, front, table, logs, cubes, roots);
     apply(w, r);
     r
 }
@@ -107,10 +79,11 @@ pub fn repair_word(word: &mut [u8], front: bool) -> Answer
         return Answer::Refused(Refusal::Misfit);
     }
     let columns = tables::checks();
+    let v = checks::check_of(word, &columns);
     let table = gf256::powers();
     let logs = gf256::logs();
     let cubes = gf256::cubes();
-    let v = checks::check_of(word, &columns);
-    let r = repair_in_place(word, v, front, &table, &logs, &cubes);
+    let roots = gf256::roots();
+    let r = repair_in_place(word, v, front, &table, &logs, &cubes, &roots);
     Answer::Done(mark_of(r) as u32)
 }

@@ -1,16 +1,16 @@
-// The places that the syndromes of a word tell.
-use crate::syndrome;
+// The repair that the syndromes of a word tell: its places by lent tables, two of them by a root.
 use word_spec::Repair;
 use word_spec::Syndromes;
 ghost use mathlib.Core.Path.{_≡_};
 ghost use Prim.Native.Nat.{_<_};
 ghost use Rattle.word_spec.specs.Syndromes.{locator};
-ghost use Rattle.word_spec.specs.Locating.{Located};
-ghost use Rattle.gf256.specs.Tables.{powers, logs as exponents, cubed};
-ghost use Rattle.word.specs.Finding.{cubeSum, FirstPartners};
+ghost use Rattle.word_spec.specs.Locating.{Located, confined};
+ghost use Rattle.gf256.specs.Tables.{powers, logs as exponents, cubed, rooted};
+ghost use Rattle.word.specs.Applying.{Inside};
+ghost use Rattle.word.specs.Telling.{Told};
 
 // The place that an element of GF(256) stands for.
-pub fn place_of(x: u8, logs: &[u8; 256]) -> usize
+fn place_of(x: u8, logs: &[u8; 256]) -> usize
     requires { ⌜ now logs ≡ exponents ⌝ }
     ensures { λ r. ⌜ (r < 256) × (locator r ≡ x) ⌝ }
 {
@@ -20,33 +20,42 @@ pub fn place_of(x: u8, logs: &[u8; 256]) -> usize
     254 - gf256::log_in(logs, x)
 }
 
-// The first place whose locator x, with its partner x ^ s1, has cubes that add up to s3; 256 where there is none.
-fn find_partners(s1: u8, s3: u8, table: &[u8; 255], cubes: &[u8; 256]) -> usize
-    requires { ⌜ (now table ≡ powers) × (now cubes ≡ cubed) ⌝ }
-    ensures { λ r. ⌜ FirstPartners s1 s3 r ⌝ }
+// The two places of an even word whose S1 is not 0: their locators add up to S1 and the cubes of these to S3. With the locators x and
+// x + S1, where x = S1 y, the cubes add up to S1^3 (y y + y) + S1^3: so y is a root for S3 + S1^3 over S1^3.
+fn locate_two(
+    s: Syndromes,
+    table: &[u8; 255],
+    logs: &[u8; 256],
+    cubes: &[u8; 256],
+    roots: &[u8; 256],
+) -> Repair
+    requires { ⌜ (s .parity ≡ 0) × (0 < s .s1) × (now table ≡ powers) × (now logs ≡ exponents) × (now cubes ≡ cubed) × (now roots ≡ rooted) ⌝ }
+    ensures { λ r. ⌜ Located s r ⌝ }
 {
-    let mut k = 0;
-    while k < 256 {
-        if cube_sum(s1, k, table, cubes) == s3 {
-            return k;
-        }
-        k += 1;
+    let q = gf256::cube_in(cubes, s.s1);
+    let c = gf256::over(s.s3 ^ q, q, table, logs);
+    let y = gf256::root_in(roots, c);
+    if y == 0 {
+        return Repair::Lost;
     }
-    k
-}
-
-// What the cubes of a place's locator and of its partner add up to.
-fn cube_sum(s1: u8, k: usize, table: &[u8; 255], cubes: &[u8; 256]) -> u8
-    requires { ⌜ (k < 256) × (now table ≡ powers) × (now cubes ≡ cubed) ⌝ }
-    ensures { λ r. ⌜ r ≡ cubeSum s1 k ⌝ }
-{
-    let x = syndrome::locator(k, table);
-    gf256::cube_in(cubes, x) ^ gf256::cube_in(cubes, x ^ s1)
+    let x = gf256::times(s.s1, y, table, logs);
+    let i = place_of(x, logs);
+    let j = place_of(x ^ s.s1, logs);
+    if i < j {
+        return Repair::Two(i, j);
+    }
+    Repair::Two(j, i)
 }
 
 // The places that the syndromes tell: one of an odd word, none or two of an even one.
-pub fn locate(s: Syndromes, table: &[u8; 255], logs: &[u8; 256], cubes: &[u8; 256]) -> Repair
-    requires { ⌜ (s .parity < 2) × (now table ≡ powers) × (now logs ≡ exponents) × (now cubes ≡ cubed) ⌝ }
+fn locate(
+    s: Syndromes,
+    table: &[u8; 255],
+    logs: &[u8; 256],
+    cubes: &[u8; 256],
+    roots: &[u8; 256],
+) -> Repair
+    requires { ⌜ (s .parity < 2) × (now table ≡ powers) × (now logs ≡ exponents) × (now cubes ≡ cubed) × (now roots ≡ rooted) ⌝ }
     ensures { λ r. ⌜ Located s r ⌝ }
 {
     let s1 = s.s1;
@@ -63,10 +72,48 @@ pub fn locate(s: Syndromes, table: &[u8; 255], logs: &[u8; 256], cubes: &[u8; 25
         }
         return Repair::Lost;
     }
-    let i = find_partners(s1, s3, table, cubes);
-    if i < 256 {
-        let j = place_of(syndrome::locator(i, table) ^ s1, logs);
-        return Repair::Two(i, j);
+    locate_two(s, table, logs, cubes, roots)
+}
+
+// Lost where a place falls in the front half and may not.
+fn confine(r: Repair, front: bool) -> Repair
+    ensures { λ q. ⌜ q ≡ confined front r ⌝ }
+{
+    if front {
+        return r;
     }
-    Repair::Lost
+    match r {
+        Repair::Sound => Repair::Sound,
+        Repair::One(i) => {
+            if i < 128 {
+                Repair::Lost
+            } else {
+                Repair::One(i)
+            }
+        }
+        Repair::Two(i, j) => {
+            if i < 128 {
+                Repair::Lost
+            } else {
+                Repair::Two(i, j)
+            }
+        }
+        Repair::Lost => Repair::Lost,
+    }
+}
+
+// The repair of a word that has these syndromes; `front` says whether flips may fall in the front half. The tables are those of powers,
+// exponents, cubes and roots.
+pub fn repair_told(
+    s: Syndromes,
+    front: bool,
+    table: &[u8; 255],
+    logs: &[u8; 256],
+    cubes: &[u8; 256],
+    roots: &[u8; 256],
+) -> Repair
+    requires { ⌜ (s .parity < 2) × (now table ≡ powers) × (now logs ≡ exponents) × (now cubes ≡ cubed) × (now roots ≡ rooted) ⌝ }
+    ensures { λ r. ⌜ Told front s r × Inside r ⌝ }
+{
+    confine(locate(s, table, logs, cubes, roots), front)
 }

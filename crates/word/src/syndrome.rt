@@ -8,7 +8,7 @@ ghost use Rattle.gf256.specs.Tables.{powers, cubed};
 ghost use Rattle.word.specs.Partial.{absorbed};
 
 // The element of GF(256) that stands for a place, from the table of powers.
-pub fn locator(k: usize, table: &[u8; 255]) -> u8
+fn locator(k: usize, table: &[u8; 255]) -> u8
     requires { ⌜ (k < 256) × (now table ≡ powers) ⌝ }
     ensures { λ r. ⌜ r ≡ locator k ⌝ }
 {

@@ -14,12 +14,13 @@ repair-word-spec =
     (tie.spec
     (λ c. search kit)  -- returns
     (λ c κs. search kit)  -- checks-requires
+    (λ c κs. search kit)  -- check-of-requires
     (λ c κs. search kit)  -- powers-requires
     (λ c κs. search kit)  -- logs-requires
     (λ c κs. search kit)  -- cubes-requires
-    (λ c κs. search kit)  -- check-of-requires
+    (λ c κs. search kit)  -- roots-requires
     (λ c κs. search kit)  -- repair-in-place-requires
     (λ c κs. search kit)  -- mark-of-requires
-    (λ c. search kit)  -- cast-t10
+    (λ c. search kit)  -- cast-t11
     (λ c. search kit)  -- same-length
     (λ c. search kit))  -- returns-2

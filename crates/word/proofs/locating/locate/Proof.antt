@@ -1,6 +1,5 @@
 -- `word::locating::locate` meets its contract: one law for each branch.
 -- Assumes nothing.
-use Rattle.bits.specs.Xor.{_⊕_}
 use Rattle.word.specs.Finding.{decoding}
 use borrow.Author.Needs.{needs}
 use Rattle.word.proofs.locating.locate.Statement.{statement}
@@ -9,7 +8,6 @@ use Rattle.word.proofs.locating.locate.Tie as tie
 ruleset kit = (needs, decoding)
 
 pub locate-spec : {M : Type 1} → statement M
-unfolding _⊕_
 locate-spec =
     tie.close
     (tie.spec
@@ -19,8 +17,5 @@ locate-spec =
     (λ c. search kit)  -- returns-2
     (λ c. search kit)  -- returns-3
     (λ c. search kit)  -- returns-4
-    (λ c κs. search kit)  -- find-partners-requires
-    (λ c κs. search kit)  -- locator-requires
-    (λ c κs. search kit)  -- place-of-requires-2
-    (λ c. search kit)  -- returns-5
-    (λ c. search kit))  -- returns-6
+    (λ c κs. search kit)  -- locate-two-requires
+    (λ c. search kit))  -- returns-5

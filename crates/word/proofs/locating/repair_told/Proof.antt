@@ -1,10 +1,10 @@
--- `word::telling::repair_told` meets its contract: what is located and confined.
+-- `word::locating::repair_told` meets its contract: what is located and confined.
 -- Assumes nothing.
 use Rattle.word.specs.Applying.{confined-inside}
 use Rattle.word.specs.Telling.{located-told}
 use borrow.Author.Needs.{needs}
-use Rattle.word.proofs.telling.repair_told.Statement.{statement}
-use Rattle.word.proofs.telling.repair_told.Tie as tie
+use Rattle.word.proofs.locating.repair_told.Statement.{statement}
+use Rattle.word.proofs.locating.repair_told.Tie as tie
 
 ruleset kit = (needs, confined-inside, located-told)
 

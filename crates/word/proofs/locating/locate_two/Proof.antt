@@ -1,10 +1,10 @@
--- `word::telling::locate_two` meets its contract: its two places are those of a root.
+-- `word::locating::locate_two` meets its contract: its two places are those of a root.
 -- Assumes nothing.
 use Rattle.bits.specs.Xor.{_⊕_}
-use Rattle.word.specs.TwoPlaces.{two-places}
+use Rattle.word.specs.Finding.{two-places}
 use borrow.Author.Needs.{needs}
-use Rattle.word.proofs.telling.locate_two.Statement.{statement}
-use Rattle.word.proofs.telling.locate_two.Tie as tie
+use Rattle.word.proofs.locating.locate_two.Statement.{statement}
+use Rattle.word.proofs.locating.locate_two.Tie as tie
 
 ruleset kit = (needs, two-places)
 

@@ -1,9 +1,9 @@
--- `word::confine` meets its contract: one law for each branch.
+-- `word::locating::confine` meets its contract: one law for each branch.
 -- Assumes nothing.
 use Rattle.word_spec.specs.Locating.{confining}
 use borrow.Author.Needs.{needs}
-use Rattle.word.proofs.confine.Statement.{statement}
-use Rattle.word.proofs.confine.Tie as tie
+use Rattle.word.proofs.locating.confine.Statement.{statement}
+use Rattle.word.proofs.locating.confine.Tie as tie
 
 ruleset kit = (needs, confining)
 
