@@ -1,42 +1,45 @@
 //! The library's functions once more, in plain Rust with the same loops: what is left between the two
-//! when the structure is the same. It follows crates/bits, pair, pair_core, pair_words_core, word, gf256, interleaver,
-//! interleaver_core, block_core, cells, levels_core, mapping_core, mapping_qpsk_core, cells_core, frame, frame_core and
-//! frame_legal_core function by function, and changes with them.
+//! when the structure is the same. It follows crates/bits, pair, pair_core, pair_words_core, receiving_core, gathering_core,
+//! sums_core, permutation_core, blocks, word, gf256, interleaver, interleaver_core, block_core, cells, levels_core, mapping_core,
+//! mapping_qpsk_core, cells_core, frame, frame_core and frame_legal_core function by function, and changes with them.
 //!
 //! Lengths of buffers that contracts of the library require are in the types here, and no call is inlined
 //! into the code that times it.
 
-// The loops are those of the library.
+// The loops and the parameters are those of the library.
 #![allow(
     clippy::needless_range_loop,
     clippy::manual_memcpy,
     clippy::assign_op_pattern,
     clippy::manual_div_ceil,
-    clippy::manual_is_multiple_of
+    clippy::manual_is_multiple_of,
+    clippy::too_many_arguments
 )]
 
 use ofec_tests::outcome::{Outcome, COUNT_SPENT, MISFIT, NO_SUCH_FRAME, STRAY_HISTORY};
 use ofec_tests::profile::Profile;
 
 mod block_core;
+mod blocks;
 mod cells_core;
 mod frame_core;
 mod frame_legal_core;
 mod front;
+mod gathering_core;
+mod gf256;
 mod mapping_core;
 mod mapping_qpsk_core;
 mod numbers;
 mod pair_core;
 mod pair_words_core;
+mod permutation_core;
+mod receiving_core;
+mod sums_core;
 mod word;
 
 /// Bit i of a buffer.
 fn bit(s: &[u8], i: usize) -> u8 {
     (s[i / 8] >> (7 - i % 8)) % 2
-}
-
-fn flip(s: &mut [u8], i: usize) {
-    s[i / 8] ^= 1 << (7 - i % 8);
 }
 
 #[inline(never)]
@@ -95,7 +98,7 @@ pub fn receive_pair(
         return Outcome::refused_pair(COUNT_SPENT, pair);
     }
     let (shown, pairs) = split_front(history);
-    pair_core::receive_into(coded, payload, marks, pairs, pair);
+    receiving_core::receive_into(coded, payload, marks, pairs, pair);
     front::put(encoder, pair + 1, shown);
     Outcome::accepted(pair + 1)
 }

@@ -1,22 +1,11 @@
 //! crates/block_core and interleaver_core: the 84 block rows of a buffer, each block reordered by itself.
 
-type Block = [u16; 16];
-
-/// The eight blocks of a block row side by side: word i of block C is number 8i+C.
-pub type BlockRow = [u16; 128];
+use super::blocks::{block_in, choose, lay, turn, write_row, Block, BlockRow};
 
 const BY_8: u16 = 0x0F0F;
 const BY_4: u16 = 0x3333;
 const BY_2: u16 = 0x5555;
 const BY_1: u16 = 0x00FF;
-
-fn turn(x: u16, n: usize) -> u16 {
-    (x << n) | ((x >> 1) >> (15 - n))
-}
-
-fn choose(m: u16, x: u16, y: u16) -> u16 {
-    y ^ ((x ^ y) & m)
-}
 
 fn turn_rows(b: Block, n: usize) -> Block {
     let mut out = [0; 16];
@@ -50,12 +39,6 @@ fn restore(b: Block) -> Block {
     turn_rows(w, 15)
 }
 
-fn lay(row: &mut BlockRow, block: usize, b: Block) {
-    for i in 0..16 {
-        row[8 * i + block] = b[i];
-    }
-}
-
 fn pairs_words(pairs: &[u8; 10752], block_row: usize) -> BlockRow {
     let mut words = [0; 128];
     for x in 0..128 {
@@ -70,14 +53,6 @@ fn sent_words(pairs0: &[u8; 10752], pairs1: &[u8; 10752], block_row: usize) -> B
         return pairs_words(pairs0, block_row);
     }
     pairs_words(pairs1, block_row)
-}
-
-fn block_in(words: &BlockRow, block: usize) -> Block {
-    let mut b = [0; 16];
-    for r in 0..16 {
-        b[r] = turn(words[8 * r + block], 8);
-    }
-    b
 }
 
 fn reordered_row(words: &BlockRow) -> BlockRow {
@@ -155,14 +130,6 @@ fn restored_row(bits: &[u8; 21504], block_row: usize) -> BlockRow {
         lay(&mut row, block, restore(line_block(bits, block_row, block)));
     }
     row
-}
-
-fn write_row(row: &BlockRow, out: &mut [u8]) {
-    for x in 0..128 {
-        let w = row[x];
-        out[2 * x] = (w / 256 % 256) as u8;
-        out[2 * x + 1] = (w % 256) as u8;
-    }
 }
 
 /// With the bound of the encoder at hand the compiler leaves out the tests of the indices.

@@ -1,57 +1,6 @@
-//! crates/word and gf256: completion, syndromes, repair.
+//! crates/word: completion, and the repair that syndromes tell.
 
-use super::{bit, flip};
-
-/// a^0 to a^254.
-const POWERS: [u8; 255] = powers();
-/// Entry x is the exponent of x; that of 0 is not used.
-const LOGS: [u8; 256] = logs();
-
-const fn powers() -> [u8; 255] {
-    let mut powers = [1; 255];
-    let mut k = 1;
-    while k < 255 {
-        let twice = powers[k - 1] as u16 * 2;
-        powers[k] = (if twice < 256 {
-            twice
-        } else {
-            twice ^ 0b1_0001_1101
-        }) as u8;
-        k += 1;
-    }
-    powers
-}
-
-const fn logs() -> [u8; 256] {
-    let mut logs = [0; 256];
-    let mut k = 0;
-    while k < 255 {
-        logs[POWERS[k] as usize] = k as u8;
-        k += 1;
-    }
-    logs
-}
-
-fn log(x: u8) -> usize {
-    LOGS[x as usize] as usize
-}
-
-/// Entry x is the cube of x.
-const CUBES: [u8; 256] = cubes();
-
-const fn cubes() -> [u8; 256] {
-    let mut cubes = [0; 256];
-    let mut x = 1;
-    while x < 256 {
-        cubes[x] = POWERS[LOGS[x] as usize * 3 % 255];
-        x += 1;
-    }
-    cubes
-}
-
-fn cube(x: u8) -> u8 {
-    CUBES[x as usize]
-}
+use super::{bit, gf256};
 
 /// Entry i: the check bits of a word whose one set bit is bit 255 - i.
 const CHECKS: [u32; 256] = checks();
@@ -110,55 +59,10 @@ pub fn complete(w: &mut [u8]) {
 }
 
 #[derive(Clone, Copy)]
-struct Syndromes {
-    s1: u8,
-    s3: u8,
-    parity: u8,
-}
-
-fn locator(k: usize) -> u8 {
-    if k < 255 {
-        POWERS[254 - k]
-    } else {
-        0
-    }
-}
-
-fn absorb(s: Syndromes, b: u8, k: usize) -> Syndromes {
-    if b == 0 {
-        return s;
-    }
-    let x = locator(k);
-    Syndromes {
-        s1: s.s1 ^ x,
-        s3: s.s3 ^ cube(x),
-        parity: 1 - s.parity,
-    }
-}
-
-/// The syndromes of a word that has check bits v alone.
-fn tail_syndromes(v: u32) -> Syndromes {
-    let mut s = Syndromes {
-        s1: 0,
-        s3: 0,
-        parity: 0,
-    };
-    for k in 239..256 {
-        s = absorb(s, ((v >> (255 - k)) % 2) as u8, k);
-    }
-    s
-}
-
-fn syndromes_of(w: &[u8]) -> Syndromes {
-    let v = check_of(w);
-    if v == 0 {
-        return Syndromes {
-            s1: 0,
-            s3: 0,
-            parity: 0,
-        };
-    }
-    tail_syndromes(v)
+pub struct Syndromes {
+    pub s1: u8,
+    pub s3: u8,
+    pub parity: u8,
 }
 
 #[derive(Clone, Copy)]
@@ -169,34 +73,47 @@ pub enum Repair {
     Lost,
 }
 
-fn place_of(x: u8) -> usize {
+fn place_of(x: u8, logs: &[u8; 256]) -> usize {
     if x == 0 {
         return 255;
     }
-    254 - log(x)
+    254 - gf256::log_in(logs, x)
 }
 
-fn pair_sum(s1: u8, k: usize) -> u8 {
-    let x = locator(k);
-    cube(x) ^ cube(x ^ s1)
-}
-
-fn find_pair(s1: u8, s3: u8) -> usize {
-    let mut k = 0;
-    while k < 256 {
-        if pair_sum(s1, k) == s3 {
-            return k;
-        }
-        k += 1;
+/// The two places of an even word whose S1 is not 0.
+fn locate_two(
+    s: Syndromes,
+    table: &[u8; 255],
+    logs: &[u8; 256],
+    cubes: &[u8; 256],
+    roots: &[u8; 256],
+) -> Repair {
+    let q = gf256::cube_in(cubes, s.s1);
+    let c = gf256::over(s.s3 ^ q, q, table, logs);
+    let y = gf256::root_in(roots, c);
+    if y == 0 {
+        return Repair::Lost;
     }
-    k
+    let x = gf256::times(s.s1, y, table, logs);
+    let i = place_of(x, logs);
+    let j = place_of(x ^ s.s1, logs);
+    if i < j {
+        return Repair::Two(i, j);
+    }
+    Repair::Two(j, i)
 }
 
-fn locate(s: Syndromes) -> Repair {
+fn locate(
+    s: Syndromes,
+    table: &[u8; 255],
+    logs: &[u8; 256],
+    cubes: &[u8; 256],
+    roots: &[u8; 256],
+) -> Repair {
     let Syndromes { s1, s3, parity } = s;
     if parity == 1 {
-        if cube(s1) == s3 {
-            return Repair::One(place_of(s1));
+        if gf256::cube_in(cubes, s1) == s3 {
+            return Repair::One(place_of(s1, logs));
         }
         return Repair::Lost;
     }
@@ -206,11 +123,7 @@ fn locate(s: Syndromes) -> Repair {
         }
         return Repair::Lost;
     }
-    let i = find_pair(s1, s3);
-    if i < 256 {
-        return Repair::Two(i, place_of(locator(i) ^ s1));
-    }
-    Repair::Lost
+    locate_two(s, table, logs, cubes, roots)
 }
 
 fn confine(r: Repair, front: bool) -> Repair {
@@ -220,18 +133,16 @@ fn confine(r: Repair, front: bool) -> Repair {
     }
 }
 
-/// Repairs a word in place.
-pub fn repair_in_place(w: &mut [u8], front: bool) -> Repair {
-    let r = confine(locate(syndromes_of(w)), front);
-    match r {
-        Repair::One(i) => flip(w, i),
-        Repair::Two(i, j) => {
-            flip(w, j);
-            flip(w, i);
-        }
-        Repair::Sound | Repair::Lost => {}
-    }
-    r
+/// The repair of a word that has these syndromes; `front` says whether flips may fall in the front half.
+pub fn repair_told(
+    s: Syndromes,
+    front: bool,
+    table: &[u8; 255],
+    logs: &[u8; 256],
+    cubes: &[u8; 256],
+    roots: &[u8; 256],
+) -> Repair {
+    confine(locate(s, table, logs, cubes, roots), front)
 }
 
 pub fn mark_of(r: Repair) -> u8 {
