@@ -18,15 +18,15 @@ use Rattle.blocks.specs.Moves.{turned, pick, chosen, moved, transposed}
 
 -- ---- columns chosen between two rows
 
-bitOf-xor : (w a b c : ℕ) → bitOf w (bitXor a b) c ≡ bitXor (bitOf w a c) (bitOf w b c)
+pub bitOf-xor : (w a b c : ℕ) → bitOf w (bitXor a b) c ≡ bitXor (bitOf w a c) (bitOf w b c)
 unfolding bitOf
 bitOf-xor w a b c = ap (λ u. u % 2) (xor-shr a b (w - 1 - c)) ∙ xor-mod (a / 2 ^ (w - 1 - c)) (b / 2 ^ (w - 1 - c)) 1
 
-bitOf-and : (w a b c : ℕ) → bitOf w (bitAnd a b) c ≡ bitAnd (bitOf w a c) (bitOf w b c)
+pub bitOf-and : (w a b c : ℕ) → bitOf w (bitAnd a b) c ≡ bitAnd (bitOf w a c) (bitOf w b c)
 unfolding bitOf
 bitOf-and w a b c = ap (λ u. u % 2) (and-shr a b (w - 1 - c)) ∙ and-mod (a / 2 ^ (w - 1 - c)) (b / 2 ^ (w - 1 - c)) 1
 
-choose-bit : (m u v : ℕ) → m < 2 → u < 2 → v < 2 → bitXor v (bitAnd (bitXor u v) m) ≡ pick m u v
+pub choose-bit : (m u v : ℕ) → m < 2 → u < 2 → v < 2 → bitXor v (bitAnd (bitXor u v) m) ≡ pick m u v
 unfolding pick
 choose-bit zero u v hm hu hv = ap (bitXor v) (and-zero-r (bitXor u v)) ∙ xor-zero-r v
 choose-bit (suc zero) zero zero hm hu hv = refl

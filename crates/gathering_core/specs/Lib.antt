@@ -4,3 +4,4 @@ pub mod RowWordLaws
 pub mod Held
 pub mod HeldLaws
 pub mod Lanes
+pub mod ByWords

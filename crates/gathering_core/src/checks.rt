@@ -2,13 +2,14 @@
 // one.
 use crate::lanes;
 use crate::rows;
+use permutation_core::transpose_both;
 use word_spec::Syndromes;
 ghost use mathlib.Core.Path.{_≡_};
 ghost use Prim.Native.Nat.{_*_, _<_};
 ghost use lib.ListN.{length};
 ghost use Rattle.gathering_spec.specs.Sums.{Gathered, Parities};
 ghost use Rattle.gathering_spec.specs.Dirty.{Joining};
-ghost use Rattle.gathering_spec.specs.Collecting.{sumOf, collected};
+ghost use Rattle.gathering_spec.specs.Collecting.{falling, wordNumber, ByWords, syndromesIn};
 ghost use Rattle.pair_spec.specs.History.{depth};
 ghost use Rattle.gathering_core.specs.Held.{halvesWord};
 ghost use Rattle.gathering_core.specs.Lanes.{RowChecked};
@@ -71,27 +72,43 @@ pub fn dirty(sums: &[u32; 16], odd: u32) -> u32
     d
 }
 
-// Eight of the sums of word w as a number: S1 from 0 on, S3 from 8 on.
-fn sum_of(sums: &[u32; 16], from: usize, w: usize) -> u8
-    requires { ⌜ (from < 9) × (w < 32) ⌝ }
-    ensures { λ v. ⌜ v ≡ sumOf (now (sums .entry)) from w ⌝ }
+// The sums in falling order, first those of S1 and then those of S3.
+fn falling(sums: &[u32; 16]) -> [u32; 16]
+    ensures { λ b. ⌜ b ≡ falling (now (sums .entry)) ⌝ }
 {
-    let mut acc: u8 = 0;
-    for k in 0..8 {
-        let v = sums[from + 7 - k];
-        acc = acc * 2 + ((v >> (31 - w)) % 2) as u8;
+    let mut b = [0u32; 16];
+    for i in 0..16 {
+        b[i] = sums[i / 8 * 8 + 7 - i % 8];
     }
-    acc
+    b
+}
+
+// S1 and S3 word by word: words 0 to 15 in the upper halves of the numbers, 16 to 31 in the lower; in each half S1 stands above S3.
+pub fn by_words(sums: &[u32; 16]) -> [u32; 16]
+    ensures { λ u. ⌜ ByWords (now (sums .entry)) u ⌝ }
+{
+    let b = falling(sums);
+    transpose_both(b)
+}
+
+// The number of word w among them.
+fn word_number(numbers: &[u32; 16], w: usize) -> u32
+    requires { ⌜ w < 32 ⌝ }
+    ensures { λ v. ⌜ (v ≡ wordNumber (now (numbers .entry)) w) × (v < 65536) ⌝ }
+{
+    let v = numbers[w % 16];
+    (v >> (16 - 16 * (w / 16))) % 65536
 }
 
 // The syndromes of word w.
-pub fn syndromes(sums: &[u32; 16], odd: u32, w: usize) -> Syndromes
+pub fn syndromes(numbers: &[u32; 16], odd: u32, w: usize) -> Syndromes
     requires { ⌜ w < 32 ⌝ }
-    ensures { λ s. ⌜ (s ≡ collected (now (sums .entry)) odd w) × (s .parity < 2) ⌝ }
+    ensures { λ s. ⌜ (s ≡ syndromesIn (now (numbers .entry)) odd w) × (s .parity < 2) ⌝ }
 {
+    let v = word_number(numbers, w);
     Syndromes {
-        s1: sum_of(sums, 0, w),
-        s3: sum_of(sums, 8, w),
+        s1: (v / 256) as u8,
+        s3: (v % 256) as u8,
         parity: ((odd >> (31 - w)) % 2) as u8,
     }
 }

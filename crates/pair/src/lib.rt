@@ -4,7 +4,7 @@ pub mod front;
 use calls::Answer;
 use calls::Refusal;
 use pair_core::encoding::encode_into;
-use pair_core::receiving::receive_into;
+use receiving_core::receiving::receive_into;
 ghost use mathlib.Core.Path.{_≡_};
 ghost use Rattle.pair_spec.specs.Calls.{afterEncode, encodeCall, afterReceive, receiveCall};
 

@@ -1,3 +1,2 @@
-// Workers: a pair encoded or received word by word, given buffers that fit. Over `word` and `pair_words_core`; the calls are in `pair`.
+// Workers: a pair encoded word by word, given buffers that fit. Over `word` and `pair_words_core`; the calls are in `pair`.
 pub mod encoding;
-pub mod receiving;

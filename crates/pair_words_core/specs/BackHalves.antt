@@ -9,7 +9,7 @@ use native.Mathlib.Omega.{arith}
 use borrow.Author.Tests.{lt-ltb, le-ltb}
 use lib.Bits.{xor-block}
 use lib.Dec.{ltb}
-use lib.ListN.{length, getD}
+use lib.ListN.{getD}
 use Rattle.bits.specs.Lists.{tabulate}
 use Rattle.bits.specs.ListLaws.{getD-tabulate, tabulate-ext}
 use Rattle.bits.specs.Bits.{bit, bitOf, byteOf, fromBits, pack}
@@ -20,12 +20,10 @@ use Rattle.bits.specs.XorLaws.{⊕-lt}
 use Rattle.word_spec.specs.CodeWord.{Word}
 use Rattle.pair_spec.specs.Pairs.{laidOut, codedIndex, ownIndex, codedPair, payloadOf}
 use Rattle.pair_spec.specs.PairLaws.{codedPlace, codedPlace-lt, coded-laid, ownWord, ownPlace, own-from, payload-laid}
-use Rattle.pair_spec.specs.History.{shift}
 use Rattle.pair_spec.specs.Encoding.{encodedWord, encoded}
 use Rattle.pair_spec.specs.EncodingLaws.{encoded-code}
-use Rattle.pair_spec.specs.Receiving.{repairedWord, newestPair, payloadOut}
+use Rattle.pair_spec.specs.Receiving.{repairedWord}
 use Rattle.pair_spec.specs.ReceivingLaws.{repairedWord-bits}
-use Rattle.bits.specs.NumberLaws.{byte-copied}
 
 -- The back half of word w, and of all of them: bit m is bit 128 + m mod 128 of word m div 128.
 unfoldable pub backHalf : (ℕ → Word) → ℕ → List ℕ
@@ -65,12 +63,9 @@ codedSource i = i / 16 * 16 + ((i % 16) ⊕ (i / 128 % 16))
 unfoldable pub payloadSource : ℕ → ℕ
 payloadSource i = cond (ltb i 3072) (i % 512 / 16 * 128 + i / 512 * 16 + i % 16) ((i - 3072) / 15 * 128 + 96 + (i - 3072) % 15)
 
--- As they are gathered.
+-- As it is gathered.
 unfoldable pub codedFrom : List ℕ → List ℕ
 codedFrom backs = pack 512 (λ i. bit backs (codedSource i))
-
-unfoldable pub payloadFrom : List ℕ → List ℕ
-payloadFrom backs = pack 444 (λ i. bit backs (payloadSource i))
 
 -- Where the bits of byte j come from: one byte, with its bits exchanged by ^r.
 ⊕-eight : (a b k l : ℕ) → k < 8 → l < 8 → (a * 8 + k) ⊕ (b * 8 + l) ≡ (a ⊕ b) * 8 + (k ⊕ l)
@@ -131,28 +126,7 @@ pub payload-last : (i : ℕ) → 3072 ≤ i → payloadSource i ≡ (i - 3072) /
 unfolding payloadSource
 payload-last i l = simp (le-ltb i 3072 l)
 
-pub payload-high : (s : List ℕ) (i b : ℕ) → 3072 ≤ i → b ≡ bit s ((i - 3072) / 15 * 128 + 96 + (i - 3072) % 15)
-    → b ≡ bit s (payloadSource i)
-payload-high s i b l p = p ∙ ap (bit s) (sym (payload-last i l))
-
-pub payload-copied : (s : List ℕ) (j : ℕ) → length s ≡ 512 → ((i : ℕ) → getD s i 0 < 256) → j < 384
-    → getD s (j % 64 / 2 * 16 + j / 64 * 2 + j % 2) 0 ≡ byteOf (λ i. bit s (payloadSource i)) j
-payload-copied s j e b l =
-    byte-copied s (λ i. bit s (payloadSource i)) j (j % 64 / 2 * 16 + j / 64 * 2 + j % 2) b
-    (λ k lk. ap (bit s) (sym (payload-low (j * 8 + k) (omega arith) ∙ place k lk)))
-  where
-    halves : (n k : ℕ) → k < 8 → (n * 8 + k) / 16 ≡ n / 2
-    halves n k lk = omega arith
-
-    place : (k : ℕ) → k < 8
-        → (j * 8 + k) % 512 / 16 * 128 + (j * 8 + k) / 512 * 16 + (j * 8 + k) % 16 ≡ (j % 64 / 2 * 16 + j / 64 * 2 + j % 2) * 8 + k
-    place k lk =
-        let m : (j * 8 + k) % 512 ≡ j % 64 * 8 + k = omega arith in
-        let d : (j * 8 + k) / 512 ≡ j / 64 = omega arith in
-        let c : (j * 8 + k) % 16 ≡ j % 2 * 8 + k = omega arith in
-        rw (m, d, c, halves (j % 64) k lk) (omega arith)
-
-pub ruleset bit-sources = (exchanged-bit, exchanged-lt, payload-high)
+pub ruleset bit-sources = (exchanged-bit, exchanged-lt)
 
 codedSource-is : (i : ℕ) → codedSource i ≡ 128 * (i / 128) + codedPlace i
 unfolding codedSource codedPlace
@@ -215,17 +189,3 @@ pub encoded-by-words : (n : ℕ) (h : List ℕ) (P : ℕ) (y s q : List ℕ) →
 unfolding encoded codedFrom
 encoded-by-words n h P y s q e p =
     p ∙ coded-gathered (encodedWord n h P y) (bit s) (packed-bit (encodedWord n h P y) (encoded-bits n h P y) s e)
-
-module _ (n : ℕ) (h : List ℕ) (P : ℕ) (p s : List ℕ) (e : s ≡ pack 512 (backHalves (repairedWord n h P p))) where
-  repaired-bit : (m : ℕ) → m < 4096 → bit s m ≡ backHalves (repairedWord n h P p) m
-  repaired-bit = packed-bit (repairedWord n h P p) (repaired-bits n h P p) s e
-
-  pub payload-by-words : (y : List ℕ) → y ≡ payloadFrom s → y ≡ payloadOut n h P p
-  unfolding payloadOut payloadFrom
-  payload-by-words y g = g ∙ payload-gathered (repairedWord n h P p) (bit s) repaired-bit
-
-  pub shifted-is : (q t : List ℕ) → q ≡ codedFrom s → t ≡ shift h q → t ≡ shift h (newestPair n h P p)
-  unfolding newestPair codedFrom
-  shifted-is q t eq et = et ∙ ap (shift h) (eq ∙ coded-gathered (repairedWord n h P p) (bit s) repaired-bit)
-
-pub ruleset gathered = (encoded-by-words, payload-by-words, shifted-is)

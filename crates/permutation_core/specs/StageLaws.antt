@@ -1,96 +1,189 @@
 -- Laws of the stages: what code puts in each bit row, and where the bits go in four stages, computed at the 256 places of a block.
 -- Assumes nothing.
-use mathlib.Core.Path.{_≡_, refl, sym, ap, _∙_}
+use mathlib.Core.Path.{_≡_, refl, sym, ap, ap₂, _∙_}
 use mathlib.Core.Bool.{Bool}
 use mathlib.Core.List.{List}
 use Prim.Native.Nat.{ℕ, zero, suc, _+_, _-_, _*_, _/_, _%_, _^_, _<_, _≤_}
-use native.Mathlib.Nat.{one-mul}
+use native.Mathlib.Nat.{one-mul, zero-mul, mul-assoc, mod-lt}
 use native.Mathlib.Omega.{arith}
-use lib.Dec.{T, ltb, leb, ltb→lt, leb→le}
+use native.Mathlib.Decide.{decLt}
+use lib.Bits.{bitAnd, bitXor, and-zero-r, and-le-r, xor-comm, xor-lt, xor-zero-r, shifted-even}
+use lib.Dec.{T, ltb, leb, eqb, ltb→lt, leb→le, eqb→eq}
 use lib.ListN.{getD}
-use lib.Pow.{shr-shr, shl-shr, field, mod-mod-pow}
+use lib.Pow.{shr-shr, shl-shr, field, mod-mod-pow, pow-add, pow-pos}
 use Rattle.bits.specs.Bits.{bitOf, fromBits}
 use Rattle.bits.specs.BitLaws.{bitOf-lt, fromBits-ext, fromBits-bitOf}
 use Rattle.bits.specs.Tests.{every, each, both, both-left, both-right}
 use Rattle.bits.specs.Xor.{_⊕_}
 use Rattle.blocks.specs.Block.{bitAt, rowWord, block}
 use Rattle.blocks.specs.Moves.{pick, chosen, moved, transposed}
-use Rattle.blocks.specs.MoveLaws.{Moves, moves-same, moves-then}
-use Rattle.permutation_core.specs.Stages.{own, other, rowsStage, columnsColumn, columnsStage, crossRow, crossColumn, crossStage}
+use Rattle.blocks.specs.MoveLaws.{Moves, moves-same, moves-then, bitOf-xor, bitOf-and, choose-bit}
+use Rattle.permutation_core.specs.Stages.{own, other, rowsStage, columnsColumn, columnsStage, crossedFirst, crossedSecond, crossRow, crossColumn, crossStage}
 use Rattle.blocks.specs.Exchanges.{rowsExchanged, columnsExchanged}
 
--- ---- a row chosen by a mask
+-- ---- numbers shifted, over their width w
 
 -- What is shifted to the right comes from the left, and the other way.
-shr-bit : (x n c : ℕ) → n ≤ c → c < 16 → bitOf 16 (x / 2 ^ n) c ≡ bitOf 16 x (c - n)
+pub shr-bit : (w x n c : ℕ) → n ≤ c → c < w → bitOf w (x / 2 ^ n) c ≡ bitOf w x (c - n)
 unfolding bitOf
-shr-bit x n c h l =
-    let e : n + (16 - 1 - c) ≡ 16 - 1 - (c - n) = omega arith in
-    ap (λ u. u % 2) (shr-shr x n (16 - 1 - c)) ∙ ap (λ k. x / 2 ^ k % 2) e
+shr-bit w x n c h l =
+    let e : n + (w - 1 - c) ≡ w - 1 - (c - n) = omega arith in
+    ap (λ u. u % 2) (shr-shr x n (w - 1 - c)) ∙ ap (λ k. x / 2 ^ k % 2) e
 
-shl-bit : (x n c : ℕ) → c + n < 16 → bitOf 16 (x * 2 ^ n % 2 ^ 16) c ≡ bitOf 16 x (c + n)
+pub cut-bit : (w x c : ℕ) → c < w → bitOf w (x % 2 ^ w) c ≡ bitOf w x c
 unfolding bitOf
-shl-bit x n c h =
-    let w : 16 ≡ (c + 1) + (16 - 1 - c) = omega arith in
-    let e : 16 - 1 - c ≡ n + (16 - 1 - (c + n)) = omega arith in
-    ap (λ k. x * 2 ^ n % 2 ^ k / 2 ^ (16 - 1 - c) % 2) w
-    ∙ ap (λ u. u % 2) (field (x * 2 ^ n) (c + 1) (16 - 1 - c))
-    ∙ mod-mod-pow (x * 2 ^ n / 2 ^ (16 - 1 - c)) c 1
-    ∙ ap (λ k. x * 2 ^ n / 2 ^ k % 2) e
-    ∙ ap (λ u. u % 2) (shifted ∙ ap (λ u. u / 2 ^ (16 - 1 - (c + n))) (shl-shr x n))
+cut-bit w x c l =
+    let e : w ≡ (c + 1) + (w - 1 - c) = omega arith in
+    ap (λ k. x % 2 ^ k / 2 ^ (w - 1 - c) % 2) e ∙ ap (λ u. u % 2) (field x (c + 1) (w - 1 - c)) ∙ mod-mod-pow (x / 2 ^ (w - 1 - c)) c 1
+
+shl-bit : (w x n c : ℕ) → c + n < w → bitOf w (x * 2 ^ n % 2 ^ w) c ≡ bitOf w x (c + n)
+unfolding bitOf
+shl-bit w x n c h =
+    let e : w - 1 - c ≡ n + (w - 1 - (c + n)) = omega arith in
+    cut-bit w (x * 2 ^ n) c (omega arith) ∙ ap (λ k. x * 2 ^ n / 2 ^ k % 2) e
+    ∙ ap (λ u. u % 2) (sym (shr-shr (x * 2 ^ n) n (w - 1 - (c + n))) ∙ ap (λ u. u / 2 ^ (w - 1 - (c + n))) (shl-shr x n))
+
+-- Behind what was shifted there are zeros.
+even : (x k j : ℕ) → x * 2 ^ (suc j + k) / 2 ^ k % 2 ≡ 0
+even x k j =
+    ap (λ u. u / 2 ^ k % 2) (ap (λ u. x * u) (pow-add 2 (suc j) k) ∙ sym (mul-assoc x (2 ^ suc j) (2 ^ k)))
+    ∙ ap (λ u. u % 2) (shl-shr (x * 2 ^ suc j) k) ∙ shifted-even x j
+
+shl-zero : (w x n c : ℕ) → c < w → w ≤ c + n → bitOf w (x * 2 ^ n % 2 ^ w) c ≡ 0
+unfolding bitOf
+shl-zero w x n c l h =
+    let e : n ≡ suc (n - (w - c)) + (w - 1 - c) = omega arith in
+    cut-bit w (x * 2 ^ n) c l ∙ ap (λ k. x * 2 ^ k / 2 ^ (w - 1 - c) % 2) e ∙ even x (w - 1 - c) (n - (w - c))
+
+-- ---- the columns of a mask
+
+-- Where the mask is set a shift to the right has somewhere to come from, and where it is not a shift to the left; of two columns n apart it
+-- has one.
+pub record Mask (w m n : ℕ) : Type 0 where
+  pub right : (c : ℕ) → c < w → bitOf w m c ≡ 1 → n ≤ c
+  pub left : (c : ℕ) → c < w → bitOf w m c ≡ 0 → c + n < w
+  pub across : (c : ℕ) → c + n < w → bitOf w m (c + n) ≡ 1 - bitOf w m c
+
+abbrev pub ends : ℕ → ℕ → ℕ → ℕ → Bool
+ends w m n c = both (leb (bitOf w m c * n) c) (ltb (c + n) (w + bitOf w m c * w))
+
+abbrev pub masks : ℕ → ℕ → ℕ → Bool
+masks w m n = both (every w (ends w m n)) (every (w - n) (λ c. eqb (bitOf w m (c + n)) (1 - bitOf w m c)))
+
+pub mask-of : (w m n : ℕ) → T (masks w m n) → Mask w m n
+mask-of w m n t =
+    record {
+      right = λ c l e.
+          let h = leb→le (bitOf w m c * n) c (both-left (leb (bitOf w m c * n) c) (ltb (c + n) (w + bitOf w m c * w)) (holds c l)) in
+          rw (e, one-mul n) at h;
+      left = λ c l e.
+          let h = ltb→lt (c + n) (w + bitOf w m c * w) (both-right (leb (bitOf w m c * n) c) (ltb (c + n) (w + bitOf w m c * w)) (holds c l)) in
+          omega (arith, rw (e, zero-mul w) at h);
+      across = λ c l.
+          eqb→eq (bitOf w m (c + n)) (1 - bitOf w m c) (each (w - n) (λ c. eqb (bitOf w m (c + n)) (1 - bitOf w m c)) (both-right (every w (ends w m n)) (every (w - n) (λ c. eqb (bitOf w m (c + n)) (1 - bitOf w m c))) t) c (omega arith));
+    }
   where
-    shifted : x * 2 ^ n / 2 ^ (n + (16 - 1 - (c + n))) ≡ x * 2 ^ n / 2 ^ n / 2 ^ (16 - 1 - (c + n))
-    shifted = sym (shr-shr (x * 2 ^ n) n (16 - 1 - (c + n)))
+    holds : (c : ℕ) → c < w → T (ends w m n c)
+    holds = each w (ends w m n) (both-left (every w (ends w m n)) (every (w - n) (λ c. eqb (bitOf w m (c + n)) (1 - bitOf w m c))) t)
+
+pub mask8 : Mask 16 255 8
+unfolding bitOf
+mask8 = mask-of 16 255 8 tt
+
+pub mask4 : Mask 16 3855 4
+unfolding bitOf
+mask4 = mask-of 16 3855 4 tt
+
+pub mask2 : Mask 16 13107 2
+unfolding bitOf
+mask2 = mask-of 16 13107 2 tt
+
+pub mask1 : Mask 16 21845 1
+unfolding bitOf
+mask1 = mask-of 16 21845 1 tt
+
+-- By the digit of a mask.
+by-mask : {A : Type 0} (w m c : ℕ) → (bitOf w m c ≡ 1 → A) → (bitOf w m c ≡ 0 → A) → A
+by-mask {A} w m c yes-is no-is = go (bitOf w m c) refl (bitOf-lt w m c)
+  where
+    go : (t : ℕ) → bitOf w m c ≡ t → t < 2 → A
+    go zero e l = no-is e
+    go (suc zero) e l = yes-is e
+    go (suc (suc t)) e l = absurd (omega arith)
+
+-- ---- two numbers whose columns change places, as code does it: those of m of the first, and those n before them of the second
+
+module _ (w m n x y : ℕ) (k : Mask w m n) where
+  abbrev differing : ℕ
+  differing = bitAnd (bitXor x (y / 2 ^ n)) m
+
+  differing-bit : (c : ℕ) → bitOf w differing c ≡ bitAnd (bitXor (bitOf w x c) (bitOf w (y / 2 ^ n) c)) (bitOf w m c)
+  differing-bit c = bitOf-and w (bitXor x (y / 2 ^ n)) m c ∙ ap (λ u. bitAnd u (bitOf w m c)) (bitOf-xor w x (y / 2 ^ n) c)
+
+  -- A digit with what differs added: the other one where the mask is set.
+  other-one : (u v : ℕ) → u < 2 → v < 2 → bitXor v (bitAnd (bitXor u v) 1) ≡ u
+  unfolding pick
+  other-one u v lu lv = choose-bit 1 u v (omega arith) lu lv
+
+  first-in : (c : ℕ) → c < w → bitOf w m c ≡ 1 → bitOf w (bitXor x differing) c ≡ bitOf w y (c - n)
+  first-in c l e =
+      bitOf-xor w x differing c ∙ ap (bitXor (bitOf w x c)) (differing-bit c ∙ ap₂ bitAnd (xor-comm (bitOf w x c) (bitOf w (y / 2 ^ n) c)) e)
+      ∙ other-one (bitOf w (y / 2 ^ n) c) (bitOf w x c) (bitOf-lt w (y / 2 ^ n) c) (bitOf-lt w x c) ∙ shr-bit w y n c (k .right c l e) l
+
+  first-out : (c : ℕ) → bitOf w m c ≡ 0 → bitOf w (bitXor x differing) c ≡ bitOf w x c
+  first-out c e =
+      bitOf-xor w x differing c
+      ∙ ap (bitXor (bitOf w x c)) (differing-bit c ∙ ap (bitAnd (bitXor (bitOf w x c) (bitOf w (y / 2 ^ n) c))) e ∙ and-zero-r (bitXor (bitOf w x c) (bitOf w (y / 2 ^ n) c)))
+      ∙ xor-zero-r (bitOf w x c)
+
+  second-out : (c : ℕ) → c < w → bitOf w m c ≡ 0 → bitOf w (bitXor y (differing * 2 ^ n % 2 ^ w)) c ≡ bitOf w x (c + n)
+  second-out c l e =
+      let h = k .left c l e in
+      let back : c + n - n ≡ c = omega arith in
+      let own : bitOf w (y / 2 ^ n) (c + n) ≡ bitOf w y c = shr-bit w y n (c + n) (omega arith) h ∙ ap (bitOf w y) back in
+      bitOf-xor w y (differing * 2 ^ n % 2 ^ w) c
+      ∙ ap (bitXor (bitOf w y c))
+      (shl-bit w differing n c h ∙ differing-bit (c + n) ∙ ap₂ (λ u v. bitAnd (bitXor (bitOf w x (c + n)) u) v) own (k .across c h ∙ ap (λ u. 1 - u) e))
+      ∙ other-one (bitOf w x (c + n)) (bitOf w y c) (bitOf-lt w x (c + n)) (bitOf-lt w y c)
+
+  second-in : (c : ℕ) → c < w → bitOf w m c ≡ 1 → bitOf w (bitXor y (differing * 2 ^ n % 2 ^ w)) c ≡ bitOf w y c
+  second-in c l e =
+      bitOf-xor w y (differing * 2 ^ n % 2 ^ w) c ∙ ap (bitXor (bitOf w y c)) (go (decLt (c + n) w)) ∙ xor-zero-r (bitOf w y c)
+    where
+      go : Dec (c + n < w) → bitOf w (differing * 2 ^ n % 2 ^ w) c ≡ 0
+      go (yes h) =
+          shl-bit w differing n c h ∙ differing-bit (c + n)
+          ∙ ap (bitAnd (bitXor (bitOf w x (c + n)) (bitOf w (y / 2 ^ n) (c + n)))) (k .across c h ∙ ap (λ u. 1 - u) e)
+          ∙ and-zero-r (bitXor (bitOf w x (c + n)) (bitOf w (y / 2 ^ n) (c + n)))
+      go (no h) = shl-zero w differing n c l (omega arith)
+
+  -- As code has them.
+  pub crossed-first : x < 2 ^ w → m < 2 ^ w → bitXor x differing ≡ crossedFirst w m n x y
+  unfolding crossedFirst pick
+  crossed-first lx lm =
+      let h = and-le-r (bitXor x (y / 2 ^ n)) m in
+      sym (fromBits-bitOf w (bitXor x differing) (xor-lt w x differing lx (omega arith)))
+      ∙ fromBits-ext w (bitOf w (bitXor x differing)) (λ c. pick (bitOf w m c) (bitOf w y (c - n)) (bitOf w x c))
+      (λ c l. ap (λ u. u % 2) (by-mask w m c (λ e. rw e (first-in c l e)) (λ e. rw e (first-out c e))))
+
+  pub crossed-second : y < 2 ^ w → bitXor y (differing * 2 ^ n % 2 ^ w) ≡ crossedSecond w m n x y
+  unfolding crossedSecond pick
+  crossed-second ly =
+      sym (fromBits-bitOf w (bitXor y (differing * 2 ^ n % 2 ^ w)) (xor-lt w y (differing * 2 ^ n % 2 ^ w) ly (mod-lt (differing * 2 ^ n) (pow-pos w))))
+      ∙ fromBits-ext w (bitOf w (bitXor y (differing * 2 ^ n % 2 ^ w))) (λ c. pick (bitOf w m c) (bitOf w y c) (bitOf w x (c + n)))
+      (λ c l. ap (λ u. u % 2) (by-mask w m c (λ e. rw e (second-in c l e)) (λ e. rw e (second-out c l e))))
+
+-- Numbers whose columns are chosen by a mask, by their bits.
+pub picked-bits : (w m : ℕ) (g h f : ℕ → ℕ) → ((c : ℕ) → c < w → bitOf w m c ≡ 1 → g c ≡ f c) → ((c : ℕ) → c < w → bitOf w m c ≡ 0 → h c ≡ f c)
+    → fromBits w (λ c. pick (bitOf w m c) (g c) (h c)) ≡ fromBits w f
+unfolding pick
+picked-bits w m g h f yes-is no-is =
+    fromBits-ext w (λ c. pick (bitOf w m c) (g c) (h c)) f (λ c l. ap (λ u. u % 2) (by-mask w m c (λ e. rw e (yes-is c l e)) (λ e. rw e (no-is c l e))))
 
 chosen-bits : (m x y : ℕ) (f : ℕ → ℕ) → ((c : ℕ) → c < 16 → bitOf 16 m c ≡ 1 → bitOf 16 x c ≡ f c)
     → ((c : ℕ) → c < 16 → bitOf 16 m c ≡ 0 → bitOf 16 y c ≡ f c) → chosen m x y ≡ fromBits 16 f
-unfolding chosen pick
-chosen-bits m x y f yes-is no-is =
-    fromBits-ext 16 (λ c. pick (bitOf 16 m c) (bitOf 16 x c) (bitOf 16 y c)) f
-    (λ c l. ap (λ u. u % 2) (go c (bitOf 16 m c) (bitOf-lt 16 m c) (yes-is c l) (no-is c l)))
-  where
-    go : (c t : ℕ) → t < 2 → (t ≡ 1 → bitOf 16 x c ≡ f c) → (t ≡ 0 → bitOf 16 y c ≡ f c) → pick t (bitOf 16 x c) (bitOf 16 y c) ≡ f c
-    go c zero l p q = q refl
-    go c (suc zero) l p q = p refl
-    go c (suc (suc t)) l p q = absurd (omega arith)
-
--- Where the mask is set a shift to the right has somewhere to come from, and where it is not a shift to the left.
-pub record Mask (m n : ℕ) : Type 0 where
-  pub right : (c : ℕ) → c < 16 → bitOf 16 m c ≡ 1 → n ≤ c
-  pub left : (c : ℕ) → c < 16 → bitOf 16 m c ≡ 0 → c + n < 16
-
-abbrev masks : ℕ → ℕ → Bool
-masks m n = every 16 (λ c. both (leb (bitOf 16 m c * n) c) (ltb (c + n) (16 + bitOf 16 m c * 16)))
-
-mask-of : (m n : ℕ) → T (masks m n) → Mask m n
-mask-of m n t =
-    record {
-      right = λ c l e.
-          let h = leb→le (bitOf 16 m c * n) c (both-left (leb (bitOf 16 m c * n) c) (ltb (c + n) (16 + bitOf 16 m c * 16)) (holds c l)) in
-          rw (e, one-mul n) at h;
-      left = λ c l e.
-          let h = ltb→lt (c + n) (16 + bitOf 16 m c * 16) (both-right (leb (bitOf 16 m c * n) c) (ltb (c + n) (16 + bitOf 16 m c * 16)) (holds c l)) in
-          omega (arith, h, e);
-    }
-  where
-    holds : (c : ℕ) → c < 16 → T (both (leb (bitOf 16 m c * n) c) (ltb (c + n) (16 + bitOf 16 m c * 16)))
-    holds = each 16 (λ c. both (leb (bitOf 16 m c * n) c) (ltb (c + n) (16 + bitOf 16 m c * 16))) t
-
-pub mask8 : Mask 255 8
-unfolding bitOf
-mask8 = mask-of 255 8 tt
-
-pub mask4 : Mask 3855 4
-unfolding bitOf
-mask4 = mask-of 3855 4 tt
-
-pub mask2 : Mask 13107 2
-unfolding bitOf
-mask2 = mask-of 13107 2 tt
-
-pub mask1 : Mask 21845 1
-unfolding bitOf
-mask1 = mask-of 21845 1 tt
+unfolding chosen
+chosen-bits m x y f yes-is no-is = picked-bits 16 m (bitOf 16 x) (bitOf 16 y) f yes-is no-is
 
 -- ---- the bit rows of a stage
 
@@ -109,31 +202,31 @@ module _ (b : List ℕ) (k x y t : ℕ) (p : x ≡ getD b k 0) (q : y ≡ getD b
       let h : (2 * k + 1) % 2 ≡ 1 = omega arith in
       e ∙ chosen-bits m x y (rowsStage m b (2 * k + 1)) (λ c l u. rw (u, h, d) (ap (λ v. bitOf 16 v c) p)) (λ c l u. rw (u, h, d) (ap (λ v. bitOf 16 v c) q))
 
-  module _ (m n : ℕ) (w : Mask m n) where
+  module _ (m n : ℕ) (w : Mask 16 m n) where
     pub columns-odd : t ≡ chosen m (y / 2 ^ n) (y * 2 ^ n % 2 ^ 16) → t ≡ rowWord (columnsStage m n b) (2 * k + 1)
     unfolding rowWord columnsStage columnsColumn bitAt own pick
     columns-odd e =
         let d : (2 * k + 1) / 2 ≡ k = omega arith in
         let h : (2 * k + 1) % 2 ≡ 1 = omega arith in
         e ∙ chosen-bits m (y / 2 ^ n) (y * 2 ^ n % 2 ^ 16) (columnsStage m n b (2 * k + 1))
-        (λ c l u. shr-bit y n c (w .right c l u) l ∙ rw (u, h, d) (ap (λ v. bitOf 16 v (c - n)) q))
-        (λ c l u. shl-bit y n c (w .left c l u) ∙ rw (u, h, d) (ap (λ v. bitOf 16 v (c + n)) q))
+        (λ c l u. shr-bit 16 y n c (w .right c l u) l ∙ rw (u, h, d) (ap (λ v. bitOf 16 v (c - n)) q))
+        (λ c l u. shl-bit 16 y n c (w .left c l u) ∙ rw (u, h, d) (ap (λ v. bitOf 16 v (c + n)) q))
 
-    pub cross-even : t ≡ chosen m (y / 2 ^ n) x → t ≡ rowWord (crossStage m n b) (2 * k)
-    unfolding rowWord crossStage crossRow crossColumn bitAt pick
-    cross-even e =
-        let d : 2 * k / 2 ≡ k = omega arith in
-        let h : 2 * k % 2 ≡ 0 = omega arith in
-        e ∙ chosen-bits m (y / 2 ^ n) x (crossStage m n b (2 * k))
-        (λ c l u. shr-bit y n c (w .right c l u) l ∙ rw (u, h, d) (ap (λ v. bitOf 16 v (c - n)) q)) (λ c l u. rw (u, h, d) (ap (λ v. bitOf 16 v c) p))
+  pub cross-even : (m n : ℕ) → t ≡ crossedFirst 16 m n x y → t ≡ rowWord (crossStage m n b) (2 * k)
+  unfolding rowWord crossStage crossRow crossColumn crossedFirst bitAt pick
+  cross-even m n e =
+      let d : 2 * k / 2 ≡ k = omega arith in
+      let h : 2 * k % 2 ≡ 0 = omega arith in
+      e ∙ picked-bits 16 m (λ c. bitOf 16 y (c - n)) (bitOf 16 x) (crossStage m n b (2 * k))
+      (λ c l u. rw (u, h, d) (ap (λ v. bitOf 16 v (c - n)) q)) (λ c l u. rw (u, h, d) (ap (λ v. bitOf 16 v c) p))
 
-    pub cross-odd : t ≡ chosen m y (x * 2 ^ n % 2 ^ 16) → t ≡ rowWord (crossStage m n b) (2 * k + 1)
-    unfolding rowWord crossStage crossRow crossColumn bitAt pick
-    cross-odd e =
-        let d : (2 * k + 1) / 2 ≡ k = omega arith in
-        let h : (2 * k + 1) % 2 ≡ 1 = omega arith in
-        e ∙ chosen-bits m y (x * 2 ^ n % 2 ^ 16) (crossStage m n b (2 * k + 1))
-        (λ c l u. rw (u, h, d) (ap (λ v. bitOf 16 v c) q)) (λ c l u. shl-bit x n c (w .left c l u) ∙ rw (u, h, d) (ap (λ v. bitOf 16 v (c + n)) p))
+  pub cross-odd : (m n : ℕ) → t ≡ crossedSecond 16 m n x y → t ≡ rowWord (crossStage m n b) (2 * k + 1)
+  unfolding rowWord crossStage crossRow crossColumn crossedSecond bitAt pick
+  cross-odd m n e =
+      let d : (2 * k + 1) / 2 ≡ k = omega arith in
+      let h : (2 * k + 1) % 2 ≡ 1 = omega arith in
+      e ∙ picked-bits 16 m (bitOf 16 y) (λ c. bitOf 16 x (c + n)) (crossStage m n b (2 * k + 1))
+      (λ c l u. rw (u, h, d) (ap (λ v. bitOf 16 v c) q)) (λ c l u. rw (u, h, d) (ap (λ v. bitOf 16 v (c + n)) p))
 
 pub columns-even : (b : List ℕ) (m n k x : ℕ) → x ≡ getD b k 0 → x < 2 ^ 16 → x ≡ rowWord (columnsStage m n b) (2 * k)
 unfolding rowWord columnsStage columnsColumn bitAt own pick
@@ -142,6 +235,8 @@ columns-even b m n k x p l =
     let h : 2 * k % 2 ≡ 0 = omega arith in
     sym (fromBits-bitOf 16 x l)
     ∙ fromBits-ext 16 (bitOf 16 x) (columnsStage m n b (2 * k)) (λ c lc. ap (λ u. u % 2) (rw (h, d) (ap (λ v. bitOf 16 v c) p)))
+
+pub ruleset crossing = (crossed-first, crossed-second)
 
 pub ruleset stage-rows = (rows-even, rows-odd, columns-even, columns-odd, cross-even, cross-odd)
 

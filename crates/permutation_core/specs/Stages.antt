@@ -3,7 +3,7 @@
 -- Assumes nothing.
 use mathlib.Core.List.{List}
 use Prim.Native.Nat.{ℕ, _+_, _-_, _/_, _%_}
-use Rattle.bits.specs.Bits.{bitOf}
+use Rattle.bits.specs.Bits.{bitOf, fromBits}
 use Rattle.blocks.specs.Block.{bitAt}
 use Rattle.blocks.specs.Moves.{pick}
 
@@ -25,7 +25,14 @@ columnsColumn m n i c = pick (i % 2) (pick (bitOf 16 m c) (c - n) (c + n)) c
 unfoldable pub columnsStage : ℕ → ℕ → List ℕ → ℕ → ℕ → ℕ
 columnsStage m n b i c = bitAt b (own i) (columnsColumn m n i c)
 
--- The columns of m of the first of two bit rows change places with those n before them of the second.
+-- Two numbers of w bits, x and y: the columns of m of the first change places with those n before them of the second.
+unfoldable pub crossedFirst : ℕ → ℕ → ℕ → ℕ → ℕ → ℕ
+crossedFirst w m n x y = fromBits w (λ c. pick (bitOf w m c) (bitOf w y (c - n)) (bitOf w x c))
+
+unfoldable pub crossedSecond : ℕ → ℕ → ℕ → ℕ → ℕ → ℕ
+crossedSecond w m n x y = fromBits w (λ c. pick (bitOf w m c) (bitOf w y c) (bitOf w x (c + n)))
+
+-- So do those of two bit rows of a block.
 unfoldable pub crossRow : ℕ → ℕ → ℕ → ℕ
 crossRow m i c = pick (bitOf 16 m c) (8 + i / 2) (i / 2)
 

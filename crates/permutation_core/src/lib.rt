@@ -7,8 +7,10 @@ ghost use lib.ListN.{getD};
 ghost use Rattle.blocks.specs.Block.{block};
 ghost use Rattle.blocks.specs.Moves.{transposed};
 ghost use Rattle.blocks.specs.Exchanges.{rowsExchanged, columnsExchanged};
-ghost use Rattle.permutation_core.specs.Stages.{rowsStage, columnsStage, crossStage};
+ghost use Rattle.permutation_core.specs.Stages.{rowsStage, columnsStage, crossedFirst, crossedSecond, crossStage};
+ghost use Rattle.permutation_core.specs.Both.{sideBySide, crossBoth, BothTransposed};
 ghost use Rattle.permutation_core.specs.StageLaws.{Mask};
+ghost use Rattle.permutation_core.specs.BothLaws.{BothMask};
 
 // Two bit rows exchange the columns of m.
 fn rows_stage(b: [u16; 16], m: u16) -> [u16; 16]
@@ -36,7 +38,7 @@ fn bit_row(b: &[u16; 16], i: usize) -> u16
 
 // Of two bit rows the second exchanges the columns of m with those n before them.
 fn columns_stage(b: [u16; 16], m: u16, n: usize) -> [u16; 16]
-    requires { ⌜ Mask m n × (n < 16) ⌝ }
+    requires { ⌜ Mask 16 m n × (n < 16) ⌝ }
     ensures { λ r. ⌜ r ≡ block (columnsStage m n b) ⌝ }
 {
     let mut out = [0u16; 16];
@@ -50,9 +52,43 @@ fn columns_stage(b: [u16; 16], m: u16, n: usize) -> [u16; 16]
     out
 }
 
+// Two rows, and two numbers of 32 bits.
+struct Rows {
+    first: u16,
+    second: u16,
+}
+
+struct BothRows {
+    first: u32,
+    second: u32,
+}
+
+// The columns of m of the first change places with those n before them of the second.
+fn crossed(x: u16, y: u16, m: u16, n: usize) -> Rows
+    requires { ⌜ Mask 16 m n × (n < 16) ⌝ }
+    ensures { λ r. ⌜ (r .first ≡ crossedFirst 16 m n x y) × (r .second ≡ crossedSecond 16 m n x y) ⌝ }
+{
+    let d = (x ^ (y >> n)) & m;
+    Rows {
+        first: x ^ d,
+        second: y ^ (d << n),
+    }
+}
+
+fn crossed_both(x: u32, y: u32, m: u32, n: usize) -> BothRows
+    requires { ⌜ BothMask m n × (n < 16) ⌝ }
+    ensures { λ r. ⌜ (r .first ≡ crossedFirst 32 m n x y) × (r .second ≡ crossedSecond 32 m n x y) ⌝ }
+{
+    let d = (x ^ (y >> n)) & m;
+    BothRows {
+        first: x ^ d,
+        second: y ^ (d << n),
+    }
+}
+
 // The columns of m of the first of two bit rows change places with those n before them of the second.
 fn cross_stage(b: [u16; 16], m: u16, n: usize) -> [u16; 16]
-    requires { ⌜ Mask m n × (n < 16) ⌝ }
+    requires { ⌜ Mask 16 m n × (n < 16) ⌝ }
     ensures { λ r. ⌜ r ≡ block (crossStage m n b) ⌝ }
 {
     let mut out = [0u16; 16];
@@ -61,8 +97,27 @@ fn cross_stage(b: [u16; 16], m: u16, n: usize) -> [u16; 16]
         let j = i + 1;
         let x = b[k];
         let y = b[8 + k];
-        out[i] = choose(m, y >> n, x);
-        out[j] = choose(m, y, x << n);
+        let r = crossed(x, y, m, n);
+        out[i] = r.first;
+        out[j] = r.second;
+    }
+    out
+}
+
+// The same of two blocks side by side in numbers of 32 bits; m has the columns of both.
+fn cross_stage_both(b: [u32; 16], m: u32, n: usize) -> [u32; 16]
+    requires { ⌜ BothMask m n × (n < 16) ⌝ }
+    ensures { λ r. ⌜ r ≡ sideBySide (crossBoth m n b) ⌝ }
+{
+    let mut out = [0u32; 16];
+    for k in 0..8 {
+        let i = 2 * k;
+        let j = i + 1;
+        let x = b[k];
+        let y = b[8 + k];
+        let r = crossed_both(x, y, m, n);
+        out[i] = r.first;
+        out[j] = r.second;
     }
     out
 }
@@ -95,4 +150,14 @@ pub fn transpose(b: [u16; 16]) -> [u16; 16]
     let u = cross_stage(t, 0x0F0F, 4);
     let v = cross_stage(u, 0x3333, 2);
     cross_stage(v, 0x5555, 1)
+}
+
+// Two blocks side by side, each transposed.
+pub fn transpose_both(b: [u32; 16]) -> [u32; 16]
+    ensures { λ r. ⌜ BothTransposed b r ⌝ }
+{
+    let t = cross_stage_both(b, 0x00FF00FF, 8);
+    let u = cross_stage_both(t, 0x0F0F0F0F, 4);
+    let v = cross_stage_both(u, 0x33333333, 2);
+    cross_stage_both(v, 0x55555555, 1)
 }

@@ -1,3 +1,4 @@
 pub mod Tables
+pub mod Sets
 pub mod Mending
 pub mod MendingLaws

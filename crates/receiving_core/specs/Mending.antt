@@ -4,11 +4,11 @@
 use mathlib.Core.Path.{_≡_}
 use mathlib.Core.Bool.{Bool, cond}
 use mathlib.Core.List.{List}
-use Prim.Native.Nat.{ℕ, _+_, _-_, _*_, _/_, _%_, _≤_}
+use Prim.Native.Nat.{ℕ, _+_, _-_, _*_, _/_, _%_, _<_}
 use lib.Dec.{ltb, leb, eqb}
 use lib.ListN.{length, getD, set}
 use Rattle.bits.specs.Bits.{bit, bitOf, fromBits, pack, flipped}
-use Rattle.bits.specs.Filling.{Filling}
+use Rattle.bits.specs.Lists.{tabulate}
 use Rattle.bits.specs.Xor.{_⊕_}
 use Rattle.word_spec.specs.CodeWord.{Word}
 use Rattle.word_spec.specs.Repair.{repair, repaired, mark}
@@ -19,11 +19,19 @@ use Rattle.pair_spec.specs.History.{shift}
 use Rattle.pair_spec.specs.Pairs.{codedPair}
 use Rattle.pair_words_core.specs.Halves.{wordHalves, payloadIn}
 use Rattle.gathering_spec.specs.Sums.{Gathered, Parities}
+use Rattle.gathering_spec.specs.Collecting.{Collected}
 use Rattle.gathering_spec.specs.Dirty.{Dirty}
 
 -- A number of sixteen bits with bit j flipped.
 unfoldable pub flippedNumber : ℕ → ℕ → ℕ
 flippedNumber v j = fromBits 16 (flipped j (bitOf 16 v))
+
+-- The same where b is 1.
+unfoldable pub flippedIf : ℕ → ℕ → ℕ → ℕ
+flippedIf b v j = cond (eqb b 0) v (flippedNumber v j)
+
+unfoldable pub bufferFlippedIf : ℕ → ℕ → List ℕ → List ℕ
+bufferFlippedIf b i s = cond (eqb b 0) s (pack (length s) (flipped i (bit s)))
 
 -- The halves with bit k of word w flipped, if it is one of the back half.
 unfoldable pub flippedBack : ℕ → ℕ → List ℕ → List ℕ
@@ -52,32 +60,43 @@ pub record Holding (f : ℕ → Word) (halves coded : List ℕ) : Type 0 where
   pub halves-are : halves ≡ wordHalves f
   pub coded-is : coded ≡ codedPair f
 
--- Word w was handled by what was gathered, t, q and d: whatever words those are of, and whatever words halves and coded pair are of if word
--- w is the same, m is the mark of its repair, and halves and coded pair have it repaired.
-pub record Handled (t : List ℕ) (q d : ℕ) (front : Bool) (w : ℕ) (s c : List ℕ) (m : ℕ) (s′ c′ : List ℕ) : Type 0 where
-  pub done : (words : ℕ → Word) → ((u : ℕ) → Bits (words u)) → Gathered words t → Parities words q → Dirty words d
-      → (f : ℕ → Word) → ((u : ℕ) → Bits (f u)) → f w ≡ words w → Holding f s c
+-- Word w was handled by the numbers u of the words and their parities q: whatever words those are of, and whatever words halves and coded
+-- pair are of if word w is the same, m is the mark of its repair, and halves and coded pair have it repaired.
+pub record Handled (u : List ℕ) (q : ℕ) (front : Bool) (w : ℕ) (s c : List ℕ) (m : ℕ) (s′ c′ : List ℕ) : Type 0 where
+  pub done : (words : ℕ → Word) → ((v : ℕ) → Bits (words v)) → Collected words u → Parities words q
+      → (f : ℕ → Word) → ((v : ℕ) → Bits (f v)) → f w ≡ words w → Holding f s c
       → (m ≡ mark (repair front (words w))) × Holding (updated w (repaired (repair front (words w)) (words w)) f) s′ c′
 
 -- Each word repaired.
 unfoldable pub repairedBy : Bool → (ℕ → Word) → ℕ → Word
-repairedBy front words u = repaired (repair front (words u)) (words u)
+repairedBy front words v = repaired (repair front (words v)) (words v)
 
--- The first w of them are f's, the others g's.
-unfoldable pub upTo : ℕ → (ℕ → Word) → (ℕ → Word) → ℕ → Word
-upTo w f g u = cond (ltb u w) (f u) (g u)
+-- Of the words of a set the first, of the others the second.
+unfoldable pub inSet : {A : Type 0} → ℕ → (ℕ → A) → (ℕ → A) → ℕ → A
+inSet left f g v = cond (eqb (bitOf 32 left v) 1) (f v) (g v)
 
--- The first w words were handled so: their marks are put, and halves and coded pair have them repaired.
-pub record HandledTo (t : List ℕ) (q d : ℕ) (front : Bool) (w : ℕ) (s c marks s′ c′ : List ℕ) : Type 0 where
-  pub upto : w ≤ 32
-  pub long : length marks ≡ 32
-  pub done : (words : ℕ → Word) → ((u : ℕ) → Bits (words u)) → Gathered words t → Parities words q → Dirty words d → Holding words s c
-      → Filling (λ i. mark (repair front (words i))) 32 w marks × Holding (upTo w (repairedBy front words) words) s′ c′
+-- The words of a set were handled so, and the others are as they were.
+pub record HandledSet (u : List ℕ) (q : ℕ) (front : Bool) (left : ℕ) (s c ms s′ c′ ms′ : List ℕ) : Type 0 where
+  pub long : length ms′ ≡ length ms
+  pub done : (words : ℕ → Word) → ((v : ℕ) → Bits (words v)) → Collected words u → Parities words q
+      → (f : ℕ → Word) → ((v : ℕ) → Bits (f v)) → ((v : ℕ) → v < 32 → bitOf 32 left v ≡ 1 → f v ≡ words v) → Holding f s c
+      → ((v : ℕ) → v < 32 → getD ms′ v 0 ≡ inSet left (λ v. mark (repair front (words v))) (λ v. getD ms v 0) v)
+      × Holding (inSet left (repairedBy front words) f) s′ c′
+
+-- All that are no code words, d, were: the marks of all words are put, and halves and coded pair have them repaired.
+pub record HandledDirty (u : List ℕ) (q d : ℕ) (front : Bool) (s c ms s′ c′ : List ℕ) : Type 0 where
+  pub done : (words : ℕ → Word) → ((v : ℕ) → Bits (words v)) → Collected words u → Parities words q → Dirty words d → Holding words s c
+      → (ms ≡ tabulate 32 (λ v. mark (repair front (words v)))) × Holding (repairedBy front words) s′ c′
+
+-- The same by the sums.
+pub record HandledAll (t : List ℕ) (q d : ℕ) (front : Bool) (s c ms s′ c′ : List ℕ) : Type 0 where
+  pub done : (words : ℕ → Word) → ((v : ℕ) → Bits (words v)) → Gathered words t → Parities words q → Dirty words d → Holding words s c
+      → (ms ≡ tabulate 32 (λ v. mark (repair front (words v)))) × Holding (repairedBy front words) s′ c′
 
 -- What a pair with repairs leaves: marks, and payload and history from the words repaired.
 pub record Repaired (t : List ℕ) (q d P : ℕ) (p s h y ms g : List ℕ) : Type 0 where
   pub halves : List ℕ
   pub coded : List ℕ
-  pub handled : HandledTo t q d (leb 10 P) 32 s p ms halves coded
+  pub handled : HandledAll t q d (leb 10 P) s p ms halves coded
   pub payload : y ≡ payloadIn halves
   pub history : g ≡ shift h coded

@@ -2,25 +2,27 @@
 -- Assumes nothing.
 use mathlib.Core.Path.{_≡_, refl, sym, ap, ap₂, _∙_}
 use mathlib.Core.Bool.{Bool, true, false, cond}
-use mathlib.Core.List.{List}
+use mathlib.Core.List.{List, _++_, append-nil}
 use mathlib.Core.Logic.{_≢_}
 use Prim.Native.Nat.{ℕ, zero, suc, _+_, _-_, _*_, _/_, _%_, _^_, _<_, _≤_}
-use native.Mathlib.Nat.{one-mul}
+use native.Mathlib.Nat.{zero-mul, one-mul}
 use native.Mathlib.Omega.{arith}
 use native.Mathlib.Decide.{ℕ-discrete, decLt}
+use borrow.Rule.Slice.PartMut.{putMid}
 use borrow.Author.Tests.{lt-ltb, le-ltb, eq-eqb, ne-eqb, le-leb, lt-leb}
 use lib.Dec.{ltb, leb, eqb, lit<}
-use lib.ListN.{length, getD, set, length-set}
+use lib.ListN.{length, getD, set, take, drop, length-set, length-drop, drop-of-length-le}
 use lib.Pow.{shl-exact, pow-lt}
-use lib.Seq.{getD-set-same, getD-set-other}
+use lib.Seq.{getD-set-same, getD-set-other, set-getD, take-all, take-append-seam, drop-append-seam, drop-append-le}
 use Rattle.bits.specs.Bits.{bitOf, bit, fromBits, pack, flipped}
 use Rattle.bits.specs.BitLaws.{length-pack, pack-ext, pack-bit, bit-pack, bitOf-lt, bitOf-fromBits, fromBits-ext, fromBits-bitOf, flipped-at, flipped-off}
-use Rattle.bits.specs.Filling.{Filling, fill-none, fill-more, fill-done}
+use Rattle.bits.specs.FlipLaws.{flip-byte}
 use Rattle.bits.specs.Lists.{tabulate}
+use Rattle.bits.specs.Parts.{part}
 use Rattle.bits.specs.ListLaws.{length-tabulate, getD-tabulate, is-tabulate, tabulate-ext}
 use Rattle.bits.specs.Tests.{grid}
 use Rattle.bits.specs.Xor.{_⊕_}
-use Rattle.bits.specs.XorLaws.{⊕-zero, ⊕-lt}
+use Rattle.bits.specs.XorLaws.{⊕-self, ⊕-zero, zero-⊕, ⊕-lt}
 use Rattle.word_spec.specs.CodeWord.{Word, CodeWord}
 use Rattle.word_spec.specs.Repair.{repair, repaired, places, flipAll, mark}
 use Rattle.word_spec.specs.RepairLaws.{Bits, repaired-bits, flipped-ext}
@@ -44,12 +46,13 @@ use Rattle.pair_words_core.specs.WordBits.{held-back}
 use Rattle.gathering_spec.specs.NetworkLaws.{bitOf-⊕}
 use Rattle.gathering_spec.specs.Sums.{Gathered, Parities}
 use Rattle.gathering_spec.specs.Dirty.{Dirty, Joining, dirty-of, zero-digit}
-use Rattle.gathering_spec.specs.Collecting.{collected, syndromes-collected}
+use Rattle.gathering_spec.specs.Collecting.{syndromesIn, ByWords, Collected, by-words-collected, syndromes-collected}
 use Rattle.gathering_core.specs.Held.{halvesWord}
 use Rattle.gathering_core.specs.HeldLaws.{halves-held, gathered-held, parities-held}
 use Rattle.gathering_core.specs.RowWords.{codedHalves}
-use Rattle.receiving_core.specs.Mending.{flippedNumber, flippedBack, codedBit, flippedCoded, mendedBy, updated, Holding, Handled}
-use Rattle.receiving_core.specs.Mending.{repairedBy, upTo, HandledTo, Repaired}
+use Rattle.receiving_core.specs.Sets.{Removed}
+use Rattle.receiving_core.specs.Mending.{flippedNumber, flippedIf, bufferFlippedIf, flippedBack, codedBit, flippedCoded, mendedBy, updated, Holding}
+use Rattle.receiving_core.specs.Mending.{repairedBy, inSet, Handled, HandledSet, HandledDirty, HandledAll, Repaired}
 
 -- ---- a number with one bit flipped, as code does it
 
@@ -79,25 +82,53 @@ flip-number v j lv lj =
     here c lc (no n) =
         digit c lc ∙ ap (λ u. bitOf 16 v c ⊕ u) (simp (ne-eqb c j n)) ∙ ⊕-zero (bitOf 16 v c) ∙ sym (flipped-off j (bitOf 16 v) c n)
 
--- As code finds the number.
-pub flipped-front : (w k : ℕ) (s : List ℕ) → k < 128 → s ≡ flippedBack w k s
-unfolding flippedBack
-flipped-front w k s l = simp (lt-ltb k 128 l)
+pub flip-number-if : (v j b : ℕ) → v < 2 ^ 16 → j < 16 → b < 2 → v ⊕ (b * 2 ^ (15 - j) % 2 ^ 16) ≡ flippedIf b v j
+unfolding flippedIf
+flip-number-if v j zero lv lj lb = ap (λ m. v ⊕ (m % 2 ^ 16)) (zero-mul (2 ^ (15 - j))) ∙ ⊕-zero v
+flip-number-if v j (suc zero) lv lj lb = flip-number v j lv lj
+flip-number-if v j (suc (suc b)) lv lj lb = absurd (omega arith)
 
-pub flipped-set : (w k n v u : ℕ) (s : List ℕ) → 128 ≤ k → n ≡ 8 * w + (k - 128) / 16 → v ≡ getD s n 0 → u ≡ flippedNumber v (k % 16)
+-- As code finds the number.
+pub flipped-set : (w k n v u b : ℕ) (s : List ℕ) → k < 256 → n ≡ 8 * w + k % 128 / 16 → v ≡ getD s n 0 → b ≡ k / 128 % 2 → u ≡ flippedIf b v (k % 16)
     → set s n u ≡ flippedBack w k s
-unfolding flippedBack
-flipped-set w k n v u s l en ev eu = sym (simp (le-ltb k 128 l) (rw (← en, ← ev, eu) refl))
+unfolding flippedBack flippedIf
+flipped-set w k n v u b s lk en ev eb eu = go (decLt k 128)
+  where
+    go : Dec (k < 128) → set s n u ≡ cond (ltb k 128) s (set s (8 * w + (k - 128) / 16) (flippedNumber (getD s (8 * w + (k - 128) / 16) 0) (k % 16)))
+    go (yes l) =
+        let z : b ≡ 0 = omega arith in
+        let same : cond (eqb b 0) v (flippedNumber v (k % 16)) ≡ v = simp (eq-eqb b 0 z) in
+        ap (set s n) (eu ∙ same ∙ ev) ∙ set-getD s n 0 ∙ sym (simp (lt-ltb k 128 l))
+    go (no l) =
+        let z : b ≢ 0 = λ e. omega arith in
+        let i : n ≡ 8 * w + (k - 128) / 16 = omega arith in
+        let turned : cond (eqb b 0) v (flippedNumber v (k % 16)) ≡ flippedNumber v (k % 16) = simp (ne-eqb b 0 z) in
+        ap (set s n) (eu ∙ turned) ∙ sym (simp (le-ltb k 128 (omega arith)) (rw (← i, ← ev) refl))
 
 -- The same of a coded pair.
-pub coded-front : (w k : ℕ) (c : List ℕ) → k < 128 → c ≡ flippedCoded w k c
-unfolding flippedCoded
-coded-front w k c l = simp (lt-ltb k 128 l)
+pub buffer-flip : (s : List ℕ) (i b : ℕ) → i < length s * 8 → ((j : ℕ) → getD s j 0 < 256) → b < 2
+    → set s (i / 8) (getD s (i / 8) 0 ⊕ (b * 2 ^ (7 - i % 8) % 256)) ≡ bufferFlippedIf b i s
+unfolding bufferFlippedIf
+buffer-flip s i zero li small lb =
+    ap (λ m. set s (i / 8) (getD s (i / 8) 0 ⊕ (m % 256))) (zero-mul (2 ^ (7 - i % 8))) ∙ ap (set s (i / 8)) (⊕-zero (getD s (i / 8) 0)) ∙ set-getD s (i / 8) 0
+buffer-flip s i (suc zero) li small lb = flip-byte s i li small
+buffer-flip s i (suc (suc b)) li small lb = absurd (omega arith)
 
-pub coded-set : (w k x i : ℕ) (c a : List ℕ) → 128 ≤ k → x ≡ (k % 16) ⊕ (w % 16) → i ≡ 128 * w + (k - 128) / 16 * 16 + x
-    → a ≡ pack (length c) (flipped i (bit c)) → a ≡ flippedCoded w k c
-unfolding flippedCoded codedBit
-coded-set w k x i c a l ex ei ea = ea ∙ sym (simp (le-ltb k 128 l) (rw (ei, ex) refl))
+pub coded-set : (w k x i b : ℕ) (c a : List ℕ) → k < 256 → x ≡ (k % 16) ⊕ (w % 16) → i ≡ 128 * w + k % 128 / 16 * 16 + x → b ≡ k / 128 % 2
+    → a ≡ bufferFlippedIf b i c → a ≡ flippedCoded w k c
+unfolding flippedCoded codedBit bufferFlippedIf
+coded-set w k x i b c a lk ex ei eb ea = go (decLt k 128)
+  where
+    go : Dec (k < 128) → a ≡ cond (ltb k 128) c (pack (length c) (flipped (128 * w + (k - 128) / 16 * 16 + ((k % 16) ⊕ (w % 16))) (bit c)))
+    go (yes l) =
+        let z : b ≡ 0 = omega arith in
+        let same : cond (eqb b 0) c (pack (length c) (flipped i (bit c))) ≡ c = simp (eq-eqb b 0 z) in
+        ea ∙ same ∙ sym (simp (lt-ltb k 128 l))
+    go (no l) =
+        let z : b ≢ 0 = λ e. omega arith in
+        let n : 128 * w + (k - 128) / 16 * 16 + x ≡ i = omega arith in
+        let turned : cond (eqb b 0) c (pack (length c) (flipped i (bit c))) ≡ pack (length c) (flipped i (bit c)) = simp (ne-eqb b 0 z) in
+        ea ∙ turned ∙ sym (simp (le-ltb k 128 (omega arith)) (rw (← ex, n) refl))
 
 pub coded-long : (w k : ℕ) (c a : List ℕ) → length c ≡ 512 → a ≡ flippedCoded w k c → length a ≡ 512
 unfolding flippedCoded
@@ -107,7 +138,7 @@ coded-long w k c a l e = ap length e ∙ go (ltb k 128)
     go true = l
     go false = length-pack (length c) (flipped (codedBit w k) (bit c)) ∙ l
 
-pub ruleset flipping = (flipped-front, flipped-set, coded-front, coded-set)
+pub ruleset flipping = (flipped-set, coded-set)
 
 -- ---- halves of words
 
@@ -377,27 +408,13 @@ stays : (w : Word) → repaired Sound w ≡ w
 unfolding repaired places flipAll
 stays w = refl
 
--- A word that is a code word needs none.
-pub handled-clean : (t : List ℕ) (q d : ℕ) (front : Bool) (w : ℕ) (s c : List ℕ) → w < 32 → d / 2 ^ (31 - w) % 2 ≡ 0
-    → Handled t q d front w s c 0 s c
-unfolding mark bitOf
-handled-clean t q d front w s c lw z =
+pub handled-mended : (u : List ℕ) (q : ℕ) (front : Bool) (w : ℕ) (s c : List ℕ) (y : Syndromes) (r : Repair) (m : ℕ) (a b : List ℕ) → w < 32
+    → y ≡ syndromesIn u q w → Told front y r → Inside r → m ≡ mark r → a ≡ mendedBy (flippedBack w) r s → b ≡ mendedBy (flippedCoded w) r c
+    → Handled u q front w s c m a b
+handled-mended u q front w s c y r m a b lw ey told inside em ea eb =
     record {
-      done = λ words bits g o dirty f fb same e.
-          let r = sound front (words w) (bits w) (dirty .clean w lw z) in
-          let v : repaired (repair front (words w)) (words w) ≡ f w = ap (λ r. repaired r (words w)) r ∙ stays (words w) ∙ sym same in (
-            sym (ap mark r),
-            holding-same (λ u k lu l m. sym (updated-same w (repaired (repair front (words w)) (words w)) f f (λ k l m. ap (λ (x : Word). x k) v) (λ u k lu n. refl) u k lu l m)) e,
-          );
-    }
-
-pub handled-mended : (t : List ℕ) (q d : ℕ) (front : Bool) (w : ℕ) (s c : List ℕ) (y : Syndromes) (r : Repair) (m : ℕ) (a b : List ℕ) → w < 32
-    → y ≡ collected t q w → Told front y r → Inside r → m ≡ mark r → a ≡ mendedBy (flippedBack w) r s → b ≡ mendedBy (flippedCoded w) r c
-    → Handled t q d front w s c m a b
-handled-mended t q d front w s c y r m a b lw ey told inside em ea eb =
-    record {
-      done = λ words bits g o dirty f fb same e.
-          let is : r ≡ repair front (words w) = told .told (words w) (bits w) (ey ∙ syndromes-collected g o w lw (bits w)) in
+      done = λ words bits g o f fb same e.
+          let is : r ≡ repair front (words w) = told .told (words w) (bits w) (ey ∙ syndromes-collected g o w lw) in
           let done = mended f fb w s c lw e r inside in
           let now-is = ap₂ (λ (x : Repair) (v : Word). updated w (repaired x v) f) is same in (
             em ∙ ap mark is,
@@ -405,64 +422,209 @@ handled-mended t q d front w s c y r m a b lw ey told inside em ea eb =
           );
     }
 
--- ---- all words
+-- ---- the words of a set
 
-module _ (front : Bool) (words : ℕ → Word) where
-  before : (w u : ℕ) → u < w → upTo w (repairedBy front words) words u ≡ repairedBy front words u
-  unfolding upTo
-  before w u l = simp (lt-ltb u w l)
+module _ {A : Type 0} (left : ℕ) (f g : ℕ → A) (v : ℕ) where
+  in-set : bitOf 32 left v ≡ 1 → inSet left f g v ≡ f v
+  unfolding inSet
+  in-set e = simp (eq-eqb (bitOf 32 left v) 1 e)
 
-  behind : (w u : ℕ) → w ≤ u → upTo w (repairedBy front words) words u ≡ words u
-  unfolding upTo
-  behind w u l = simp (le-ltb u w l)
+  off-set : bitOf 32 left v ≡ 0 → inSet left f g v ≡ g v
+  unfolding inSet
+  off-set e = let n : bitOf 32 left v ≢ 1 = λ o. omega arith in simp (ne-eqb (bitOf 32 left v) 1 n)
 
-  up-bits : ((u : ℕ) → Bits (words u)) → (w u : ℕ) → Bits (upTo w (repairedBy front words) words u)
-  unfolding repairedBy
-  up-bits bits w u = go (decLt u w)
+-- By the digit.
+digit-of : {A : Type 0} (left v : ℕ) → (bitOf 32 left v ≡ 1 → A) → (bitOf 32 left v ≡ 0 → A) → A
+digit-of {A} left v set-is clear-is = go (bitOf 32 left v) refl (bitOf-lt 32 left v)
+  where
+    go : (t : ℕ) → bitOf 32 left v ≡ t → t < 2 → A
+    go zero e l = clear-is e
+    go (suc zero) e l = set-is e
+    go (suc (suc t)) e l = absurd (omega arith)
+
+module _ (left w r : ℕ) (lw : w < 32) (k : Removed left w r) where
+  first-in : bitOf 32 left w ≡ 1
+  first-in = k .each w lw ∙ ap₂ _⊕_ (simp (eq-eqb w w refl)) (k .gone) ∙ ⊕-zero 1
+
+  others-in : (v : ℕ) → v < 32 → v ≢ w → bitOf 32 left v ≡ bitOf 32 r v
+  others-in v lv n = k .each v lv ∙ ap (λ b. b ⊕ bitOf 32 r v) (simp (ne-eqb v w n)) ∙ zero-⊕ (bitOf 32 r v)
+
+  -- What holds at word w, and at the others of the rest, holds at all.
+  set-more : {A : Type 0} (f g h : ℕ → A) → h w ≡ f w → ((v : ℕ) → v ≢ w → h v ≡ g v) → (v : ℕ) → v < 32 → inSet r f h v ≡ inSet left f g v
+  set-more f g h here there v lv = go (ℕ-discrete v w)
     where
-      go : Dec (u < w) → Bits (upTo w (repairedBy front words) words u)
-      go (yes l) k lk = rw (before w u l) (repaired-bits (repair front (words u)) (words u) k (bits u k lk))
-      go (no l) k lk = rw (behind w u (omega arith)) (bits u k lk)
+      go : Dec (v ≡ w) → inSet r f h v ≡ inSet left f g v
+      go (yes e) =
+          off-set r f h v (ap (bitOf 32 r) e ∙ k .gone) ∙ ap h e ∙ here ∙ sym (ap f e) ∙ sym (in-set left f g v (ap (bitOf 32 left) e ∙ first-in))
+      go (no n) =
+          digit-of r v (λ e. in-set r f h v e ∙ sym (in-set left f g v (others-in v lv n ∙ e)))
+          (λ e. off-set r f h v e ∙ there v n ∙ sym (off-set left f g v (others-in v lv n ∙ e)))
 
-  next-word : (w u k : ℕ) → u < 32 → 128 ≤ k → k < 256
-      → updated w (repairedBy front words w) (upTo w (repairedBy front words) words) u k ≡ upTo (w + 1) (repairedBy front words) words u k
-  next-word w =
-      updated-same w (repairedBy front words w) (upTo w (repairedBy front words) words) (upTo (w + 1) (repairedBy front words) words)
-      (λ k l n. sym (ap (λ (x : Word). x k) (before (w + 1) w (omega arith)))) (λ u k lu n. other u k n (decLt u w))
-    where
-      other : (u k : ℕ) → u ≢ w → Dec (u < w) → upTo w (repairedBy front words) words u k ≡ upTo (w + 1) (repairedBy front words) words u k
-      other u k n (yes l) = ap (λ (x : Word). x k) (before w u l ∙ sym (before (w + 1) u (omega arith)))
-      other u k n (no l) = ap (λ (x : Word). x k) (behind w u (omega arith) ∙ sym (behind (w + 1) u (omega arith)))
-
-pub handling-none : (t : List ℕ) (q d : ℕ) (front : Bool) (s c ms : List ℕ) → length ms ≡ 32 → HandledTo t q d front 0 s c ms s c
-handling-none t q d front s c ms l =
+-- No word.
+set-none : (u : List ℕ) (q : ℕ) (front : Bool) (left : ℕ) (s c ms : List ℕ) → left ≡ 0 → HandledSet u q front left s c ms s c ms
+unfolding bitOf
+set-none u q front left s c ms z =
     record {
-      upto = omega arith;
-      long = l;
-      done = λ words bits g o dirty e. (
-        fill-none (λ i. mark (repair front (words i))) 32 ms l,
-        holding-same (λ u k lu a b. sym (ap (λ (x : Word). x k) (behind front words 0 u (omega arith)))) e,
+      long = refl;
+      done = λ words bits g o f fb same e. (
+        (λ v lv. sym (off-set left (λ v. mark (repair front (words v))) (λ v. getD ms v 0) v (clear v))),
+        holding-same (λ v k lv a b. sym (ap (λ (x : Word). x k) (off-set left (repairedBy front words) f v (clear v)))) e,
       );
     }
+  where
+    clear : (v : ℕ) → bitOf 32 left v ≡ 0
+    clear v = ap (λ n. n / 2 ^ (32 - 1 - v) % 2) z ∙ zero-digit (32 - 1 - v)
 
-pub handling-more : {t : List ℕ} {q d : ℕ} {front : Bool} {w : ℕ} {s₀ c₀ s c ms : List ℕ} (m : ℕ) (a b : List ℕ) → HandledTo t q d front w s₀ c₀ ms s c
-    → w < 32 → Handled t q d front w s c m a b → HandledTo t q d front (w + 1) s₀ c₀ (set ms w m) a b
-unfolding repairedBy
-handling-more {front = front} {w = w} {ms = ms} m a b r lw hd =
+-- One word, and then the others.
+module _ {u : List ℕ} {q : ℕ} {front : Bool} {left w r : ℕ} {s c ms : List ℕ} {m : ℕ} {a b s′ c′ ms′ : List ℕ} where
+  set-first : w < 32 → w < length ms → Removed left w r → Handled u q front w s c m a b → HandledSet u q front r a b (set ms w m) s′ c′ ms′
+      → HandledSet u q front left s c ms s′ c′ ms′
+  unfolding repairedBy
+  set-first lw lm k one rest =
+      record {
+        long = rest .long ∙ length-set ms w m;
+        done = λ words bits g o f fb same e.
+            let was = one .done words bits g o f fb (same w lw (first-in left w r lw k)) e in
+            let next = updated w (repairedBy front words w) f in
+            let then =
+            rest .done words bits g o next (λ v. next-bits words bits f fb v (ℕ-discrete v w)) (λ v lv i. others words f same v lv i (ℕ-discrete v w)) (was .1) in (
+              (λ v lv. then .0 v lv
+                  ∙ set-more left w r lw k (λ v. mark (repair front (words v))) (λ v. getD ms v 0) (λ v. getD (set ms w m) v 0) (getD-set-same ms w m 0 lm ∙ was .0)
+                  (λ v n. getD-set-other ms w v m 0 n) v lv),
+              holding-same
+                  (λ v i lv x y. ap (λ (x : Word). x i)
+                  (set-more left w r lw k (repairedBy front words) f next (updated-at w (repairedBy front words w) f w refl) (λ v n. updated-off w (repairedBy front words w) f v n) v lv))
+                  (then .1),
+            );
+      }
+    where
+      next-bits : (words : ℕ → Word) → ((v : ℕ) → Bits (words v)) → (f : ℕ → Word) → ((v : ℕ) → Bits (f v)) → (v : ℕ) → Dec (v ≡ w)
+          → Bits (updated w (repaired (repair front (words w)) (words w)) f v)
+      next-bits words bits f fb v (yes e) k l =
+          rw (updated-at w (repaired (repair front (words w)) (words w)) f v e) (repaired-bits (repair front (words w)) (words w) k (bits w k l))
+      next-bits words bits f fb v (no n) k l = rw (updated-off w (repaired (repair front (words w)) (words w)) f v n) (fb v k l)
+
+      others : (words f : ℕ → Word) → ((v : ℕ) → v < 32 → bitOf 32 left v ≡ 1 → f v ≡ words v) → (v : ℕ) → v < 32 → bitOf 32 r v ≡ 1 → Dec (v ≡ w)
+          → updated w (repaired (repair front (words w)) (words w)) f v ≡ words v
+      others words f same v lv i (yes e) = absurd (omega (arith, i, ap (bitOf 32 r) e ∙ k .gone))
+      others words f same v lv i (no n) =
+          updated-off w (repaired (repair front (words w)) (words w)) f v n ∙ same v lv (others-in left w r lw k v lv n ∙ i)
+
+-- The loop: what is left to do gives the whole. none / more / done
+pub record Going (u : List ℕ) (q : ℕ) (front : Bool) (all : ℕ) (s₀ c₀ ms₀ : List ℕ) (left : ℕ) (s c ms : List ℕ) : Type 0 where
+  pub marks : length ms ≡ 32
+  pub coded : length c ≡ 512
+  pub whole : (s′ c′ ms′ : List ℕ) → HandledSet u q front left s c ms s′ c′ ms′ → HandledSet u q front all s₀ c₀ ms₀ s′ c′ ms′
+
+pub going-none : (u : List ℕ) (q : ℕ) (front : Bool) (all : ℕ) (s c ms : List ℕ) → length ms ≡ 32 → length c ≡ 512 → Going u q front all s c ms all s c ms
+going-none u q front all s c ms l lc = record { marks = l; coded = lc; whole = λ s′ c′ ms′ h. h }
+
+pub going-more : {u : List ℕ} {q : ℕ} {front : Bool} {all : ℕ} {s₀ c₀ ms₀ : List ℕ} {left : ℕ} {s c ms : List ℕ} (w m r : ℕ) (a b : List ℕ)
+    → Going u q front all s₀ c₀ ms₀ left s c ms → w < 32 → Handled u q front w s c m a b → length b ≡ 512 → Removed left w r
+    → Going u q front all s₀ c₀ ms₀ r a b (set ms w m)
+going-more {ms = ms} w m r a b go lw one lb k =
     record {
-      upto = omega arith;
-      long = length-set ms w m ∙ r .long;
-      done = λ words bits g o dirty e.
-          let was = r .done words bits g o dirty e in
-          let is = hd .done words bits g o dirty (upTo w (repairedBy front words) words) (up-bits front words bits w) (behind front words w w (omega arith)) (was .1) in
-          (fill-more m (was .0) lw (is .0), holding-same (next-word front words w) (is .1));
+      marks = length-set ms w m ∙ go .marks;
+      coded = lb;
+      whole = λ s′ c′ ms′ h. go .whole s′ c′ ms′ (set-first lw (omega (arith, go .marks)) k one h);
     }
 
-pub handling-done : {t : List ℕ} {q d : ℕ} {front : Bool} {w : ℕ} {s₀ c₀ s c ms : List ℕ} → HandledTo t q d front w s₀ c₀ ms s c → 32 ≤ w
-    → HandledTo t q d front 32 s₀ c₀ ms s c
-handling-done {t} {q} {d} {front} {w} {s₀} {c₀} {s} {c} {ms} r l = let e : w ≡ 32 = omega (arith, r .upto) in rw e at r
+pub going-room : {u : List ℕ} {q : ℕ} {front : Bool} {all : ℕ} {s₀ c₀ ms₀ : List ℕ} {left : ℕ} {s c ms : List ℕ} (w : ℕ)
+    → Going u q front all s₀ c₀ ms₀ left s c ms → w < 32 → w < length ms
+going-room w go lw = omega (arith, go .marks)
 
-pub ruleset handling = (handling-none, handling-more, handling-done)
+pub going-less : {left w r : ℕ} → Removed left w r → r < left
+going-less k = k .fewer
+
+pub going-coded : {u : List ℕ} {q : ℕ} {front : Bool} {all : ℕ} {s₀ c₀ ms₀ : List ℕ} {left : ℕ} {s c ms : List ℕ} → Going u q front all s₀ c₀ ms₀ left s c ms
+    → length c ≡ 512
+going-coded go = go .coded
+
+pub going-marks : {u : List ℕ} {q : ℕ} {front : Bool} {all : ℕ} {s₀ c₀ ms₀ : List ℕ} {left : ℕ} {s c ms : List ℕ} → Going u q front all s₀ c₀ ms₀ left s c ms
+    → length ms ≡ 32
+going-marks go = go .marks
+
+pub going-done : {u : List ℕ} {q : ℕ} {front : Bool} {all : ℕ} {s₀ c₀ ms₀ : List ℕ} {left : ℕ} {s c ms : List ℕ} → Going u q front all s₀ c₀ ms₀ left s c ms
+    → left ≡ 0 → HandledSet u q front all s₀ c₀ ms₀ s c ms
+going-done {u} {q} {front} {left = left} {s = s} {c = c} {ms = ms} go z = go .whole s c ms (set-none u q front left s c ms z)
+
+pub ruleset going = (going-none, going-more, going-room, going-less, going-coded, going-marks, going-done)
+
+-- ---- all words
+
+sound-mark : (front : Bool) (w : Word) → Bits w → CodeWord w → 0 ≡ mark (repair front w)
+unfolding mark
+sound-mark front w b c = sym (ap mark (sound front w b c))
+
+-- Words of odd parity first, then the others that are no code words; the rest are, and stay.
+module _ (u : List ℕ) (q d : ℕ) (front : Bool) (s c ms₀ s₁ c₁ ms₁ s₂ c₂ ms₂ : List ℕ) (e₀ : ms₀ ≡ tabulate 32 (λ w. 0))
+    (one : HandledSet u q front q s c ms₀ s₁ c₁ ms₁) (two : HandledSet u q front (d ⊕ q) s₁ c₁ ms₁ s₂ c₂ ms₂) where
+  module _ (words : ℕ → Word) (bits : (v : ℕ) → Bits (words v)) (known : Collected words u) (o : Parities words q) (k : Dirty words d) (e : Holding words s c) where
+    -- An odd word is no code word, so that it is not in the second set.
+    odd-dirty : (v : ℕ) → v < 32 → bitOf 32 q v ≡ 1 → bitOf 32 d v ≡ 1
+    odd-dirty v l i =
+        digit-of d v (λ e. e) (λ z. absurd (omega (arith, sym (o .parity-of v l) ∙ i, k .clean v l z .even)))
+
+    second : (v : ℕ) → bitOf 32 (d ⊕ q) v ≡ bitOf 32 d v ⊕ bitOf 32 q v
+    second v = bitOf-⊕ 32 d q v
+
+    odd-not-second : (v : ℕ) → v < 32 → bitOf 32 q v ≡ 1 → bitOf 32 (d ⊕ q) v ≡ 0
+    odd-not-second v l i = second v ∙ ap₂ _⊕_ (odd-dirty v l i) i ∙ ⊕-self 1
+
+    even-second : (v : ℕ) → bitOf 32 q v ≡ 0 → bitOf 32 (d ⊕ q) v ≡ bitOf 32 d v
+    even-second v z = second v ∙ ap (λ b. bitOf 32 d v ⊕ b) z ∙ ⊕-zero (bitOf 32 d v)
+
+    -- Of whatever is put for the words handled, all have it, if code words have it already.
+    both-sets : {A : Type 0} (f g : ℕ → A) → ((v : ℕ) → v < 32 → CodeWord (words v) → g v ≡ f v) → (v : ℕ) → v < 32
+        → inSet (d ⊕ q) f (inSet q f g) v ≡ f v
+    both-sets f g clean v l =
+        digit-of q v (λ i. off-set (d ⊕ q) f (inSet q f g) v (odd-not-second v l i) ∙ in-set q f g v i)
+        (λ z. digit-of d v (λ i. in-set (d ⊕ q) f (inSet q f g) v (even-second v z ∙ i))
+        (λ y. off-set (d ⊕ q) f (inSet q f g) v (even-second v z ∙ y) ∙ off-set q f g v z ∙ clean v l (k .clean v l y)))
+
+    first-done : ((v : ℕ) → v < 32 → getD ms₁ v 0 ≡ inSet q (λ v. mark (repair front (words v))) (λ v. getD ms₀ v 0) v)
+        × Holding (inSet q (repairedBy front words) words) s₁ c₁
+    first-done = one .done words bits known o words bits (λ v l i. refl) e
+
+    after-first : (v : ℕ) → Bits (inSet q (repairedBy front words) words v)
+    unfolding repairedBy
+    after-first v =
+        digit-of q v (λ i k l. rw (in-set q (repairedBy front words) words v i) (repaired-bits (repair front (words v)) (words v) k (bits v k l)))
+        (λ z k l. rw (off-set q (repairedBy front words) words v z) (bits v k l))
+
+    untouched : (v : ℕ) → v < 32 → bitOf 32 (d ⊕ q) v ≡ 1 → inSet q (repairedBy front words) words v ≡ words v
+    untouched v l i =
+        digit-of q v (λ j. absurd (omega (arith, i, odd-not-second v l j))) (λ z. off-set q (repairedBy front words) words v z)
+
+    then-done : ((v : ℕ) → v < 32 → getD ms₂ v 0 ≡ inSet (d ⊕ q) (λ v. mark (repair front (words v))) (λ v. getD ms₁ v 0) v)
+        × Holding (inSet (d ⊕ q) (repairedBy front words) (inSet q (repairedBy front words) words)) s₂ c₂
+    then-done = two .done words bits known o (inSet q (repairedBy front words) words) after-first untouched (first-done .1)
+
+    marks-done : ms₂ ≡ tabulate 32 (λ v. mark (repair front (words v)))
+    unfolding inSet
+    marks-done =
+        is-tabulate 0 ms₂ 32 (λ v. mark (repair front (words v))) (two .long ∙ one .long ∙ ap length e₀ ∙ length-tabulate 32 (λ w. 0))
+        (λ v l. then-done .0 v l ∙ ap (λ m. cond (eqb (bitOf 32 (d ⊕ q) v) 1) (mark (repair front (words v))) m) (first-done .0 v l)
+        ∙ both-sets (λ v. mark (repair front (words v))) (λ v. getD ms₀ v 0)
+        (λ v l i. ap (λ m. getD m v 0) e₀ ∙ getD-tabulate 32 (λ w. 0) v 0 l ∙ sound-mark front (words v) (bits v) i) v l)
+
+    words-done : Holding (repairedBy front words) s₂ c₂
+    unfolding repairedBy
+    words-done =
+        holding-same
+        (λ v k lv a b. ap (λ (x : Word). x k)
+        (both-sets (repairedBy front words) words (λ v l i. sym (ap (λ r. repaired r (words v)) (sound front (words v) (bits v) i) ∙ stays (words v))) v lv))
+        (then-done .1)
+
+  pub handled-dirty : HandledDirty u q d front s c ms₂ s₂ c₂
+  handled-dirty = record { done = λ words bits g o k e. (marks-done words bits g o k e, words-done words bits g o k e) }
+
+pub marks-long : (ms : List ℕ) → ms ≡ tabulate 32 (λ w. 0) → length ms ≡ 32
+marks-long ms e = ap length e ∙ length-tabulate 32 (λ w. 0)
+
+pub handled-all : (t : List ℕ) (q d : ℕ) (front : Bool) (s c u ms s′ c′ : List ℕ) → ByWords t u → HandledDirty u q d front s c ms s′ c′
+    → HandledAll t q d front s c ms s′ c′
+handled-all t q d front s c u ms s′ c′ n h = record { done = λ words bits g o k e. h .done words bits (by-words-collected bits g n) o k e }
 
 -- ---- the words of a pair
 
@@ -499,23 +661,19 @@ module _ (h : List ℕ) (P : ℕ) (p : List ℕ) where
       ∙ sym (coded-laid (heldWord depth h P p) i (omega arith)))
 
   module _ (t : List ℕ) (q d : ℕ) (g : Gathered (heldWord depth h P p) t) (o : Parities (heldWord depth h P p) q) (j : Joining q t 16 d)
-      (b c ms a n : List ℕ) (r : HandledTo t q d (leb 10 P) 32 b c ms a n) (e : Holding (heldWord depth h P p) b c) where
-    handled : Filling (λ i. mark (repair (leb 10 P) (heldWord depth h P p i))) 32 32 ms
-        × Holding (upTo 32 (repairedBy (leb 10 P) (heldWord depth h P p)) (heldWord depth h P p)) a n
+      (b c ms a n : List ℕ) (r : HandledAll t q d (leb 10 P) b c ms a n) (e : Holding (heldWord depth h P p) b c) where
+    handled : (ms ≡ tabulate 32 (λ i. mark (repair (leb 10 P) (heldWord depth h P p i)))) × Holding (repairedBy (leb 10 P) (heldWord depth h P p)) a n
     handled = r .done (heldWord depth h P p) (λ w k l. held-bits depth h P p w k) g o (held-dirty t q d g o j) e
 
     handled-marks : ms ≡ marks depth h P p
     unfolding marks
     handled-marks =
-        fill-done (handled .0) (omega arith)
+        handled .0
         ∙ tabulate-ext 32 (λ i. mark (repair (leb 10 P) (heldWord depth h P p i))) (λ i. mark (repairOf depth h P p i)) (λ i l. ap mark (repair-of i l))
 
     handled-words : Holding (repairedWord depth h P p) a n
     unfolding repairedWord repairedBy
-    handled-words =
-        holding-same
-        (λ u k lu x y. ap (λ (x : Word). x k) (before (leb 10 P) (heldWord depth h P p) 32 u lu) ∙ ap (λ r. repaired r (heldWord depth h P p u) k) (repair-of u lu))
-        (handled .1)
+    handled-words = holding-same (λ u k lu x y. ap (λ r. repaired r (heldWord depth h P p u) k) (repair-of u lu)) (handled .1)
 
   -- ---- a pair without a dirty word
 
@@ -576,7 +734,39 @@ module _ (h : List ℕ) (P : ℕ) (p s t : List ℕ) (q d : ℕ) (y ms g : List 
       is : Holding (repairedWord depth h P p) (r .halves) (r .coded)
       is = handled-words h P p t q d all-sums all-odd j s p ms (r .halves) (r .coded) (r .handled) start
 
-pub repaired-made : (t : List ℕ) (q d P : ℕ) (p s h y ms g c r n : List ℕ) (front : Bool) → c ≡ p → front ≡ leb 10 P → HandledTo t q d front 32 s c ms r n
-    → y ≡ payloadIn r → g ≡ shift h n → Repaired t q d P p s h y ms g
-repaired-made t q d P p s h y ms g c r n front ec ef hd ey eg =
-    record { halves = r; coded = n; handled = rw (ec, ef) at hd; payload = ey; history = eg }
+-- The repairs stand in the newest pair of the shifted history, which code lends.
+module _ (h p g n : List ℕ) (e : g ≡ shift h p) (size : length h ≡ 512 * depth) (long : length p ≡ 512) where
+  abbrev kept : List ℕ
+  kept = drop 512 h
+
+  kept-long : length kept ≡ 4608
+  kept-long = length-drop 512 h ∙ omega (arith, size)
+
+  parts : (x : List ℕ) → shift h x ≡ kept ++ x
+  unfolding shift
+  parts x = drop-append-le 512 h x (omega (arith, size))
+
+  behind-kept : drop 4608 g ≡ p
+  behind-kept = ap (drop 4608) (e ∙ parts p) ∙ ap (λ k. drop k (kept ++ p)) (sym kept-long) ∙ drop-append-seam kept p
+
+  newest-lent : part 4608 512 g ≡ p
+  newest-lent = ap (take 512) behind-kept ∙ take-all 512 p (omega (arith, long))
+
+  newest-put : putMid 4608 512 g n ≡ shift h n
+  newest-put =
+      ap₂ (λ (a b : List ℕ). a ++ (n ++ b)) front (ap (drop 512) behind-kept ∙ drop-of-length-le p {i = 512} (omega (arith, long)))
+      ∙ ap (λ l. kept ++ l) (append-nil n) ∙ sym (parts n)
+    where
+      front : take 4608 g ≡ kept
+      front = ap (take 4608) (e ∙ parts p) ∙ ap (λ k. take k (kept ++ p)) (sym kept-long) ∙ take-append-seam kept p
+
+pub repaired-made : (t : List ℕ) (q d P : ℕ) (p s h y ms g r n : List ℕ) (front : Bool) → g ≡ shift h p → length h ≡ 512 * depth → length p ≡ 512
+    → front ≡ leb 10 P → HandledAll t q d front s (part 4608 512 g) ms r n → y ≡ payloadIn r → Repaired t q d P p s h y ms (putMid 4608 512 g n)
+repaired-made t q d P p s h y ms g r n front e size long ef hd ey =
+    record {
+      halves = r;
+      coded = n;
+      handled = rw (newest-lent h p g n e size long, ef) at hd;
+      payload = ey;
+      history = newest-put h p g n e size long;
+    }

@@ -11,3 +11,6 @@ pub record Tables (p l q r : List ℕ) : Type 0 where
   pub logs-are : l ≡ logs
   pub cubes-are : q ≡ cubed
   pub roots-are : r ≡ rooted
+
+pub tables-made : (p l q r : List ℕ) → p ≡ powers → l ≡ logs → q ≡ cubed → r ≡ rooted → Tables p l q r
+tables-made p l q r ep el eq er = record { powers-are = ep; logs-are = el; cubes-are = eq; roots-are = er }

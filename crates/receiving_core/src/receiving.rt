@@ -3,7 +3,6 @@
 use gathering_core::checks;
 use gathering_core::rows;
 use pair_words_core::halves::put_payload;
-use pair_words_core::history::copy;
 use pair_words_core::history::shift_in;
 use pair_words_core::words::xor16;
 use word_spec::Repair;
@@ -16,27 +15,34 @@ ghost use Rattle.receiving_core.specs.Tables.{Tables};
 ghost use Rattle.pair_words_core.specs.Halves.{payloadIn};
 ghost use Rattle.pair_spec.specs.History.{depth, shift};
 ghost use Rattle.pair_spec.specs.Calls.{receiveBuffers, receivePair};
-ghost use Rattle.receiving_core.specs.Mending.{flippedNumber, flippedBack, flippedCoded, mendedBy, Handled, HandledTo, Repaired};
+ghost use Rattle.receiving_core.specs.Mending.{flippedIf, flippedBack, bufferFlippedIf, flippedCoded, mendedBy, Handled, HandledSet, HandledDirty, HandledAll, Repaired};
+ghost use Rattle.receiving_core.specs.Sets.{First, Removed};
 
-// A number with bit j flipped.
-fn flipped_number(v: u16, j: usize) -> u16
-    requires { ⌜ j < 16 ⌝ }
-    ensures { λ r. ⌜ r ≡ flippedNumber v j ⌝ }
+// A number with bit j flipped where b is 1.
+fn flipped_number(v: u16, j: usize, b: u16) -> u16
+    requires { ⌜ (j < 16) × (b < 2) ⌝ }
+    ensures { λ r. ⌜ r ≡ flippedIf b v j ⌝ }
 {
-    v ^ (1u16 << (15 - j))
+    v ^ (b << (15 - j))
 }
 
-// Flips bit k of word w, if it is one of the back half.
+// Flips bit k of word w, if it is one of the back half. A branch on where the bit falls would go either way as often.
 fn flip_back(halves: &mut [u16; 256], w: usize, k: usize)
     requires { ⌜ (w < 32) × (k < 256) ⌝ }
     ensures { λ _. ⌜ now (halves .exit) ≡ flippedBack w k (now (halves .entry)) ⌝ }
 {
-    if k < 128 {
-        return;
-    }
-    let n = 8 * w + (k - 128) / 16;
+    let n = 8 * w + k % 128 / 16;
     let v = halves[n];
-    halves[n] = flipped_number(v, k % 16);
+    halves[n] = flipped_number(v, k % 16, (k / 128 % 2) as u16);
+}
+
+// Flips bit i of a buffer where b is 1.
+fn flip_if(s: &mut [u8], i: usize, b: u8)
+    requires { ⌜ (i < length (now s) * 8) × (b < 2) ⌝ }
+    ensures { λ _. ⌜ now (s .exit) ≡ bufferFlippedIf b i (now (s .entry)) ⌝ }
+{
+    let j = i / 8;
+    s[j] = s[j] ^ (b << (7 - i % 8));
 }
 
 // The same in a coded pair.
@@ -44,11 +50,8 @@ fn flip_coded(coded: &mut [u8], w: usize, k: usize)
     requires { ⌜ (length (now coded) ≡ 512) × (w < 32) × (k < 256) ⌝ }
     ensures { λ _. ⌜ now (coded .exit) ≡ flippedCoded w k (now (coded .entry)) ⌝ }
 {
-    if k < 128 {
-        return;
-    }
     let x = xor16(k % 16, w % 16);
-    bits::flip(coded, 128 * w + (k - 128) / 16 * 16 + x);
+    flip_if(coded, 128 * w + k % 128 / 16 * 16 + x, (k / 128 % 2) as u8);
 }
 
 // In both.
@@ -76,15 +79,13 @@ fn mend(halves: &mut [u16; 256], coded: &mut [u8], w: usize, r: Repair)
     }
 }
 
-// Repairs word w by what was gathered, if it is no code word, and gives its mark; the tables are those of powers, exponents, cubes
-// and roots.
+// Repairs word w by its syndromes, and gives its mark; the tables are those of powers, exponents, cubes and roots.
 fn repair_word(
     halves: &mut [u16; 256],
     coded: &mut [u8],
     w: usize,
-    sums: &[u32; 16],
+    numbers: &[u32; 16],
     odd: u32,
-    dirty: u32,
     front: bool,
     table: &[u8; 255],
     logs: &[u8; 256],
@@ -92,48 +93,63 @@ fn repair_word(
     roots: &[u8; 256],
 ) -> u8
     requires { ⌜ Tables (now table) (now logs) (now cubes) (now roots) × (length (now coded) ≡ 512) × (w < 32) ⌝ }
-    ensures { λ m. ⌜ Handled (now (sums .entry)) odd dirty front w (now (halves .entry)) (now (coded .entry)) m (now (halves .exit)) (now (coded .exit)) × (length (now (coded .exit)) ≡ 512) ⌝ }
+    ensures { λ m. ⌜ Handled (now (numbers .entry)) odd front w (now (halves .entry)) (now (coded .entry)) m (now (halves .exit)) (now (coded .exit)) × (length (now (coded .exit)) ≡ 512) ⌝ }
 {
-    if (dirty >> (31 - w)) % 2 == 0 {
-        return 0;
-    }
-    let s = checks::syndromes(sums, odd, w);
-    let r = word::telling::repair_told(s, front, table, logs, cubes, roots);
+    let s = checks::syndromes(numbers, odd, w);
+    let r = word::locating::repair_told(s, front, table, logs, cubes, roots);
     mend(halves, coded, w, r);
     word::mark_of(r)
 }
 
-// Repairs the words that are no code words, and puts the marks of all 32.
-fn repair_words(
+// The first word of a set that is not empty.
+fn first_word(left: u32) -> usize
+    requires { ⌜ 0 < left ⌝ }
+    ensures { λ w. ⌜ First left w × (w < 32) ⌝ }
+{
+    u32::leading_zeros(left) as usize
+}
+
+// The others.
+fn without(left: u32, w: usize) -> u32
+    requires { ⌜ First left w × (w < 32) ⌝ }
+    ensures { λ r. ⌜ Removed left w r ⌝ }
+{
+    left - (1u32 << (31 - w))
+}
+
+// Repairs the words of a set, whose bits are set in a number, and puts their marks.
+fn repair_marked(
     halves: &mut [u16; 256],
     coded: &mut [u8],
-    sums: &[u32; 16],
+    set: u32,
+    numbers: &[u32; 16],
     odd: u32,
-    dirty: u32,
     front: bool,
+    table: &[u8; 255],
+    logs: &[u8; 256],
+    cubes: &[u8; 256],
+    roots: &[u8; 256],
     marks: &mut [u8],
 )
-    requires { ⌜ (length (now coded) ≡ 512) × (length (now marks) ≡ 32) ⌝ }
-    ensures { λ _. ⌜ HandledTo (now (sums .entry)) odd dirty front 32 (now (halves .entry)) (now (coded .entry)) (now (marks .exit)) (now (halves .exit)) (now (coded .exit)) × (length (now (coded .exit)) ≡ 512) ⌝ }
+    requires { ⌜ Tables (now table) (now logs) (now cubes) (now roots) × (length (now coded) ≡ 512) × (length (now marks) ≡ 32) ⌝ }
+    ensures { λ _. ⌜ HandledSet (now (numbers .entry)) odd front set (now (halves .entry)) (now (coded .entry)) (now (marks .entry)) (now (halves .exit)) (now (coded .exit)) (now (marks .exit)) × (length (now (coded .exit)) ≡ 512) × (length (now (marks .exit)) ≡ 32) ⌝ }
 {
-    let table = gf256::powers();
-    let logs = gf256::logs();
-    let cubes = gf256::cubes();
-    let roots = gf256::roots();
-    for w in 0..32 {
+    let mut left = set;
+    while left != 0 {
+        let w = first_word(left);
         marks[w] = repair_word(
             halves,
             coded,
             w,
-            sums,
+            numbers,
             odd,
-            dirty,
             front,
-            &table,
-            &logs,
-            &cubes,
-            &roots,
+            table,
+            logs,
+            cubes,
+            roots,
         );
+        left = without(left, w);
     }
 }
 
@@ -145,6 +161,86 @@ fn no_marks(marks: &mut [u8])
     for w in 0..32 {
         marks[w] = 0;
     }
+}
+
+// Repairs the words that are no code words, and puts the marks of all 32: first the words of odd parity, which can have one flip, and then
+// those that can have two, so that a branch goes the same way as for the word before.
+fn repair_dirty(
+    halves: &mut [u16; 256],
+    coded: &mut [u8],
+    numbers: &[u32; 16],
+    odd: u32,
+    dirty: u32,
+    front: bool,
+    table: &[u8; 255],
+    logs: &[u8; 256],
+    cubes: &[u8; 256],
+    roots: &[u8; 256],
+    marks: &mut [u8],
+)
+    requires { ⌜ Tables (now table) (now logs) (now cubes) (now roots) × (length (now coded) ≡ 512) × (length (now marks) ≡ 32) ⌝ }
+    ensures { λ _. ⌜ HandledDirty (now (numbers .entry)) odd dirty front (now (halves .entry)) (now (coded .entry)) (now (marks .exit)) (now (halves .exit)) (now (coded .exit)) ⌝ }
+{
+    no_marks(marks);
+    repair_marked(
+        halves,
+        coded,
+        odd,
+        numbers,
+        odd,
+        front,
+        table,
+        logs,
+        cubes,
+        roots,
+        marks,
+    );
+    repair_marked(
+        halves,
+        coded,
+        dirty ^ odd,
+        numbers,
+        odd,
+        front,
+        table,
+        logs,
+        cubes,
+        roots,
+        marks,
+    );
+}
+
+// The same from the sums; here the tables are named.
+fn repair_words(
+    halves: &mut [u16; 256],
+    coded: &mut [u8],
+    sums: &[u32; 16],
+    odd: u32,
+    dirty: u32,
+    front: bool,
+    marks: &mut [u8],
+)
+    requires { ⌜ (length (now coded) ≡ 512) × (length (now marks) ≡ 32) ⌝ }
+    ensures { λ _. ⌜ HandledAll (now (sums .entry)) odd dirty front (now (halves .entry)) (now (coded .entry)) (now (marks .exit)) (now (halves .exit)) (now (coded .exit)) ⌝ }
+{
+    let table = gf256::powers();
+    let logs = gf256::logs();
+    let cubes = gf256::cubes();
+    let roots = gf256::roots();
+    let numbers = checks::by_words(sums);
+    repair_dirty(
+        halves,
+        coded,
+        &numbers,
+        odd,
+        dirty,
+        front,
+        &table,
+        &logs,
+        &cubes,
+        &roots,
+        marks,
+    );
 }
 
 // A pair in which no word needs a repair: it enters the history as it came.
@@ -163,16 +259,6 @@ fn receive_clean(
     shift_in(history, coded);
 }
 
-// A copy of a coded pair.
-fn copied(coded: &[u8]) -> [u8; 512]
-    requires { ⌜ length (now coded) ≡ 512 ⌝ }
-    ensures { λ c. ⌜ c ≡ now (coded .entry) ⌝ }
-{
-    let mut c = [0u8; 512];
-    copy(coded, &mut c);
-    c
-}
-
 // A pair with the repairs that its words need.
 fn receive_repaired(
     coded: &[u8],
@@ -188,10 +274,17 @@ fn receive_repaired(
     requires { ⌜ (length (now coded) ≡ 512) × (length (now payload) ≡ 444) × (length (now marks) ≡ 32) × (length (now history) ≡ 512 * depth) ⌝ }
     ensures { λ _. ⌜ Repaired (now (sums .entry)) odd dirty pair (now (coded .entry)) (now (halves .entry)) (now (history .entry)) (now (payload .exit)) (now (marks .exit)) (now (history .exit)) ⌝ }
 {
-    let mut newest = copied(coded);
-    repair_words(halves, &mut newest, sums, odd, dirty, 10 <= pair, marks);
+    shift_in(history, coded);
+    repair_words(
+        halves,
+        &mut history[4608..5120],
+        sums,
+        odd,
+        dirty,
+        10 <= pair,
+        marks,
+    );
     put_payload(halves, payload);
-    shift_in(history, &newest);
 }
 
 // Payload and marks of a pair received, and its history.

@@ -32,14 +32,9 @@ cross-stage-spec =
     (λ c. search kit)  -- add-y
     (λ c. search kit)  -- mul-y
     (λ c. search kit)  -- array-read-y
-    (λ c. search kit)  -- cast-choose
-    (λ c. search kit)  -- shr-choose
-    (λ c κs. search kit)  -- choose-requires
+    (λ c κs. search kit)  -- crossed-requires
     (λ c. search kit)  -- mul-out
     (λ c. search kit)  -- array-write-out
-    (λ c. search kit)  -- cast-choose-2
-    (λ c. search kit)  -- shl-choose
-    (λ c κs. search kit)  -- choose-requires-2
     (λ c. search kit)  -- mul-out-2
     (λ c. search kit)  -- array-write-out-2
     (λ c. search kit)  -- add-k

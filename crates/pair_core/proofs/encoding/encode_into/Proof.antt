@@ -1,12 +1,12 @@
 -- `pair_core::encoding::encode_into` meets its contract.
 -- Assumes nothing.
-use Rattle.pair_words_core.specs.BackHalves.{gathered}
+use Rattle.pair_words_core.specs.BackHalves.{encoded-by-words}
 use Rattle.pair_spec.specs.CallLaws.{encode-written}
 use borrow.Author.Needs.{needs}
 use Rattle.pair_core.proofs.encoding.encode_into.Statement.{statement}
 use Rattle.pair_core.proofs.encoding.encode_into.Tie as tie
 
-ruleset kit = (needs, gathered, encode-written)
+ruleset kit = (needs, encoded-by-words, encode-written)
 
 pub encode-into-spec : {M : Type 1} → statement M
 encode-into-spec =

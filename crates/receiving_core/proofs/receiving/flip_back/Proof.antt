@@ -11,12 +11,12 @@ pub flip-back-spec : {M : Type 1} → statement M
 flip-back-spec =
     tie.close
     (tie.spec
-    (λ c. search kit)  -- returns
     (λ c. search kit)  -- mul-n
     (λ c. search kit)  -- add-n
     (λ c. search kit)  -- mul-v
     (λ c. search kit)  -- element-copy-out-v
+    (λ c. search kit)  -- cast-flipped-number
     (λ c κs. search kit)  -- flipped-number-requires
     (λ c. search kit)  -- mul-halves
     (λ c. search kit)  -- element-write-halves
-    (λ c. search kit))  -- returns-2
+    (λ c. search kit))  -- returns

@@ -11,12 +11,12 @@ pub flip-coded-spec : {M : Type 1} → statement M
 flip-coded-spec =
     tie.close
     (tie.spec
-    (λ c. search kit)  -- returns
     (λ c κs. search kit)  -- xor16-requires
-    (λ c. search kit)  -- mul-flip
-    (λ c. search kit)  -- mul-flip-2
-    (λ c. search kit)  -- add-flip
-    (λ c. search kit)  -- add-flip-2
-    (λ c κs. search kit)  -- flip-requires
+    (λ c. search kit)  -- mul-flip-if
+    (λ c. search kit)  -- mul-flip-if-2
+    (λ c. search kit)  -- add-flip-if
+    (λ c. search kit)  -- add-flip-if-2
+    (λ c. search kit)  -- cast-flip-if
+    (λ c κs. search kit)  -- flip-if-requires
     (λ c. search kit)  -- same-length
-    (λ c. search kit))  -- returns-2
+    (λ c. search kit))  -- returns

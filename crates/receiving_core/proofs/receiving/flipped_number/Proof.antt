@@ -1,12 +1,12 @@
 -- `receiving_core::receiving::flipped_number` meets its contract.
 -- Assumes nothing.
 use Rattle.bits.specs.Xor.{_⊕_}
-use Rattle.receiving_core.specs.MendingLaws.{flip-number}
+use Rattle.receiving_core.specs.MendingLaws.{flip-number-if}
 use borrow.Author.Needs.{needs}
 use Rattle.receiving_core.proofs.receiving.flipped_number.Statement.{statement}
 use Rattle.receiving_core.proofs.receiving.flipped_number.Tie as tie
 
-ruleset kit = (needs, flip-number)
+ruleset kit = (needs, flip-number-if)
 
 pub flipped-number-spec : {M : Type 1} → statement M
 unfolding _⊕_

@@ -11,12 +11,12 @@ pub receive-repaired-spec : {M : Type 1} → statement M
 receive-repaired-spec =
     tie.close
     (tie.spec
-    (λ c κs. search kit)  -- copied-requires
-    (λ c. search kit)  -- slice-aggregate-repair-words
+    (λ c κs. search kit)  -- shift-in-requires
+    (λ c. search kit)  -- sub-repair-words
+    (λ c. search kit)  -- part-repair-words-start
+    (λ c. search kit)  -- part-repair-words-end
     (λ c κs. search kit)  -- repair-words-requires
     (λ c κs. search kit)  -- put-payload-requires
-    (λ c. search kit)  -- slice-aggregate-shift-in
-    (λ c κs. search kit)  -- shift-in-requires
     (λ c. search kit)  -- same-length
     (λ c. search kit)  -- same-length-2
     (λ c. search kit)  -- same-length-3

@@ -1,0 +1,16 @@
+-- `gathering_core::checks::by_words` meets its contract: in falling order, transposed.
+-- Assumes nothing.
+use Rattle.gathering_core.specs.ByWords.{by-words-made}
+use borrow.Author.Needs.{needs}
+use Rattle.gathering_core.proofs.checks.by_words.Statement.{statement}
+use Rattle.gathering_core.proofs.checks.by_words.Tie as tie
+
+ruleset kit = (needs, by-words-made)
+
+pub by-words-spec : {M : Type 1} → statement M
+by-words-spec =
+    tie.close
+    (tie.spec
+    (λ c κs. search kit)  -- falling-requires
+    (λ c κs. search kit)  -- transpose-both-requires
+    (λ c. search kit))  -- returns

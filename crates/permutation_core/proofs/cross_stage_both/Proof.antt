@@ -1,0 +1,42 @@
+-- `permutation_core::cross_stage_both` meets its contract: two numbers a turn.
+-- Assumes nothing.
+use Prim.Native.Nat.{_-_}
+use Rattle.blocks.specs.Twos.{Twos, twos}
+use Rattle.permutation_core.specs.Both.{sideWord, sideBySide, crossBoth}
+use Rattle.permutation_core.specs.BothLaws.{both-rows}
+use borrow.Author.Needs.{needs}
+use Rattle.permutation_core.proofs.cross_stage_both.Statement.{statement}
+use Rattle.permutation_core.proofs.cross_stage_both.Tie as tie
+
+ruleset kit = (needs, twos, both-rows)
+
+abbrev Inv-loop : tie.InvT-loop
+Inv-loop m n b out₀ k₀ out k = Twos (sideWord (crossBoth m n b)) 8 k out
+
+abbrev μ-loop : tie.MeasureT-loop
+μ-loop m n b out₀ k₀ out k = 8 - k
+
+pub cross-stage-both-spec : {M : Type 1} → statement M
+unfolding sideBySide
+cross-stage-both-spec =
+    tie.close
+    (tie.spec
+    Inv-loop
+    μ-loop
+    (λ c. search kit)  -- loop-holds
+    (λ c. search kit)  -- mul-i
+    (λ c. search kit)  -- add-j
+    (λ c. search kit)  -- mul-x
+    (λ c. search kit)  -- array-read-x
+    (λ c. search kit)  -- add-y
+    (λ c. search kit)  -- mul-y
+    (λ c. search kit)  -- array-read-y
+    (λ c κs. search kit)  -- crossed-both-requires
+    (λ c. search kit)  -- mul-out
+    (λ c. search kit)  -- array-write-out
+    (λ c. search kit)  -- mul-out-2
+    (λ c. search kit)  -- array-write-out-2
+    (λ c. search kit)  -- add-k
+    (λ c. search kit)  -- loop-less
+    (λ c. search kit)  -- loop-again
+    (λ c. search kit))  -- returns

@@ -1,0 +1,18 @@
+-- `receiving_core::receiving::without` meets its contract.
+-- Assumes nothing.
+use Rattle.receiving_core.specs.Sets.{removed-is, first-room}
+use borrow.Author.Needs.{needs}
+use Rattle.receiving_core.proofs.receiving.without.Statement.{statement}
+use Rattle.receiving_core.proofs.receiving.without.Tie as tie
+
+ruleset kit = (needs, removed-is, first-room)
+
+pub without-spec : {M : Type 1} → statement M
+without-spec =
+    tie.close
+    (tie.spec
+    (λ c. search kit)  -- sub-result
+    (λ c. search kit)  -- cast-result
+    (λ c. search kit)  -- shl-result
+    (λ c. search kit)  -- sub-result-2
+    (λ c. search kit))  -- returns

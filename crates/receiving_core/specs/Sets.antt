@@ -1,0 +1,73 @@
+-- Sets of words as numbers of 32 bits: bit w is set where word w is in the set. Code takes the first word of a set out of it, until none is
+-- left.
+-- Assumes nothing.
+use mathlib.Core.Path.{_≡_, sym, ap, _∙_}
+use mathlib.Core.Bool.{cond}
+use Prim.Native.Nat.{ℕ, suc, _+_, _-_, _*_, _/_, _%_, _^_, _<_, _≤_}
+use native.Mathlib.Nat.{div-eq-of-lt, one-mul, pow-suc}
+use native.Mathlib.Omega.{arith}
+use lib.Count.{leadingZeros, leading-le, leading-top}
+use lib.Dec.{eqb, lit<}
+use lib.Pow.{shl-exact}
+use Rattle.bits.specs.Bits.{bitOf}
+use Rattle.bits.specs.Tests.{grid}
+use Rattle.bits.specs.Xor.{_⊕_}
+use Rattle.bits.specs.XorLaws.{⊕-shifted}
+use Rattle.gathering_spec.specs.NetworkLaws.{bitOf-⊕}
+
+-- The first word of a set.
+pub record First (left w : ℕ) : Type 0 where
+  pub top : 2 ^ (31 - w) ≤ left
+  pub last : left < 2 ^ (31 - w) + 2 ^ (31 - w)
+
+-- r is the set without word w, which it has.
+pub record Removed (left w r : ℕ) : Type 0 where
+  pub fewer : r < left
+  pub gone : bitOf 32 r w ≡ 0
+  pub each : (u : ℕ) → u < 32 → bitOf 32 left u ≡ cond (eqb u w) 1 0 ⊕ bitOf 32 r u
+
+pub zeros-fit : (x : ℕ) → leadingZeros 32 x < 2 ^ 64
+zeros-fit x = omega (arith, leading-le 32 x)
+
+first-from : (left w j : ℕ) → w + suc j ≡ 32 → 2 ^ j ≤ left → left < 2 ^ suc j → First left w × (w < 32)
+first-from left w j s t l =
+    let e : 31 - w ≡ j = omega arith in
+    (record { top = rw e t; last = rw e (omega (arith, l, pow-suc 2 j)) }, omega arith)
+
+pub first-is : (left w : ℕ) → 0 < left → left < 2 ^ 32 → w ≡ leadingZeros 32 left → First left w × (w < 32)
+first-is left w p l e =
+    let f = leading-top 32 left p l in
+    first-from left w (f .0) (ap (λ n. n + suc (f .0)) e ∙ f .1) (f .2) (f .3)
+
+one-bit : (w u : ℕ) → w < 32 → u < 32 → 2 ^ (31 - w) / 2 ^ (31 - u) % 2 ≡ cond (eqb u w) 1 0
+one-bit = grid 32 32 (λ w u. 2 ^ (31 - w) / 2 ^ (31 - u) % 2) (λ w u. cond (eqb u w) 1 0) tt
+
+removed : (left w : ℕ) → First left w → w < 32 → Removed left w (left - 2 ^ (31 - w))
+unfolding bitOf
+removed left w f lw = record { fewer = omega (arith, f .top, small); gone = ap (λ v. v % 2) (div-eq-of-lt small); each = split }
+  where
+    b : ℕ
+    b = 2 ^ (31 - w)
+
+    r : ℕ
+    r = left - b
+
+    small : r < b
+    small = omega (arith, f .top, f .last)
+
+    whole : left ≡ b ⊕ r
+    whole = sym (ap (λ v. v ⊕ r) (sym (one-mul b)) ∙ ⊕-shifted 1 (31 - w) r small ∙ omega (arith, one-mul b, f .top))
+
+    split : (u : ℕ) → u < 32 → bitOf 32 left u ≡ cond (eqb u w) 1 0 ⊕ bitOf 32 r u
+    split u lu = ap (λ v. bitOf 32 v u) whole ∙ bitOf-⊕ 32 b r u ∙ ap (λ v. v ⊕ bitOf 32 r u) (one-bit w u lw lu)
+
+pub removed-is : (left w : ℕ) → First left w → w < 32 → Removed left w (left - 1 * 2 ^ (31 - w) % 2 ^ 32)
+removed-is left w f lw =
+    let e : 1 * 2 ^ (31 - w) % 2 ^ 32 ≡ 2 ^ (31 - w) = shl-exact 1 (31 - w) 32 (lit< tt) (omega arith) ∙ one-mul (2 ^ (31 - w)) in
+    rw e (removed left w f lw)
+
+-- As code needs it: the word is there to be taken out.
+pub first-room : (left w : ℕ) → First left w → w < 32 → 1 * 2 ^ (31 - w) % 2 ^ 32 ≤ left
+first-room left w f lw =
+    let e : 1 * 2 ^ (31 - w) % 2 ^ 32 ≡ 2 ^ (31 - w) = shl-exact 1 (31 - w) 32 (lit< tt) (omega arith) ∙ one-mul (2 ^ (31 - w)) in
+    rw e (f .top)
