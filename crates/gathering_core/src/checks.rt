@@ -2,14 +2,14 @@
 // one.
 use crate::lanes;
 use crate::rows;
-use permutation_core::transpose_both;
+use permutation_core::transpose_eight;
 use word_spec::Syndromes;
 ghost use mathlib.Core.Path.{_≡_};
-ghost use Prim.Native.Nat.{_*_, _<_};
+ghost use Prim.Native.Nat.{_+_, _*_, _%_, _<_};
 ghost use lib.ListN.{length};
 ghost use Rattle.gathering_spec.specs.Sums.{Gathered, Parities};
 ghost use Rattle.gathering_spec.specs.Dirty.{Joining};
-ghost use Rattle.gathering_spec.specs.Collecting.{falling, wordNumber, ByWords, syndromesIn};
+ghost use Rattle.gathering_spec.specs.Collecting.{pairedSums, ByWords, syndromesIn};
 ghost use Rattle.pair_spec.specs.History.{depth};
 ghost use Rattle.gathering_core.specs.Held.{halvesWord};
 ghost use Rattle.gathering_core.specs.Lanes.{RowChecked};
@@ -72,43 +72,48 @@ pub fn dirty(sums: &[u32; 16], odd: u32) -> u32
     d
 }
 
-// The sums in falling order, first those of S1 and then those of S3.
-fn falling(sums: &[u32; 16]) -> [u32; 16]
-    ensures { λ b. ⌜ b ≡ falling (now (sums .entry)) ⌝ }
+// Two numbers of 32 bits in one of 64.
+fn pair_up(a: u32, b: u32) -> u64
+    ensures { λ r. ⌜ r ≡ a * 4294967296 + b % 4294967296 ⌝ }
 {
-    let mut b = [0u32; 16];
-    for i in 0..16 {
-        b[i] = sums[i / 8 * 8 + 7 - i % 8];
+    wide(a) * 4294967296 + wide(b)
+}
+
+// A number of 32 bits as one of 64.
+fn wide(x: u32) -> u64
+    ensures { λ r. ⌜ (r ≡ x) × (r < 4294967296) ⌝ }
+{
+    x as u64
+}
+
+// The sums in falling order, those of S1 in the upper halves and those of S3 in the lower.
+fn paired(sums: &[u32; 16]) -> [u64; 8]
+    ensures { λ b. ⌜ b ≡ pairedSums (now (sums .entry)) ⌝ }
+{
+    let mut b = [0u64; 8];
+    for i in 0..8 {
+        b[i] = pair_up(sums[7 - i], sums[15 - i]);
     }
     b
 }
 
-// S1 and S3 word by word: words 0 to 15 in the upper halves of the numbers, 16 to 31 in the lower; in each half S1 stands above S3.
-pub fn by_words(sums: &[u32; 16]) -> [u32; 16]
+// S1 and S3 word by word: those of word w are bytes w div 8 and w div 8 + 4 of number w mod 8.
+pub fn by_words(sums: &[u32; 16]) -> [u64; 8]
     ensures { λ u. ⌜ ByWords (now (sums .entry)) u ⌝ }
 {
-    let b = falling(sums);
-    transpose_both(b)
-}
-
-// The number of word w among them.
-fn word_number(numbers: &[u32; 16], w: usize) -> u32
-    requires { ⌜ w < 32 ⌝ }
-    ensures { λ v. ⌜ (v ≡ wordNumber (now (numbers .entry)) w) × (v < 65536) ⌝ }
-{
-    let v = numbers[w % 16];
-    (v >> (16 - 16 * (w / 16))) % 65536
+    let b = paired(sums);
+    transpose_eight(b)
 }
 
 // The syndromes of word w.
-pub fn syndromes(numbers: &[u32; 16], odd: u32, w: usize) -> Syndromes
+pub fn syndromes(numbers: &[u64; 8], odd: u32, w: usize) -> Syndromes
     requires { ⌜ w < 32 ⌝ }
     ensures { λ s. ⌜ (s ≡ syndromesIn (now (numbers .entry)) odd w) × (s .parity < 2) ⌝ }
 {
-    let v = word_number(numbers, w);
+    let v = numbers[w % 8];
     Syndromes {
-        s1: (v / 256) as u8,
-        s3: (v % 256) as u8,
+        s1: ((v >> (56 - 8 * (w / 8))) % 256) as u8,
+        s3: ((v >> (24 - 8 * (w / 8))) % 256) as u8,
         parity: ((odd >> (31 - w)) % 2) as u8,
     }
 }

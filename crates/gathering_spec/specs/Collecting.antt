@@ -6,51 +6,56 @@ use Prim.Native.Nat.{ℕ, _+_, _-_, _*_, _/_, _%_, _^_, _<_}
 use native.Mathlib.Omega.{arith}
 use lib.ListN.{getD}
 use Rattle.bits.specs.Bits.{bitOf, fromBits}
-use Rattle.bits.specs.BitLaws.{fromBits-lt, fromBits-ext, fromBits-bitOf}
+use Rattle.bits.specs.BitLaws.{fromBits-ext, fromBits-bitOf}
 use Rattle.bits.specs.Lists.{tabulate}
-use Rattle.bits.specs.NumberLaws.{fromBits-split}
-use Rattle.word_spec.specs.CodeWord.{Word, parity}
+use Rattle.word_spec.specs.CodeWord.{Word}
 use Rattle.word_spec.specs.RepairLaws.{Bits}
 use Rattle.word_spec.specs.Syndromes.{S1, S3, syndromesOf}
 use Rattle.word_spec.specs.declared.Syndromes.{Syndromes}
 use Rattle.gathering_spec.specs.Sums.{Gathered, Parities}
 use Rattle.gathering_spec.specs.Dirty.{S1-lt, S3-lt}
 
--- The sums in falling order, first those of S1 and then those of S3.
-unfoldable pub fallingIndex : ℕ → ℕ
-fallingIndex i = i / 8 * 8 + 7 - i % 8
+-- Bit w of eight of the sums, the last of them first: S1 of word w from 0 on, S3 from 8 on.
+unfoldable pub sumBit : List ℕ → ℕ → ℕ → ℕ → ℕ
+sumBit t from w k = bitOf 32 (getD t (from + 7 - k) 0) w
 
-unfoldable pub falling : List ℕ → List ℕ
-falling t = tabulate 16 (λ i. getD t (fallingIndex i) 0)
+unfoldable pub sumOf : List ℕ → ℕ → ℕ → ℕ
+sumOf t from w = fromBits 8 (sumBit t from w)
 
--- The number of word w among sixteen numbers of 32 bits: words 0 to 15 are the upper halves, 16 to 31 the lower.
-unfoldable pub wordNumber : List ℕ → ℕ → ℕ
-wordNumber u w = getD u (w % 16) 0 / 2 ^ (16 - 16 * (w / 16)) % 65536
+-- The sums in falling order, those of S1 in the upper halves and those of S3 in the lower.
+unfoldable pub pairedSum : List ℕ → ℕ → ℕ
+pairedSum t i = getD t (7 - i) 0 * 4294967296 + getD t (15 - i) 0 % 4294967296
 
--- The number of each word has its bits of the sums t, in falling order.
+unfoldable pub pairedSums : List ℕ → List ℕ
+pairedSums t = tabulate 8 (pairedSum t)
+
+-- Eight numbers of 64 bits that have S1 and S3 of the words as bytes: those of word w are bytes w div 8 and w div 8 + 4 of number w mod 8.
+unfoldable pub S1In : List ℕ → ℕ → ℕ
+S1In u w = getD u (w % 8) 0 / 2 ^ (56 - 8 * (w / 8)) % 256
+
+unfoldable pub S3In : List ℕ → ℕ → ℕ
+S3In u w = getD u (w % 8) 0 / 2 ^ (24 - 8 * (w / 8)) % 256
+
+-- They were made of the sums t.
 pub record ByWords (t u : List ℕ) : Type 0 where
-  pub number : (w : ℕ) → w < 32 → wordNumber u w ≡ fromBits 16 (λ i. bitOf 32 (getD t (fallingIndex i) 0) w)
+  pub first : (w : ℕ) → w < 32 → S1In u w ≡ sumOf t 0 w
+  pub third : (w : ℕ) → w < 32 → S3In u w ≡ sumOf t 8 w
 
--- It has S1 in its upper half and S3 in its lower.
+-- They are S1 and S3 of these words.
 pub record Collected (words : ℕ → Word) (u : List ℕ) : Type 0 where
-  pub first : (w : ℕ) → w < 32 → wordNumber u w / 256 ≡ S1 (words w)
-  pub third : (w : ℕ) → w < 32 → wordNumber u w % 256 ≡ S3 (words w)
+  pub first : (w : ℕ) → w < 32 → S1In u w ≡ S1 (words w)
+  pub third : (w : ℕ) → w < 32 → S3In u w ≡ S3 (words w)
 
 -- The syndromes of word w from these numbers and the parities.
 unfoldable pub syndromesIn : List ℕ → ℕ → ℕ → Syndromes
-syndromesIn u q w = record { s1 = wordNumber u w / 256; s3 = wordNumber u w % 256; parity = q / 2 ^ (31 - w) % 2 }
+syndromesIn u q w = record { s1 = S1In u w; s3 = S3In u w; parity = q / 2 ^ (31 - w) % 2 }
 
-pub syndromes-made : (u : List ℕ) (q w x : ℕ) → x ≡ wordNumber u w
-    → _≡_ {A = Syndromes} (record { s1 = x / 256; s3 = x % 256; parity = q / 2 ^ (31 - w) % 2 }) (syndromesIn u q w)
-unfolding syndromesIn
-syndromes-made u q w x e = rw e refl
-
-pub number-made : (u : List ℕ) (w x : ℕ) → x ≡ getD u (w % 16) 0 → x / 2 ^ (16 - 16 * (w / 16)) % 65536 ≡ wordNumber u w
-unfolding wordNumber
-number-made u w x e = ap (λ v. v / 2 ^ (16 - 16 * (w / 16)) % 65536) e
-
-pub number-lt : (x : ℕ) → x % 65536 < 65536
-number-lt x = omega arith
+-- As code makes them.
+module _ (u : List ℕ) (q w x : ℕ) (e : x ≡ getD u (w % 8) 0) where
+  pub syndromes-made : _≡_ {A = Syndromes} (record { s1 = x / 2 ^ (56 - 8 * (w / 8)) % 256; s3 = x / 2 ^ (24 - 8 * (w / 8)) % 256; parity = q / 2 ^ (31 - w) % 2 })
+      (syndromesIn u q w)
+  unfolding syndromesIn S1In S3In
+  syndromes-made = rw e refl
 
 pub last-lt : (x : ℕ) → x % 2 < 2
 last-lt x = omega arith
@@ -59,39 +64,22 @@ eight : (f : ℕ → ℕ) (v : ℕ) → v < 256 → ((k : ℕ) → k < 8 → f k
 unfolding bitOf
 eight f v l e = fromBits-ext 8 f (bitOf 8 v) (λ k lk. ap (λ u. u % 2) (e k lk)) ∙ fromBits-bitOf 8 v l
 
-upper-falls : (k : ℕ) → k < 8 → fallingIndex k ≡ 7 - k
-unfolding fallingIndex
-upper-falls k l = omega arith
+module _ {words : ℕ → Word} {t : List ℕ} (bits : (w : ℕ) → Bits (words w)) (a : Gathered words t) (w : ℕ) (l : w < 32) where
+  S1-of : sumOf t 0 w ≡ S1 (words w)
+  unfolding sumOf sumBit
+  S1-of =
+      eight (λ k. bitOf 32 (getD t (0 + 7 - k) 0) w) (S1 (words w)) (S1-lt (words w) (bits w))
+      (λ k lk. let e : 0 + 7 - k ≡ 7 - k = omega arith in ap (λ i. bitOf 32 (getD t i 0) w) e ∙ a .first w (7 - k) l (omega arith))
 
-lower-falls : (k : ℕ) → k < 8 → fallingIndex (8 + k) ≡ 8 + (7 - k)
-unfolding fallingIndex
-lower-falls k l = omega arith
+  S3-of : sumOf t 8 w ≡ S3 (words w)
+  unfolding sumOf sumBit
+  S3-of =
+      eight (λ k. bitOf 32 (getD t (8 + 7 - k) 0) w) (S3 (words w)) (S3-lt (words w) (bits w))
+      (λ k lk. let e : 8 + 7 - k ≡ 8 + (7 - k) = omega arith in ap (λ i. bitOf 32 (getD t i 0) w) e ∙ a .third w (7 - k) l (omega arith))
 
 pub by-words-collected : {words : ℕ → Word} {t u : List ℕ} → ((w : ℕ) → Bits (words w)) → Gathered words t → ByWords t u → Collected words u
-by-words-collected {words} {t} {u} bits a n =
-    record {
-      first = λ w l. let e = S1-of w l in let h = parts w l in omega (arith, h, e, fromBits-lt 8 (below w));
-      third = λ w l. let e = S3-of w l in let h = parts w l in omega (arith, h, e, fromBits-lt 8 (below w));
-    }
-  where
-    above : ℕ → ℕ → ℕ
-    above w i = bitOf 32 (getD t (fallingIndex i) 0) w
-
-    below : ℕ → ℕ → ℕ
-    below w k = above w (8 + k)
-
-    parts : (w : ℕ) → w < 32 → wordNumber u w ≡ fromBits 8 (above w) * 256 + fromBits 8 (below w)
-    parts w l = n .number w l ∙ fromBits-split 8 8 (above w)
-
-    S1-of : (w : ℕ) → w < 32 → fromBits 8 (above w) ≡ S1 (words w)
-    S1-of w l =
-        eight (above w) (S1 (words w)) (S1-lt (words w) (bits w))
-        (λ k lk. ap (λ i. bitOf 32 (getD t i 0) w) (upper-falls k lk) ∙ a .first w (7 - k) l (omega arith))
-
-    S3-of : (w : ℕ) → w < 32 → fromBits 8 (below w) ≡ S3 (words w)
-    S3-of w l =
-        eight (below w) (S3 (words w)) (S3-lt (words w) (bits w))
-        (λ k lk. ap (λ i. bitOf 32 (getD t i 0) w) (lower-falls k lk) ∙ a .third w (7 - k) l (omega arith))
+by-words-collected bits a n =
+    record { first = λ w l. n .first w l ∙ S1-of bits a w l; third = λ w l. n .third w l ∙ S3-of bits a w l }
 
 -- They are the syndromes that the repair of the word goes by.
 pub syndromes-collected : {words : ℕ → Word} {u : List ℕ} {q : ℕ} → Collected words u → Parities words q → (w : ℕ) → w < 32

@@ -18,7 +18,7 @@ use Rattle.gf256.specs.Linear.{Linear, additive, sum-through}
 use Rattle.word_spec.specs.CodeWord.{Word, parity}
 use Rattle.gathering_spec.specs.NetworkLaws.{bitOf-⊕}
 use Rattle.gathering_spec.specs.Sums.{bitIn, wordIn, bothRows, Parities}
-use Rattle.gathering_spec.specs.SumLaws.{xorSum-blocks, front-bit, back-bit, upper-bit, lower-bit}
+use Rattle.gathering_spec.specs.SumLaws.{xorSum-blocks, front-bit, back-bit, upper-bit, lower-word}
 
 bit-sum : (x y : ℕ) → x < 2 → y < 2 → (x + y) % 2 ≡ x ⊕ y
 unfolding _⊕_
@@ -75,6 +75,6 @@ unfolding bothRows
 parities x0 y0 x1 y1 p q r ep eq er = record { parity-of = λ w lw. ap (λ u. bitOf 32 u w) er ∙ go w lw (decLt w 16) }
   where
     go : (w : ℕ) → w < 32 → Dec (w < 16) → bitOf 32 (p * 65536 + q % 65536) w ≡ parity (cond (ltb w 16) (wordIn x0 y0 w) (wordIn x1 y1 (w - 16)))
-    go w lw (yes l) = upper-bit p q w l ∙ simp (lt-ltb w 16 l) (ap (λ u. bitOf 16 u w) ep ∙ summed x0 y0 w)
+    go w lw (yes l) = upper-bit 16 p q w l ∙ simp (lt-ltb w 16 l) (ap (λ u. bitOf 16 u w) ep ∙ summed x0 y0 w)
     go w lw (no l) =
-        lower-bit p q w (omega arith) lw ∙ simp (le-ltb w 16 (omega arith)) (ap (λ u. bitOf 16 u (w - 16)) eq ∙ summed x1 y1 (w - 16))
+        lower-word p q w (omega arith) lw ∙ simp (le-ltb w 16 (omega arith)) (ap (λ u. bitOf 16 u (w - 16)) eq ∙ summed x1 y1 (w - 16))

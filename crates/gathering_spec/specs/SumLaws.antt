@@ -5,14 +5,14 @@ use mathlib.Core.Bool.{Bool, true, false, cond}
 use mathlib.Core.Logic.{_≢_}
 use mathlib.Core.List.{List, [], _∷_}
 use Prim.Native.Nat.{ℕ, zero, suc, _+_, _-_, _*_, _/_, _%_, _^_, _<_, _≤_}
-use native.Mathlib.Nat.{div-add-mod', zero-mul, mul-zero, suc-mul}
+use native.Mathlib.Nat.{div-add-mod', mod-lt, zero-mul, mul-zero, suc-mul}
 use native.Mathlib.Omega.{arith}
 use native.Mathlib.Decide.{decLt}
 use borrow.Author.Tests.{lt-ltb, le-ltb}
 use lib.Bits.{xor-mod}
 use lib.Dec.{ltb}
 use lib.ListN.{getD, set}
-use lib.Pow.{shr-shr, shr-le}
+use lib.Pow.{pow-pos, shr-shr, shr-le, high, low}
 use lib.Seq.{getD-set-other}
 use Rattle.bits.specs.Bits.{bitOf}
 use Rattle.bits.specs.BitLaws.{bitOf-lt}
@@ -282,24 +282,27 @@ low-linear = additive (λ v. v % 256) (λ a b. xor-mod a b 8)
 high-linear : Linear (λ v. v / 256)
 high-linear = additive (λ v. v / 256) (λ a b. ⊕-shr a b 8)
 
--- ---- two rows in one
+-- ---- two numbers of n bits in one of twice as many
 
-pub upper-bit : (a b w : ℕ) → w < 16 → bitOf 32 (a * 65536 + b % 65536) w ≡ bitOf 16 a w
+pub upper-bit : (n a b w : ℕ) → w < n → bitOf (n + n) (a * 2 ^ n + b % 2 ^ n) w ≡ bitOf n a w
 unfolding bitOf
-upper-bit a b w lw =
-    let e : 32 - 1 - w ≡ 16 + (16 - 1 - w) = omega arith in
-    let q : (a * 65536 + b % 65536) / 2 ^ 16 ≡ a = omega arith in
-    ap (λ k. (a * 65536 + b % 65536) / 2 ^ k % 2) e
-    ∙ ap (λ u. u % 2) (sym (shr-shr (a * 65536 + b % 65536) 16 (16 - 1 - w)) ∙ ap (λ u. u / 2 ^ (16 - 1 - w)) q)
+upper-bit n a b w l =
+    let e : n + n - 1 - w ≡ n + (n - 1 - w) = omega arith in
+    ap (λ k. (a * 2 ^ n + b % 2 ^ n) / 2 ^ k % 2) e
+    ∙ ap (λ u. u % 2)
+    (sym (shr-shr (a * 2 ^ n + b % 2 ^ n) n (n - 1 - w)) ∙ ap (λ u. u / 2 ^ (n - 1 - w)) (high a n (mod-lt b (pow-pos n))))
 
-pub lower-bit : (a b w : ℕ) → 16 ≤ w → w < 32 → bitOf 32 (a * 65536 + b % 65536) w ≡ bitOf 16 b (w - 16)
+pub lower-bit : (n a b w : ℕ) → w < n → bitOf (n + n) (a * 2 ^ n + b % 2 ^ n) (n + w) ≡ bitOf n b w
 unfolding bitOf
-lower-bit a b w l lw =
-    let e : 32 - 1 - w ≡ 16 - 1 - (w - 16) = omega arith in
-    let same : (a * 65536 + b % 65536) % 2 ^ 16 ≡ b % 2 ^ 16 = omega arith in
-    ap (λ k. (a * 65536 + b % 65536) / 2 ^ k % 2) e
-    ∙ low-digit 16 (a * 65536 + b % 65536) (16 - 1 - (w - 16)) (omega arith) ∙ ap (λ u. u / 2 ^ (16 - 1 - (w - 16)) % 2) same
-    ∙ sym (low-digit 16 b (16 - 1 - (w - 16)) (omega arith))
+lower-bit n a b w l =
+    let e : n + n - 1 - (n + w) ≡ n - 1 - w = omega arith in
+    ap (λ k. (a * 2 ^ n + b % 2 ^ n) / 2 ^ k % 2) e
+    ∙ low-digit n (a * 2 ^ n + b % 2 ^ n) (n - 1 - w) (omega arith) ∙ ap (λ u. u / 2 ^ (n - 1 - w) % 2) (low a n (mod-lt b (pow-pos n)))
+    ∙ sym (low-digit n b (n - 1 - w) (omega arith))
+
+-- Two rows.
+pub lower-word : (a b w : ℕ) → 16 ≤ w → w < 32 → bitOf 32 (a * 65536 + b % 65536) w ≡ bitOf 16 b (w - 16)
+lower-word a b w l lw = let e : w ≡ 16 + (w - 16) = omega arith in ap (bitOf 32 (a * 65536 + b % 65536)) e ∙ lower-bit 16 a b (w - 16) (omega arith)
 
 module _ (a b z : List ℕ) (e : z ≡ joinedRows a b) (C : ℕ) (lC : C < 8) where
   joined-lane : (i : ℕ) → i < 16 → getD (lane z C) i 0 ≡ getD a (8 * i + C) 0 * 65536 + getD b (8 * i + C) 0 % 65536
@@ -311,7 +314,7 @@ module _ (a b z : List ℕ) (e : z ≡ joinedRows a b) (C : ℕ) (lC : C < 8) wh
   unfolding lane
   shows-upper w v lw p =
       record {
-        bits = λ i l. ap (λ u. bitOf 32 u w) (joined-lane i l) ∙ upper-bit (getD a (8 * i + C) 0) (getD b (8 * i + C) 0) w lw
+        bits = λ i l. ap (λ u. bitOf 32 u w) (joined-lane i l) ∙ upper-bit 16 (getD a (8 * i + C) 0) (getD b (8 * i + C) 0) w lw
             ∙ sym (ap (λ u. bitOf 16 u w) (getD-tabulate 16 (λ i. getD a (8 * i + C) 0) i 0 l)) ∙ p .bits i l;
       }
 
@@ -319,7 +322,7 @@ module _ (a b z : List ℕ) (e : z ≡ joinedRows a b) (C : ℕ) (lC : C < 8) wh
   unfolding lane
   shows-lower w v l lw p =
       record {
-        bits = λ i li. ap (λ u. bitOf 32 u w) (joined-lane i li) ∙ lower-bit (getD a (8 * i + C) 0) (getD b (8 * i + C) 0) w l lw
+        bits = λ i li. ap (λ u. bitOf 32 u w) (joined-lane i li) ∙ lower-word (getD a (8 * i + C) 0) (getD b (8 * i + C) 0) w l lw
             ∙ sym (ap (λ u. bitOf 16 u (w - 16)) (getD-tabulate 16 (λ i. getD b (8 * i + C) 0) i 0 li)) ∙ p .bits i li;
       }
 

@@ -1,5 +1,5 @@
 -- Definitions first; the laws about each stand in the file below it.
 pub mod Stages
 pub mod StageLaws
-pub mod Both
-pub mod BothLaws
+pub mod Eight
+pub mod EightLaws

@@ -8,9 +8,8 @@ ghost use Rattle.blocks.specs.Block.{block};
 ghost use Rattle.blocks.specs.Moves.{transposed};
 ghost use Rattle.blocks.specs.Exchanges.{rowsExchanged, columnsExchanged};
 ghost use Rattle.permutation_core.specs.Stages.{rowsStage, columnsStage, crossedFirst, crossedSecond, crossStage};
-ghost use Rattle.permutation_core.specs.Both.{sideBySide, crossBoth, BothTransposed};
+ghost use Rattle.permutation_core.specs.Eight.{eightMoved, eightRow, eightColumn, eightTransposed};
 ghost use Rattle.permutation_core.specs.StageLaws.{Mask};
-ghost use Rattle.permutation_core.specs.BothLaws.{BothMask};
 
 // Two bit rows exchange the columns of m.
 fn rows_stage(b: [u16; 16], m: u16) -> [u16; 16]
@@ -52,15 +51,15 @@ fn columns_stage(b: [u16; 16], m: u16, n: usize) -> [u16; 16]
     out
 }
 
-// Two rows, and two numbers of 32 bits.
+// Two rows, and two numbers of 64 bits.
 struct Rows {
     first: u16,
     second: u16,
 }
 
-struct BothRows {
-    first: u32,
-    second: u32,
+struct EightRows {
+    first: u64,
+    second: u64,
 }
 
 // The columns of m of the first change places with those n before them of the second.
@@ -75,12 +74,12 @@ fn crossed(x: u16, y: u16, m: u16, n: usize) -> Rows
     }
 }
 
-fn crossed_both(x: u32, y: u32, m: u32, n: usize) -> BothRows
-    requires { ⌜ BothMask m n × (n < 16) ⌝ }
-    ensures { λ r. ⌜ (r .first ≡ crossedFirst 32 m n x y) × (r .second ≡ crossedSecond 32 m n x y) ⌝ }
+fn crossed_eight(x: u64, y: u64, m: u64, n: usize) -> EightRows
+    requires { ⌜ Mask 64 m n × (n < 64) ⌝ }
+    ensures { λ r. ⌜ (r .first ≡ crossedFirst 64 m n x y) × (r .second ≡ crossedSecond 64 m n x y) ⌝ }
 {
     let d = (x ^ (y >> n)) & m;
-    BothRows {
+    EightRows {
         first: x ^ d,
         second: y ^ (d << n),
     }
@@ -104,18 +103,18 @@ fn cross_stage(b: [u16; 16], m: u16, n: usize) -> [u16; 16]
     out
 }
 
-// The same of two blocks side by side in numbers of 32 bits; m has the columns of both.
-fn cross_stage_both(b: [u32; 16], m: u32, n: usize) -> [u32; 16]
-    requires { ⌜ BothMask m n × (n < 16) ⌝ }
-    ensures { λ r. ⌜ r ≡ sideBySide (crossBoth m n b) ⌝ }
+// The same of eight blocks of 8 by 8 bits side by side.
+fn cross_stage_eight(b: [u64; 8], m: u64, n: usize) -> [u64; 8]
+    requires { ⌜ Mask 64 m n × (n < 64) ⌝ }
+    ensures { λ r. ⌜ r ≡ eightMoved (eightRow m) (eightColumn m n) b ⌝ }
 {
-    let mut out = [0u32; 16];
-    for k in 0..8 {
+    let mut out = [0u64; 8];
+    for k in 0..4 {
         let i = 2 * k;
         let j = i + 1;
         let x = b[k];
-        let y = b[8 + k];
-        let r = crossed_both(x, y, m, n);
+        let y = b[4 + k];
+        let r = crossed_eight(x, y, m, n);
         out[i] = r.first;
         out[j] = r.second;
     }
@@ -152,12 +151,11 @@ pub fn transpose(b: [u16; 16]) -> [u16; 16]
     cross_stage(v, 0x5555, 1)
 }
 
-// Two blocks side by side, each transposed.
-pub fn transpose_both(b: [u32; 16]) -> [u32; 16]
-    ensures { λ r. ⌜ BothTransposed b r ⌝ }
+// Eight blocks of 8 by 8 bits side by side, each transposed.
+pub fn transpose_eight(b: [u64; 8]) -> [u64; 8]
+    ensures { λ r. ⌜ r ≡ eightTransposed b ⌝ }
 {
-    let t = cross_stage_both(b, 0x00FF00FF, 8);
-    let u = cross_stage_both(t, 0x0F0F0F0F, 4);
-    let v = cross_stage_both(u, 0x33333333, 2);
-    cross_stage_both(v, 0x55555555, 1)
+    let u = cross_stage_eight(b, 0x0F0F0F0F0F0F0F0F, 4);
+    let v = cross_stage_eight(u, 0x3333333333333333, 2);
+    cross_stage_eight(v, 0x5555555555555555, 1)
 }

@@ -50,7 +50,7 @@ use Rattle.gathering_spec.specs.Collecting.{syndromesIn, ByWords, Collected, by
 use Rattle.gathering_core.specs.Held.{halvesWord}
 use Rattle.gathering_core.specs.HeldLaws.{halves-held, gathered-held, parities-held}
 use Rattle.gathering_core.specs.RowWords.{codedHalves}
-use Rattle.receiving_core.specs.Sets.{Removed}
+use Rattle.receiving_core.specs.Sets.{Removed, passSet, pass-first, pass-second}
 use Rattle.receiving_core.specs.Mending.{flippedNumber, flippedIf, bufferFlippedIf, flippedBack, codedBit, flippedCoded, mendedBy, updated, Holding}
 use Rattle.receiving_core.specs.Mending.{repairedBy, inSet, Handled, HandledSet, HandledDirty, HandledAll, Repaired}
 
@@ -616,11 +616,55 @@ module _ (u : List ℕ) (q d : ℕ) (front : Bool) (s c ms₀ s₁ c₁ ms₁ s�
         (both-sets (repairedBy front words) words (λ v l i. sym (ap (λ r. repaired r (words v)) (sound front (words v) (bits v) i) ∙ stays (words v))) v lv))
         (then-done .1)
 
-  pub handled-dirty : HandledDirty u q d front s c ms₂ s₂ c₂
+  handled-dirty : HandledDirty u q d front s c ms₂ s₂ c₂
   handled-dirty = record { done = λ words bits g o k e. (marks-done words bits g o k e, words-done words bits g o k e) }
 
-pub marks-long : (ms : List ℕ) → ms ≡ tabulate 32 (λ w. 0) → length ms ≡ 32
-marks-long ms e = ap length e ∙ length-tabulate 32 (λ w. 0)
+-- The two passes: none / more / done
+pub record Passing (u : List ℕ) (q d : ℕ) (front : Bool) (s₀ c₀ : List ℕ) (p : ℕ) (s c ms : List ℕ) : Type 0 where
+  pub upto : p ≤ 2
+  pub marks : length ms ≡ 32
+  pub coded : length c ≡ 512
+  pub start : p ≡ 0 → (ms ≡ tabulate 32 (λ w. 0)) × (s ≡ s₀) × (c ≡ c₀)
+  pub first : p ≡ 1 → HandledSet u q front q s₀ c₀ (tabulate 32 (λ w. 0)) s c ms
+  pub both : p ≡ 2 → HandledDirty u q d front s₀ c₀ ms s c
+
+pub pass-none : (u : List ℕ) (q d : ℕ) (front : Bool) (s c ms : List ℕ) → ms ≡ tabulate 32 (λ w. 0) → length c ≡ 512 → Passing u q d front s c 0 s c ms
+pass-none u q d front s c ms e l =
+    record {
+      upto = omega arith;
+      marks = ap length e ∙ length-tabulate 32 (λ w. 0);
+      coded = l;
+      start = λ z. (e, refl, refl);
+      first = λ z. absurd (omega arith);
+      both = λ z. absurd (omega arith);
+    }
+
+pub pass-more : {u : List ℕ} {q d : ℕ} {front : Bool} {s₀ c₀ : List ℕ} {p : ℕ} {s c ms : List ℕ} (k : ℕ) (a b ns : List ℕ) → Passing u q d front s₀ c₀ p s c ms → p < 2
+    → k ≡ passSet q d p → HandledSet u q front k s c ms a b ns → length b ≡ 512 → length ns ≡ 32 → Passing u q d front s₀ c₀ (p + 1) a b ns
+pass-more {u} {q} {d} {front} {s₀} {c₀} {p} {s} {c} {ms} k a b ns was l ek h lb ln =
+    record {
+      upto = omega arith;
+      marks = ln;
+      coded = lb;
+      start = λ z. absurd (omega arith);
+      first = λ z. let o : p ≡ 0 = omega arith in let at-start = was .start o in rw (at-start .0, at-start .1, at-start .2, ek ∙ sym (pass-first q d p o)) at h;
+      both = λ z.
+          let o : p ≡ 1 = omega arith in
+          let n : p ≡ 0 → ⊥ = λ e. omega arith in
+          handled-dirty u q d front s₀ c₀ (tabulate 32 (λ w. 0)) s c ms a b ns refl (was .first o) (rw (ek ∙ sym (pass-second q d p n)) at h);
+    }
+
+pub pass-coded : {u : List ℕ} {q d : ℕ} {front : Bool} {s₀ c₀ : List ℕ} {p : ℕ} {s c ms : List ℕ} → Passing u q d front s₀ c₀ p s c ms → length c ≡ 512
+pass-coded was = was .coded
+
+pub pass-marks : {u : List ℕ} {q d : ℕ} {front : Bool} {s₀ c₀ : List ℕ} {p : ℕ} {s c ms : List ℕ} → Passing u q d front s₀ c₀ p s c ms → length ms ≡ 32
+pass-marks was = was .marks
+
+pub pass-done : {u : List ℕ} {q d : ℕ} {front : Bool} {s₀ c₀ : List ℕ} {p : ℕ} {s c ms : List ℕ} → Passing u q d front s₀ c₀ p s c ms → 2 ≤ p
+    → HandledDirty u q d front s₀ c₀ ms s c
+pass-done was l = was .both (omega (arith, was .upto))
+
+pub ruleset passing = (pass-none, pass-more, pass-coded, pass-marks, pass-done)
 
 pub handled-all : (t : List ℕ) (q d : ℕ) (front : Bool) (s c u ms s′ c′ : List ℕ) → ByWords t u → HandledDirty u q d front s c ms s′ c′
     → HandledAll t q d front s c ms s′ c′

@@ -6,6 +6,7 @@ use mathlib.Core.Bool.{cond}
 use Prim.Native.Nat.{ℕ, suc, _+_, _-_, _*_, _/_, _%_, _^_, _<_, _≤_}
 use native.Mathlib.Nat.{div-eq-of-lt, one-mul, pow-suc}
 use native.Mathlib.Omega.{arith}
+use borrow.Author.Tests.{eq-eqb, ne-eqb}
 use lib.Count.{leadingZeros, leading-le, leading-top}
 use lib.Dec.{eqb, lit<}
 use lib.Pow.{shl-exact}
@@ -25,6 +26,18 @@ pub record Removed (left w r : ℕ) : Type 0 where
   pub fewer : r < left
   pub gone : bitOf 32 r w ≡ 0
   pub each : (u : ℕ) → u < 32 → bitOf 32 left u ≡ cond (eqb u w) 1 0 ⊕ bitOf 32 r u
+
+-- The words of odd parity in the first pass, the others that are no code words in the second.
+unfoldable pub passSet : ℕ → ℕ → ℕ → ℕ
+passSet q d p = cond (eqb p 0) q (d ⊕ q)
+
+pub pass-first : (q d p : ℕ) → p ≡ 0 → q ≡ passSet q d p
+unfolding passSet
+pass-first q d p e = sym (simp (eq-eqb p 0 e))
+
+pub pass-second : (q d p : ℕ) → (p ≡ 0 → ⊥) → d ⊕ q ≡ passSet q d p
+unfolding passSet
+pass-second q d p n = sym (simp (ne-eqb p 0 n))
 
 pub zeros-fit : (x : ℕ) → leadingZeros 32 x < 2 ^ 64
 zeros-fit x = omega (arith, leading-le 32 x)

@@ -16,7 +16,7 @@ ghost use Rattle.pair_words_core.specs.Halves.{payloadIn};
 ghost use Rattle.pair_spec.specs.History.{depth, shift};
 ghost use Rattle.pair_spec.specs.Calls.{receiveBuffers, receivePair};
 ghost use Rattle.receiving_core.specs.Mending.{flippedIf, flippedBack, bufferFlippedIf, flippedCoded, mendedBy, Handled, HandledSet, HandledDirty, HandledAll, Repaired};
-ghost use Rattle.receiving_core.specs.Sets.{First, Removed};
+ghost use Rattle.receiving_core.specs.Sets.{First, Removed, passSet};
 
 // A number with bit j flipped where b is 1.
 fn flipped_number(v: u16, j: usize, b: u16) -> u16
@@ -84,7 +84,7 @@ fn repair_word(
     halves: &mut [u16; 256],
     coded: &mut [u8],
     w: usize,
-    numbers: &[u32; 16],
+    numbers: &[u64; 8],
     odd: u32,
     front: bool,
     table: &[u8; 255],
@@ -122,7 +122,7 @@ fn repair_marked(
     halves: &mut [u16; 256],
     coded: &mut [u8],
     set: u32,
-    numbers: &[u32; 16],
+    numbers: &[u64; 8],
     odd: u32,
     front: bool,
     table: &[u8; 255],
@@ -163,12 +163,19 @@ fn no_marks(marks: &mut [u8])
     }
 }
 
+// The set of words for a pass: those of odd parity in the first, the others that are no code words in the second.
+fn set_of(odd: u32, dirty: u32, pass: usize) -> u32
+    ensures { λ r. ⌜ r ≡ passSet odd dirty pass ⌝ }
+{
+    if pass == 0 { odd } else { dirty ^ odd }
+}
+
 // Repairs the words that are no code words, and puts the marks of all 32: first the words of odd parity, which can have one flip, and then
 // those that can have two, so that a branch goes the same way as for the word before.
 fn repair_dirty(
     halves: &mut [u16; 256],
     coded: &mut [u8],
-    numbers: &[u32; 16],
+    numbers: &[u64; 8],
     odd: u32,
     dirty: u32,
     front: bool,
@@ -182,32 +189,21 @@ fn repair_dirty(
     ensures { λ _. ⌜ HandledDirty (now (numbers .entry)) odd dirty front (now (halves .entry)) (now (coded .entry)) (now (marks .exit)) (now (halves .exit)) (now (coded .exit)) ⌝ }
 {
     no_marks(marks);
-    repair_marked(
-        halves,
-        coded,
-        odd,
-        numbers,
-        odd,
-        front,
-        table,
-        logs,
-        cubes,
-        roots,
-        marks,
-    );
-    repair_marked(
-        halves,
-        coded,
-        dirty ^ odd,
-        numbers,
-        odd,
-        front,
-        table,
-        logs,
-        cubes,
-        roots,
-        marks,
-    );
+    for pass in 0..2 {
+        repair_marked(
+            halves,
+            coded,
+            set_of(odd, dirty, pass),
+            numbers,
+            odd,
+            front,
+            table,
+            logs,
+            cubes,
+            roots,
+            marks,
+        );
+    }
 }
 
 // The same from the sums; here the tables are named.

@@ -164,6 +164,7 @@ unsafe extern "C" {
 /// Repairs a check word of 32 bytes in place; if `front` is 0, flips may fall in the back half only.
 ///
 /// Value: the number of flips, 0 to 2, or 3 for a lost word.
+#[inline]
 pub fn repair_word(word: &mut [u8], front: u32) -> Outcome {
     unsafe { ofec_repair_word(word.as_mut_ptr(), word.len(), front) }
 }
@@ -172,6 +173,7 @@ pub fn repair_word(word: &mut [u8], front: u32) -> Outcome {
 /// moved on. The numbers of encoder and pair must be those in front of the history.
 ///
 /// Value: the next pair number; in a refusal, the number that was passed.
+#[inline]
 pub fn encode_pair(
     payload: &[u8],
     coded: &mut [u8],
@@ -197,6 +199,7 @@ pub fn encode_pair(
 /// 5,128, which is moved on. The numbers of encoder and pair must be those in front of the history.
 ///
 /// Value: the next pair number; in a refusal, the number that was passed.
+#[inline]
 pub fn receive_pair(
     coded: &[u8],
     payload: &mut [u8],
@@ -222,6 +225,7 @@ pub fn receive_pair(
 }
 
 /// Interleaves the 21 pairs of two encoders, 10,752 bytes each, to `bits` of 21,504.
+#[inline]
 pub fn interleave(pairs0: &[u8], pairs1: &[u8], bits: &mut [u8]) -> Outcome {
     unsafe {
         ofec_interleave(
@@ -236,6 +240,7 @@ pub fn interleave(pairs0: &[u8], pairs1: &[u8], bits: &mut [u8]) -> Outcome {
 }
 
 /// Takes `bits` of 21,504 bytes apart into the pairs of two encoders, 10,752 bytes each.
+#[inline]
 pub fn deinterleave(bits: &[u8], pairs0: &mut [u8], pairs1: &mut [u8]) -> Outcome {
     unsafe {
         ofec_deinterleave(
@@ -250,17 +255,20 @@ pub fn deinterleave(bits: &[u8], pairs0: &mut [u8], pairs1: &mut [u8]) -> Outcom
 }
 
 /// Maps `bits` of 21,504 bytes to `cells` of 43,008.
+#[inline]
 pub fn bits_to_cells(bits: &[u8], cells: &mut [u8]) -> Outcome {
     unsafe { ofec_bits_to_cells(bits.as_ptr(), bits.len(), cells.as_mut_ptr(), cells.len()) }
 }
 
 /// Maps `cells` of 43,008 bytes to `bits` of 21,504.
+#[inline]
 pub fn cells_to_bits(cells: &[u8], bits: &mut [u8]) -> Outcome {
     unsafe { ofec_cells_to_bits(cells.as_ptr(), cells.len(), bits.as_mut_ptr(), bits.len()) }
 }
 
 /// Frames sub-frame `number`, 0 to 47: `payload` of 6,980 bytes (number 0) or 7,172, and its part of
 /// the `overhead` list of 12,288, to `frame` of 7,424. Above 47 the payload is not measured.
+#[inline]
 pub fn frame(number: u32, payload: &[u8], overhead: &[u8], frame: &mut [u8]) -> Outcome {
     unsafe {
         ofec_frame(
@@ -278,6 +286,7 @@ pub fn frame(number: u32, payload: &[u8], overhead: &[u8], frame: &mut [u8]) -> 
 /// Unframes sub-frame `number`: the buffers of [`frame`](frame()), but the payload is written.
 ///
 /// Value: the number of overhead cells that differ from the list.
+#[inline]
 pub fn unframe(number: u32, frame: &[u8], overhead: &[u8], payload: &mut [u8]) -> Outcome {
     unsafe {
         ofec_unframe(
@@ -293,16 +302,19 @@ pub fn unframe(number: u32, frame: &[u8], overhead: &[u8], payload: &mut [u8]) -
 }
 
 /// Maps `bits` of 21,504 bytes to `cells` of 86,016, by the profile QPSK.
+#[inline]
 pub fn bits_to_cells_qpsk(bits: &[u8], cells: &mut [u8]) -> Outcome {
     unsafe { ofec_bits_to_cells_qpsk(bits.as_ptr(), bits.len(), cells.as_mut_ptr(), cells.len()) }
 }
 
 /// Maps `cells` of 86,016 bytes to `bits` of 21,504, by the profile QPSK.
+#[inline]
 pub fn cells_to_bits_qpsk(cells: &[u8], bits: &mut [u8]) -> Outcome {
     unsafe { ofec_cells_to_bits_qpsk(cells.as_ptr(), cells.len(), bits.as_mut_ptr(), bits.len()) }
 }
 
 /// As [`frame`](frame()), with payload cells of the profile QPSK.
+#[inline]
 pub fn frame_qpsk(number: u32, payload: &[u8], overhead: &[u8], frame: &mut [u8]) -> Outcome {
     unsafe {
         ofec_frame_qpsk(
@@ -320,6 +332,7 @@ pub fn frame_qpsk(number: u32, payload: &[u8], overhead: &[u8], frame: &mut [u8]
 /// As [`unframe`], with payload cells of the profile QPSK.
 ///
 /// Value: the number of overhead cells that differ from the list.
+#[inline]
 pub fn unframe_qpsk(number: u32, frame: &[u8], overhead: &[u8], payload: &mut [u8]) -> Outcome {
     unsafe {
         ofec_unframe_qpsk(
@@ -335,6 +348,7 @@ pub fn unframe_qpsk(number: u32, frame: &[u8], overhead: &[u8], payload: &mut [u
 }
 
 /// Opens a line file, given as a whole.
+#[inline]
 pub fn open_line(file: &[u8]) -> Line {
     unsafe { ofec_open_line(file.as_ptr(), file.len()) }
 }
@@ -343,6 +357,7 @@ pub fn open_line(file: &[u8]) -> Line {
 /// at.
 ///
 /// Index: where the sub-frame starts. Value: its length, 7,424.
+#[inline]
 pub fn read_line(file: &[u8], line: Line, superframe: u32, subframe: u32) -> Outcome {
     unsafe {
         ofec_read_line(
@@ -358,6 +373,7 @@ pub fn read_line(file: &[u8], line: Line, superframe: u32, subframe: u32) -> Out
 }
 
 /// Writes the header, 16 bytes, of a line file of 1 to 64 super-frames without gaps.
+#[inline]
 pub fn write_header(superframes: u32, header: &mut [u8]) -> Outcome {
     unsafe { ofec_write_header(superframes, header.as_mut_ptr(), header.len()) }
 }

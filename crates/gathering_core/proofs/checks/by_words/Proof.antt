@@ -1,4 +1,4 @@
--- `gathering_core::checks::by_words` meets its contract: in falling order, transposed.
+-- `gathering_core::checks::by_words` meets its contract: paired and transposed.
 -- Assumes nothing.
 use Rattle.gathering_core.specs.ByWords.{by-words-made}
 use borrow.Author.Needs.{needs}
@@ -11,6 +11,6 @@ pub by-words-spec : {M : Type 1} → statement M
 by-words-spec =
     tie.close
     (tie.spec
-    (λ c κs. search kit)  -- falling-requires
-    (λ c κs. search kit)  -- transpose-both-requires
+    (λ c κs. search kit)  -- paired-requires
+    (λ c κs. search kit)  -- transpose-eight-requires
     (λ c. search kit))  -- returns

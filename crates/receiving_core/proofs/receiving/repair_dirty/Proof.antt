@@ -1,21 +1,32 @@
--- `receiving_core::receiving::repair_dirty` meets its contract: two sets of words.
+-- `receiving_core::receiving::repair_dirty` meets its contract: pass by pass.
 -- Assumes nothing.
-use Rattle.bits.specs.Xor.{_⊕_}
-use Rattle.receiving_core.specs.MendingLaws.{handled-dirty, marks-long}
+use Prim.Native.Nat.{_-_}
+use Rattle.receiving_core.specs.MendingLaws.{Passing, passing}
 use borrow.Author.Needs.{needs}
 use Rattle.receiving_core.proofs.receiving.repair_dirty.Statement.{statement}
 use Rattle.receiving_core.proofs.receiving.repair_dirty.Tie as tie
 
-ruleset kit = (needs, handled-dirty, marks-long)
+ruleset kit = (needs, passing)
+
+abbrev Inv-loop : tie.InvT-loop
+Inv-loop halves₀ coded₀ numbers odd dirty front table logs cubes roots marks₀ pass₀ halves coded marks pass = Passing numbers odd dirty front halves₀ coded₀ pass halves coded marks
+
+abbrev μ-loop : tie.MeasureT-loop
+μ-loop halves₀ coded₀ numbers odd dirty front table logs cubes roots marks₀ pass₀ halves coded marks pass = 2 - pass
 
 pub repair-dirty-spec : {M : Type 1} → statement M
-unfolding _⊕_
 repair-dirty-spec =
     tie.close
     (tie.spec
+    Inv-loop
+    μ-loop
     (λ c κs. search kit)  -- no-marks-requires
+    (λ c. search kit)  -- loop-holds
+    (λ c κs. search kit)  -- set-of-requires
     (λ c κs. search kit)  -- repair-marked-requires
-    (λ c κs. search kit)  -- repair-marked-requires-2
+    (λ c. search kit)  -- add-pass
+    (λ c. search kit)  -- loop-less
+    (λ c. search kit)  -- loop-again
     (λ c. search kit)  -- same-length
     (λ c. search kit)  -- same-length-2
     (λ c. search kit))  -- returns

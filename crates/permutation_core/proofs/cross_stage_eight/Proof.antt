@@ -1,24 +1,24 @@
--- `permutation_core::cross_stage_both` meets its contract: two numbers a turn.
+-- `permutation_core::cross_stage_eight` meets its contract: two numbers a turn.
 -- Assumes nothing.
 use Prim.Native.Nat.{_-_}
 use Rattle.blocks.specs.Twos.{Twos, twos}
-use Rattle.permutation_core.specs.Both.{sideWord, sideBySide, crossBoth}
-use Rattle.permutation_core.specs.BothLaws.{both-rows}
+use Rattle.permutation_core.specs.Eight.{eightWord, eightMoved, eightRow, eightColumn}
+use Rattle.permutation_core.specs.EightLaws.{eight-rows}
 use borrow.Author.Needs.{needs}
-use Rattle.permutation_core.proofs.cross_stage_both.Statement.{statement}
-use Rattle.permutation_core.proofs.cross_stage_both.Tie as tie
+use Rattle.permutation_core.proofs.cross_stage_eight.Statement.{statement}
+use Rattle.permutation_core.proofs.cross_stage_eight.Tie as tie
 
-ruleset kit = (needs, twos, both-rows)
+ruleset kit = (needs, twos, eight-rows)
 
 abbrev Inv-loop : tie.InvT-loop
-Inv-loop m n b out₀ k₀ out k = Twos (sideWord (crossBoth m n b)) 8 k out
+Inv-loop m n b out₀ k₀ out k = Twos (eightWord (eightRow m) (eightColumn m n) b) 4 k out
 
 abbrev μ-loop : tie.MeasureT-loop
-μ-loop m n b out₀ k₀ out k = 8 - k
+μ-loop m n b out₀ k₀ out k = 4 - k
 
-pub cross-stage-both-spec : {M : Type 1} → statement M
-unfolding sideBySide
-cross-stage-both-spec =
+pub cross-stage-eight-spec : {M : Type 1} → statement M
+unfolding eightMoved
+cross-stage-eight-spec =
     tie.close
     (tie.spec
     Inv-loop
@@ -31,7 +31,7 @@ cross-stage-both-spec =
     (λ c. search kit)  -- add-y
     (λ c. search kit)  -- mul-y
     (λ c. search kit)  -- array-read-y
-    (λ c κs. search kit)  -- crossed-both-requires
+    (λ c κs. search kit)  -- crossed-eight-requires
     (λ c. search kit)  -- mul-out
     (λ c. search kit)  -- array-write-out
     (λ c. search kit)  -- mul-out-2
