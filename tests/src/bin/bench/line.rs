@@ -11,7 +11,7 @@ use ofec_tests::profile::{Profile, PROFILES};
 use ofec_tests::random::Random;
 
 use crate::for_speed::interleaver::{by_rows, packed};
-use crate::table::{for_speed, head_for_speed, row};
+use crate::table::{for_speed, row};
 use crate::{for_speed as fast, same_structure};
 
 pub fn run(random: &mut Random) {
@@ -141,7 +141,6 @@ impl Stages {
 
 /// The calls for which there is Rust code written for speed.
 pub fn beside_speed(random: &mut Random) {
-    head_for_speed();
     let pairs = [0; 2].map(|_| random.bytes(PAIRS_BYTES));
     let [pairs0, pairs1]: [&[u8; PAIRS_BYTES]; 2] = [sized(&pairs[0]), sized(&pairs[1])];
     for_speed(

@@ -8,15 +8,21 @@ use ofec_tests::word::LOST;
 
 use crate::for_speed::pairs;
 use crate::same_structure;
-use crate::table::row;
+use crate::table::{for_speed, row};
 
 /// Pairs of a super-frame of 16-QAM: 21 of each encoder in each of eight buffers.
 pub const PAIRS: usize = 336;
 /// The encoder whose pairs they are taken to be.
 const ENCODER: u32 = 1;
 
-/// Gives a line about the damage.
-pub fn run(random: &mut Random) -> String {
+/// Coded pairs as they are received, with a word on their damage.
+pub struct Stream {
+    damage: String,
+    coded: Vec<u8>,
+}
+
+/// Gives the streams that were received, and a line about their damage.
+pub fn run(random: &mut Random) -> ([Stream; 3], String) {
     let payloads = random.bytes(PAIRS * PAYLOAD_BYTES);
     let coded = row(
         "encode 336 pairs",
@@ -27,17 +33,22 @@ pub fn run(random: &mut Random) -> String {
             &|coded| encode_all(same_structure::encode_pair, &payloads, coded),
         ],
     );
-
-    receive("clean", &coded);
-    let [one, four] = [1, 4].map(|in_a_thousand| {
-        let damage = format!("{in_a_thousand} in 1000 bits wrong");
-        receive(&damage, &damaged(&coded, in_a_thousand, random))
+    let [one, four] = [1, 4].map(|in_a_thousand| Stream {
+        damage: format!("{in_a_thousand} in 1000 bits wrong"),
+        coded: damaged(&coded, in_a_thousand, random),
     });
-    format!("Of 10,752 words, {one}; {four}.")
+    let clean = Stream {
+        damage: "clean".to_string(),
+        coded,
+    };
+    let streams = [clean, one, four];
+    let [_, one, four] = streams.each_ref().map(receive);
+    (streams, format!("Of 10,752 words, {one}; {four}."))
 }
 
 /// Says how many words were flawed.
-fn receive(damage: &str, coded: &[u8]) -> String {
+fn receive(stream: &Stream) -> String {
+    let Stream { damage, coded } = stream;
     let received = row(
         &format!("receive 336 pairs, {damage}"),
         Received::of(PAIRS),
@@ -45,12 +56,26 @@ fn receive(damage: &str, coded: &[u8]) -> String {
             &|received| receive_all(LIBRARY.receive_pair, coded, received),
             &|received| receive_all(rows::receive_pair, coded, received),
             &|received| receive_all(same_structure::receive_pair, coded, received),
-            &|received| receive_all(pairs::receive_pair, coded, received),
         ],
     );
     let count = |mark| received.marks.iter().filter(|&&m| m == mark).count();
     let (repaired, lost) = (count(1) + count(2), count(LOST as u8));
     format!("with {damage}, {repaired} were repaired and {lost} lost")
+}
+
+/// Receiving, for which there is Rust code written for speed.
+pub fn beside_speed(streams: &[Stream]) {
+    for Stream { damage, coded } in streams {
+        for_speed(
+            &format!("receive 336 pairs, {damage}"),
+            Received::of(PAIRS),
+            [
+                &|received| receive_all(LIBRARY.receive_pair, coded, received),
+                &|received| receive_all(same_structure::receive_pair, coded, received),
+                &|received| receive_all(pairs::receive_pair, coded, received),
+            ],
+        );
+    }
 }
 
 /// Each bit is wrong with this probability.

@@ -7,8 +7,9 @@ const ROUNDS: usize = 15;
 /// Of works that take microseconds.
 const SHORT_ROUNDS: usize = 1001;
 
-/// The most sides that a table has.
-const SIDES: usize = 4;
+/// The most sides that the first table has, and that of short works.
+const SIDES: usize = 3;
+const SHORT_SIDES: usize = 4;
 
 /// Medians of so many runs of each of N works, which take turns; `run` is told which.
 pub fn medians<const N: usize>(rounds: usize, mut run: impl FnMut(usize)) -> [Duration; N] {
@@ -28,10 +29,8 @@ pub fn medians<const N: usize>(rounds: usize, mut run: impl FnMut(usize)) -> [Du
 
 pub fn head() {
     println!("Medians of {ROUNDS} runs, which take turns; a ratio is the library's time to that of the column before.\n");
-    println!(
-        "| work | library | written apart | ratio | same structure | ratio | for speed | ratio |"
-    );
-    println!("|---|---:|---:|---:|---:|---:|---:|---:|");
+    println!("| work | library | written apart | ratio | same structure | ratio |");
+    println!("|---|---:|---:|---:|---:|---:|");
 }
 
 /// The row of a work, by the library and then by those other sides that do it, in the order of the columns: each in a copy of `out`.
@@ -41,7 +40,7 @@ pub fn row<T: Clone + PartialEq, const N: usize>(
     out: T,
     works: [&dyn Fn(&mut T); N],
 ) -> T {
-    timed_row(name, ROUNDS, milliseconds, out, works)
+    timed_row(name, ROUNDS, SIDES, milliseconds, out, works)
 }
 
 /// The head of the table of short works beside Rust code of the library's structure and Rust code written for speed.
@@ -57,12 +56,13 @@ pub fn for_speed<T: Clone + PartialEq, const N: usize>(
     out: T,
     works: [&dyn Fn(&mut T); N],
 ) -> T {
-    timed_row(name, SHORT_ROUNDS, microseconds, out, works)
+    timed_row(name, SHORT_ROUNDS, SHORT_SIDES, microseconds, out, works)
 }
 
 fn timed_row<T: Clone + PartialEq, const N: usize>(
     name: &str,
     rounds: usize,
+    sides: usize,
     written: fn(Duration) -> String,
     out: T,
     works: [&dyn Fn(&mut T); N],
@@ -72,7 +72,7 @@ fn timed_row<T: Clone + PartialEq, const N: usize>(
     for other in &times[1..] {
         print!("| {} | {:.2} ", written(*other), ratio(times[0], *other));
     }
-    println!("|{}", " | |".repeat(SIDES - N));
+    println!("|{}", " | |".repeat(sides - N));
     out
 }
 

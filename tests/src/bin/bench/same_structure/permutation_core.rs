@@ -1,4 +1,7 @@
 //! crates/permutation_core: the permutations of a block, in four stages each: bit rows k and k+8 give bit rows 2k and 2k+1.
+//!
+//! Three functions are marked for inlining: compiled apart from the loops over eight blocks that call them, they keep the compiler from
+//! making vectors of these loops, and the receiver takes four times as long.
 
 use super::blocks::{choose, Block};
 
@@ -25,33 +28,41 @@ fn columns_stage(b: Block, m: u16, n: usize) -> Block {
     out
 }
 
-/// The columns of m of the first of two bit rows change places with those n before them of the second.
+/// The columns of m of the first change places with those n before them of the second.
+fn crossed(x: u16, y: u16, m: u16, n: usize) -> [u16; 2] {
+    let d = (x ^ (y >> n)) & m;
+    [x ^ d, y ^ (d << n)]
+}
+
+fn crossed_eight(x: u64, y: u64, m: u64, n: usize) -> [u64; 2] {
+    let d = (x ^ (y >> n)) & m;
+    [x ^ d, y ^ (d << n)]
+}
+
+/// So do those of two bit rows of a block.
 fn cross_stage(b: Block, m: u16, n: usize) -> Block {
     let mut out = [0; 16];
     for k in 0..8 {
-        let x = b[k];
-        let y = b[8 + k];
-        let d = (x ^ (y >> n)) & m;
-        out[2 * k] = x ^ d;
-        out[2 * k + 1] = y ^ (d << n);
+        let [first, second] = crossed(b[k], b[8 + k], m, n);
+        out[2 * k] = first;
+        out[2 * k + 1] = second;
     }
     out
 }
 
-/// The same of two blocks side by side.
-fn cross_stage_both(b: [u32; 16], m: u32, n: usize) -> [u32; 16] {
-    let mut out = [0; 16];
-    for k in 0..8 {
-        let x = b[k];
-        let y = b[8 + k];
-        let d = (x ^ (y >> n)) & m;
-        out[2 * k] = x ^ d;
-        out[2 * k + 1] = y ^ (d << n);
+/// The same of eight blocks of 8 by 8 bits side by side.
+fn cross_stage_eight(b: [u64; 8], m: u64, n: usize) -> [u64; 8] {
+    let mut out = [0; 8];
+    for k in 0..4 {
+        let [first, second] = crossed_eight(b[k], b[4 + k], m, n);
+        out[2 * k] = first;
+        out[2 * k + 1] = second;
     }
     out
 }
 
 /// In column c, bit row i changes places with bit row i^c.
+#[inline]
 pub fn exchange_rows(b: Block) -> Block {
     let t = rows_stage(b, 0x00FF);
     let u = rows_stage(t, 0x0F0F);
@@ -60,6 +71,7 @@ pub fn exchange_rows(b: Block) -> Block {
 }
 
 /// In bit row i, column c changes places with column c^i.
+#[inline]
 pub fn exchange_columns(b: Block) -> Block {
     let t = columns_stage(b, 0x00FF, 8);
     let u = columns_stage(t, 0x0F0F, 4);
@@ -68,6 +80,7 @@ pub fn exchange_columns(b: Block) -> Block {
 }
 
 /// Bit row i, column c changes places with bit row c, column i.
+#[inline]
 pub fn transpose(b: Block) -> Block {
     let t = cross_stage(b, 0x00FF, 8);
     let u = cross_stage(t, 0x0F0F, 4);
@@ -75,10 +88,9 @@ pub fn transpose(b: Block) -> Block {
     cross_stage(v, 0x5555, 1)
 }
 
-/// The same in each of two blocks side by side.
-pub fn transpose_both(b: [u32; 16]) -> [u32; 16] {
-    let t = cross_stage_both(b, 0x00FF_00FF, 8);
-    let u = cross_stage_both(t, 0x0F0F_0F0F, 4);
-    let v = cross_stage_both(u, 0x3333_3333, 2);
-    cross_stage_both(v, 0x5555_5555, 1)
+/// Eight blocks of 8 by 8 bits side by side, each transposed.
+pub fn transpose_eight(b: [u64; 8]) -> [u64; 8] {
+    let u = cross_stage_eight(b, 0x0F0F_0F0F_0F0F_0F0F, 4);
+    let v = cross_stage_eight(u, 0x3333_3333_3333_3333, 2);
+    cross_stage_eight(v, 0x5555_5555_5555_5555, 1)
 }

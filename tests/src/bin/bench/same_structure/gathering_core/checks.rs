@@ -2,7 +2,7 @@
 
 use super::{lanes, rows};
 use crate::same_structure::blocks::BlockRow;
-use crate::same_structure::permutation_core::transpose_both;
+use crate::same_structure::permutation_core::transpose_eight;
 use crate::same_structure::word::Syndromes;
 
 /// Number i of the sums has digit i of S1, number 8+i digit i of S3; bit w of each, and of the parities, is that of word w.
@@ -45,26 +45,31 @@ pub fn dirty(sums: &[u32; 16], odd: u32) -> u32 {
     d
 }
 
-/// The sums by words: in the upper half of number w S1 and S3 of word w, in the lower half those of word 16+w.
-pub fn by_words(sums: &[u32; 16]) -> [u32; 16] {
-    let mut b = [0; 16];
-    for i in 0..16 {
-        b[i] = sums[i / 8 * 8 + 7 - i % 8];
-    }
-    transpose_both(b)
+/// Two numbers of 32 bits in one of 64.
+fn pair_up(a: u32, b: u32) -> u64 {
+    u64::from(a) * 4294967296 + u64::from(b)
 }
 
-/// S1 and S3 of word w.
-fn told_of(told: &[u32; 16], w: usize) -> u32 {
-    (told[w % 16] >> (16 - 16 * (w / 16))) % 65536
+/// The sums in falling order, those of S1 in the upper halves and those of S3 in the lower.
+fn paired(sums: &[u32; 16]) -> [u64; 8] {
+    let mut b = [0; 8];
+    for i in 0..8 {
+        b[i] = pair_up(sums[7 - i], sums[15 - i]);
+    }
+    b
+}
+
+/// S1 and S3 word by word: those of word w are bytes w / 8 and w / 8 + 4 of number w % 8.
+pub fn by_words(sums: &[u32; 16]) -> [u64; 8] {
+    transpose_eight(paired(sums))
 }
 
 /// The syndromes of word w.
-pub fn syndromes(told: &[u32; 16], odd: u32, w: usize) -> Syndromes {
-    let v = told_of(told, w);
+pub fn syndromes(numbers: &[u64; 8], odd: u32, w: usize) -> Syndromes {
+    let v = numbers[w % 8];
     Syndromes {
-        s1: (v / 256) as u8,
-        s3: (v % 256) as u8,
+        s1: ((v >> (56 - 8 * (w / 8))) % 256) as u8,
+        s3: ((v >> (24 - 8 * (w / 8))) % 256) as u8,
         parity: ((odd >> (31 - w)) % 2) as u8,
     }
 }
