@@ -15,6 +15,8 @@ use Rattle.bits.specs.ListLaws.{getD-tabulate, tabulate-ext}
 use Rattle.bits.specs.Xor.{_⊕_}
 use Rattle.gathering_spec.specs.Sums.{bitIn, wordIn, bothRows, Gathered, Parities}
 use Rattle.gathering_spec.specs.Dirty.{gathered-same, parities-same, zero-digit}
+use Rattle.gathering_spec.specs.Gathering.{GatheredRows}
+use Rattle.gathering_spec.specs.GatheringLaws.{rows-gathered}
 use Rattle.pair_spec.specs.History.{depth}
 use Rattle.pair_spec.specs.Receiving.{heldWord}
 use Rattle.pair_words_core.specs.Halves.{wordHalf, wordHalves, halvesBit}
@@ -108,6 +110,10 @@ module _ (h p : List ℕ) (P : ℕ) (size : length h ≡ 512 * depth) where
 
     pub parities-held : (q : ℕ) → Parities (halvesWord h P s) q → Parities (heldWord depth h P p) q
     parities-held q g = parities-same coded-word g
+
+    -- So what the code gathers of the halves of a coded pair is gathered in byte order from the rows held.
+    pub gathers-rows : (t : List ℕ) (q : ℕ) → Gathered (halvesWord h P s) t → Parities (halvesWord h P s) q → GatheredRows depth h P p t q
+    gathers-rows t q g o = rows-gathered depth h P p t q (gathered-held t g) (parities-held q o)
 
 -- ---- and what is gathered of them
 

@@ -4,22 +4,28 @@
 -- Assumes nothing.
 use mathlib.Core.Path.{_≡_, refl, sym, ap, ap₂, _∙_}
 use mathlib.Core.Bool.{Bool, true, false, cond}
-use Prim.Native.Nat.{ℕ, _+_, _-_, _*_, _/_, _%_, _<_}
+use mathlib.Core.List.{List, _++_}
+use Prim.Native.Nat.{ℕ, _+_, _-_, _*_, _/_, _%_, _^_, _<_}
 use native.Mathlib.Nat.{mul-zero, mul-one, zero-mul}
 use native.Mathlib.Omega.{arith}
 use borrow.Author.Tests.{lt-ltb, le-ltb, eq-eqb, ne-eqb}
 use lib.Dec.{ltb, eqb}
+use Rattle.bits.specs.BitLaws.{bit-lt}
 use Rattle.bits.specs.Xor.{_⊕_, xorSum}
 use Rattle.bits.specs.XorLaws.{⊕-assoc, ⊕-self, ⊕-zero, ⊕-lt, xorSum-ext, xorSum-none, xorSum-one, xorSum-split, xorSum-exchange}
 use Rattle.gf256.specs.Field.{cube}
 use Rattle.word_spec.specs.CodeWord.{parity, CodeWord}
 use Rattle.word_spec.specs.Syndromes.{locator, S1, S3}
 use Rattle.word_spec.specs.SyndromeLaws.{code-S1, code-S3, zero-code}
+use Rattle.pair_spec.specs.History.{heldBits}
+use Rattle.pair_spec.specs.Pairs.{pairIndex, wordRow, wordBitRow}
+use Rattle.pair_spec.specs.Receiving.{heldWord}
 use Rattle.pair_spec.specs.Rows.{RowBits, frontBit, backBit, frontCounts, wordOf}
 use Rattle.pair_spec.specs.RowLaws.{word-lt}
 use Rattle.gathering_spec.specs.SumLaws.{xorSum-blocks}
 use Rattle.gathering_spec.specs.ParityLaws.{parity-sum}
-use Rattle.gathering_spec.specs.Gathering.{bitRowAt, blockAt, columnAt, backShare, frontShare, gatheredSum}
+use Rattle.gathering_spec.specs.Sums.{Gathered, Parities}
+use Rattle.gathering_spec.specs.Gathering.{bitRowAt, blockAt, columnAt, backShare, frontShare, gatheredSum, GatheredRows}
 
 -- ---- sums over sixteen places
 
@@ -175,3 +181,20 @@ module _ (v : RowBits) (R r : ℕ) (lr : r < 16) where
     pub gathered-code : CodeWord (wordOf v R r)
         → (gatheredSum locator v R r ≡ 0) × (gatheredSum (λ k. cube (locator k)) v R r ≡ 0) × (gatheredSum (λ k. 1) v R r ≡ 0)
     gathered-code c = (gathered-S1 ∙ code-S1 (wordOf v R r) c, gathered-S3 ∙ code-S3 (wordOf v R r) c, gathered-parity ∙ c .even)
+
+-- ---- what a receiver gathers
+
+-- Whatever gives S1, S3 and parities of the words as they are held gives what is gathered in byte order; circuits or tables alike.
+module _ (n : ℕ) (h : List ℕ) (P : ℕ) (p t : List ℕ) (q : ℕ) where
+  held-lt : (S C a c : ℕ) → heldBits n (h ++ p) P S C a c < 2
+  unfolding heldBits
+  held-lt S C a c = bit-lt (h ++ p) (4096 * (S / 2 + n - P) + pairIndex (S % 2) C a c)
+
+  pub rows-gathered : Gathered (heldWord n h P p) t → Parities (heldWord n h P p) q → GatheredRows n h P p t q
+  unfolding heldWord
+  rows-gathered g o =
+      record {
+        first = λ w i lw li. g .first w i lw li ∙ ap (λ v. v / 2 ^ i % 2) (sym (gathered-S1 (heldBits n (h ++ p) P) (wordRow P w) (wordBitRow w) (omega arith)));
+        third = λ w i lw li. g .third w i lw li ∙ ap (λ v. v / 2 ^ i % 2) (sym (gathered-S3 (heldBits n (h ++ p) P) (wordRow P w) (wordBitRow w) (omega arith)));
+        odd = λ w lw. o .parity-of w lw ∙ sym (gathered-parity (heldBits n (h ++ p) P) (wordRow P w) (wordBitRow w) (omega arith) held-lt);
+      }

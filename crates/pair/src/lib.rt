@@ -1,4 +1,5 @@
-// The calls `encode_pair` and `receive_pair`: 01, "Rows and pairs", and 02, E2. Over `pair_core`, by the definitions of `pair_spec`.
+// The calls `encode_pair` and `receive_pair`: 01, "Rows and pairs", and 02, E2. Over `pair_core` and `receiving_core`, by the definitions of
+// `pair_spec`.
 pub mod front;
 
 use calls::Answer;

@@ -1,5 +1,5 @@
 // The permutations of a block, each in four stages of one shape: bit rows k and k+8 give bit rows 2k and 2k+1. Over `blocks`; the words
-// of a row are put in order with them.
+// of a row are put in order with them, and S1 and S3 of the words are taken one by one from the sums of all.
 use blocks::choose;
 ghost use mathlib.Core.Path.{_≡_};
 ghost use Prim.Native.Nat.{_<_};
