@@ -7,14 +7,16 @@ use native.Mathlib.Nat.{add-mul, mul-assoc}
 use native.Mathlib.Omega.{arith}
 use lib.Bits.{bitAnd, bitOr, bitXor, and-shr, and-mod, and-zero-r, and-lt, xor-shr, xor-mod, xor-lt, xor-zero-r, or-shifted}
 use lib.Dec.{T, eqb}
+use lib.ListN.{getD}
 use lib.Pow.{shr-shr, high, low, pow-add, shl-lt}
 use Rattle.bits.specs.Bits.{bitOf, fromBits}
-use Rattle.bits.specs.BitLaws.{bitOf-lt, fromBits-lt, fromBits-ext, fromBits-bitOf}
+use Rattle.bits.specs.BitLaws.{bitOf-lt, bitOf-fromBits, fromBits-lt, fromBits-ext, fromBits-bitOf}
+use Rattle.bits.specs.ListLaws.{getD-tabulate, tabulate-ext}
 use Rattle.bits.specs.Tests.{every, grid}
 use Rattle.bits.specs.NumberLaws.{fromBits-split}
-use Rattle.blocks.specs.Block.{bitAt, block}
-use Rattle.blocks.specs.BlockLaws.{bitAt-lt, bitAt-block-of, block-ext}
-use Rattle.blocks.specs.Moves.{turned, pick, chosen, moved, transposed}
+use Rattle.blocks.specs.Block.{bitAt, rowWord, block}
+use Rattle.blocks.specs.BlockLaws.{bitAt-lt, bitAt-block-of}
+use Rattle.blocks.specs.Moves.{turned, pick, chosen, movedWord, movedIn, moved, transposed}
 
 -- ---- columns chosen between two rows
 
@@ -104,32 +106,43 @@ turn-is x n lx ln =
 
 -- ---- moves one after the other
 
-pub record Moves (row column : ℕ → ℕ → ℕ) (b y : List ℕ) : Type 0 where
-  pub is : y ≡ moved row column b
+module _ (n w : ℕ) where
+  moved-ext : (r₁ c₁ r₂ c₂ : ℕ → ℕ → ℕ) (a b : List ℕ)
+      → ((i c : ℕ) → i < n → c < w → bitOf w (getD a (r₁ i c) 0) (c₁ i c) ≡ bitOf w (getD b (r₂ i c) 0) (c₂ i c)) → movedIn n w r₁ c₁ a ≡ movedIn n w r₂ c₂ b
+  unfolding movedIn movedWord
+  moved-ext r₁ c₁ r₂ c₂ a b same =
+      tabulate-ext n (movedWord w r₁ c₁ a) (movedWord w r₂ c₂ b)
+      (λ i li. fromBits-ext w (λ c. bitOf w (getD a (r₁ i c) 0) (c₁ i c)) (λ c. bitOf w (getD b (r₂ i c) 0) (c₂ i c)) (λ c lc. ap (λ v. v % 2) (same i c li lc)))
 
--- The same places, computed at all 256.
-pub moves-same : {r₁ c₁ : ℕ → ℕ → ℕ} (r₂ c₂ : ℕ → ℕ → ℕ) {b y : List ℕ} → Moves r₁ c₁ b y
-    → T (every 16 (λ i. every 16 (λ c. eqb (r₁ i c) (r₂ i c)))) → T (every 16 (λ i. every 16 (λ c. eqb (c₁ i c) (c₂ i c))))
-    → y ≡ moved r₂ c₂ b
-unfolding moved
-moves-same {r₁} {c₁} r₂ c₂ {b} h p q =
-    h .is
-    ∙ block-ext (λ i c. bitAt b (r₁ i c) (c₁ i c)) (λ i c. bitAt b (r₂ i c) (c₂ i c))
-    (λ i c li lc. ap₂ (bitAt b) (grid 16 16 r₁ r₂ p i c li lc) (grid 16 16 c₁ c₂ q i c li lc))
+  pub moved-bit : (r k : ℕ → ℕ → ℕ) (b : List ℕ) (i c : ℕ) → i < n → c < w → bitOf w (getD (movedIn n w r k b) i 0) c ≡ bitOf w (getD b (r i c) 0) (k i c)
+  unfolding movedIn movedWord
+  moved-bit r k b i c li lc =
+      ap (λ v. bitOf w v c) (getD-tabulate n (movedWord w r k b) i 0 li) ∙ bitOf-fromBits w (λ c. bitOf w (getD b (r i c) 0) (k i c)) c lc
+      ∙ omega (arith, bitOf-lt w (getD b (r i c) 0) (k i c))
 
-pub moves-then : {r₁ c₁ r₂ c₂ : ℕ → ℕ → ℕ} {b x y : List ℕ} → Moves r₁ c₁ b x → Moves r₂ c₂ x y → ((i c : ℕ) → i < 16 → c < 16 → r₂ i c < 16)
-    → ((i c : ℕ) → i < 16 → c < 16 → c₂ i c < 16) → Moves (λ i c. r₁ (r₂ i c) (c₂ i c)) (λ i c. c₁ (r₂ i c) (c₂ i c)) b y
-unfolding moved
-moves-then {r₁} {c₁} {r₂} {c₂} {b} h k lr lc =
+pub record Moves (n w : ℕ) (row column : ℕ → ℕ → ℕ) (b y : List ℕ) : Type 0 where
+  pub is : y ≡ movedIn n w row column b
+
+-- The same places, computed at all of them.
+pub moves-same : {n w : ℕ} {r₁ c₁ : ℕ → ℕ → ℕ} (r₂ c₂ : ℕ → ℕ → ℕ) {b y : List ℕ} → Moves n w r₁ c₁ b y
+    → T (every n (λ i. every w (λ c. eqb (r₁ i c) (r₂ i c)))) → T (every n (λ i. every w (λ c. eqb (c₁ i c) (c₂ i c)))) → y ≡ movedIn n w r₂ c₂ b
+moves-same {n} {w} {r₁} {c₁} r₂ c₂ {b} h p q =
+    h .is ∙ moved-ext n w r₁ c₁ r₂ c₂ b b (λ i c li lc. ap₂ (λ u v. bitOf w (getD b u 0) v) (grid n w r₁ r₂ p i c li lc) (grid n w c₁ c₂ q i c li lc))
+
+pub moves-then : {n w : ℕ} {r₁ c₁ r₂ c₂ : ℕ → ℕ → ℕ} {b x y : List ℕ} → Moves n w r₁ c₁ b x → Moves n w r₂ c₂ x y → ((i c : ℕ) → i < n → c < w → r₂ i c < n)
+    → ((i c : ℕ) → i < n → c < w → c₂ i c < w) → Moves n w (λ i c. r₁ (r₂ i c) (c₂ i c)) (λ i c. c₁ (r₂ i c) (c₂ i c)) b y
+moves-then {n} {w} {r₁} {c₁} {r₂} {c₂} {b} h k lr lc =
     record {
       is =
-          k .is ∙ ap (moved r₂ c₂) (h .is)
-          ∙ block-ext (λ i c. bitAt (block from) (r₂ i c) (c₂ i c)) (λ i c. from (r₂ i c) (c₂ i c))
-          (λ i c li hc. bitAt-block-of from (λ j k. bitAt-lt b (r₁ j k) (c₁ j k)) (r₂ i c) (c₂ i c) (lr i c li hc) (lc i c li hc));
+          k .is ∙ ap (movedIn n w r₂ c₂) (h .is)
+          ∙ moved-ext n w r₂ c₂ (λ i c. r₁ (r₂ i c) (c₂ i c)) (λ i c. c₁ (r₂ i c) (c₂ i c)) (movedIn n w r₁ c₁ b) b
+          (λ i c li hc. moved-bit n w r₁ c₁ b (r₂ i c) (c₂ i c) (lr i c li hc) (lc i c li hc));
     }
-  where
-    from : ℕ → ℕ → ℕ
-    from i c = bitAt b (r₁ i c) (c₁ i c)
+
+-- A block is sixteen numbers of 16 bits.
+pub block-moved : (row column : ℕ → ℕ → ℕ) (b : List ℕ) → movedIn 16 16 row column b ≡ moved row column b
+unfolding movedIn movedWord moved block rowWord bitAt
+block-moved row column b = refl
 
 pub pick-lt : (t u v w : ℕ) → u < w → v < w → pick t u v < w
 unfolding pick

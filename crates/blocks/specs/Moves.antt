@@ -2,7 +2,9 @@
 -- Assumes nothing.
 use mathlib.Core.List.{List}
 use Prim.Native.Nat.{ℕ, zero, suc, _+_, _%_}
+use lib.ListN.{getD}
 use Rattle.bits.specs.Bits.{bitOf, fromBits}
+use Rattle.bits.specs.Lists.{tabulate}
 use Rattle.blocks.specs.Block.{bitAt, block}
 
 -- Row x turned left by n columns.
@@ -17,6 +19,13 @@ pick (suc t) u v = u
 -- Row x in the columns of m, row y in the others.
 unfoldable pub chosen : ℕ → ℕ → ℕ → ℕ
 chosen m x y = fromBits 16 (λ c. pick (bitOf 16 m c) (bitOf 16 x c) (bitOf 16 y c))
+
+-- n numbers of w bits whose bit c of number i is the bit of b at (row i c, column i c).
+unfoldable pub movedWord : ℕ → (ℕ → ℕ → ℕ) → (ℕ → ℕ → ℕ) → List ℕ → ℕ → ℕ
+movedWord w row column b i = fromBits w (λ c. bitOf w (getD b (row i c) 0) (column i c))
+
+unfoldable pub movedIn : ℕ → ℕ → (ℕ → ℕ → ℕ) → (ℕ → ℕ → ℕ) → List ℕ → List ℕ
+movedIn n w row column b = tabulate n (movedWord w row column b)
 
 -- The block that has at (i, c) the bit of b at (row i c, column i c).
 unfoldable pub moved : (ℕ → ℕ → ℕ) → (ℕ → ℕ → ℕ) → List ℕ → List ℕ

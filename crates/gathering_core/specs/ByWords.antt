@@ -10,8 +10,8 @@ use lib.Pow.{pow-pos, shr-shr}
 use Rattle.bits.specs.Bits.{bitOf, fromBits}
 use Rattle.bits.specs.BitLaws.{fromBits-ext, fromBits-bitOf}
 use Rattle.bits.specs.ListLaws.{getD-tabulate}
-use Rattle.permutation_core.specs.Eight.{eightTransposed}
-use Rattle.permutation_core.specs.EightLaws.{eight-bit}
+use Rattle.blocks.specs.MoveLaws.{moved-bit}
+use Rattle.permutation_core.specs.Stages.{eightTransposed}
 use Rattle.permutation_core.specs.StageLaws.{cut-bit}
 use Rattle.gathering_spec.specs.Collecting.{sumBit, sumOf, pairedSum, pairedSums, S1In, S3In, ByWords}
 use Rattle.gathering_spec.specs.SumLaws.{upper-bit, lower-bit}
@@ -33,7 +33,7 @@ module _ (t b u : List ℕ) (e : b ≡ pairedSums t) (k : u ≡ eightTransposed 
   placed r B i lr lB li =
       let m : (8 * B + i) % 8 ≡ i = omega arith in
       let d : (8 * B + i) / 8 * 8 + r ≡ 8 * B + r = omega arith in
-      ap (λ s. bitOf 64 (getD s r 0) (8 * B + i)) k ∙ eight-bit (λ i p. p % 8) (λ i p. p / 8 * 8 + i) b r (8 * B + i) lr (omega arith)
+      ap (λ s. bitOf 64 (getD s r 0) (8 * B + i)) k ∙ moved-bit 8 64 (λ i c. c % 8) (λ i c. c / 8 * 8 + i) b r (8 * B + i) lr (omega arith)
       ∙ rw (m, d) (ap (λ s. bitOf 64 (getD s i 0) (8 * B + r)) e ∙ ap (λ v. bitOf 64 v (8 * B + r)) (getD-tabulate 8 (pairedSum t) i 0 li))
 
   pub by-words-made : ByWords t u

@@ -17,7 +17,7 @@ use Rattle.blocks.specs.BlockLaws.{block-ext}
 use Rattle.interleaver_spec.specs.BlockLaws.{targetRow, targetColumn, targetRow-lt}
 use Rattle.interleaver_spec.specs.BlockLaws.{targetColumn-lt, placeFrom-row, placeFrom-column, bitAt-reordered}
 use Rattle.blocks.specs.Moves.{turned, pick, chosen, moved, transposed}
-use Rattle.blocks.specs.MoveLaws.{Moves, moves-same, moves-then, pick-lt, transposed-bit}
+use Rattle.blocks.specs.MoveLaws.{Moves, moves-same, moves-then, block-moved, pick-lt, transposed-bit}
 use Rattle.interleaver_spec.specs.Moves.{turnedBit, movedBit}
 
 -- ---- rows of a block
@@ -48,23 +48,23 @@ move-row n m b i x y t p q e =
 -- ---- moves one after the other
 
 -- Where the bits come from once rows are turned, or columns moved.
-turn-moves : (n : ℕ) (b y : List ℕ) → y ≡ block (turnedBit n b) → Moves (λ i c. i) (λ i c. (c + n * i % 16) % 16) b y
+turn-moves : (n : ℕ) (b y : List ℕ) → y ≡ block (turnedBit n b) → Moves 16 16 (λ i c. i) (λ i c. (c + n * i % 16) % 16) b y
 unfolding moved turnedBit
-turn-moves n b y e = record { is = e }
+turn-moves n b y e = record { is = e ∙ sym (block-moved (λ i c. i) (λ i c. (c + n * i % 16) % 16) b) }
 
-move-moves : (n m : ℕ) (b y : List ℕ) → y ≡ block (movedBit n m b) → Moves (λ i c. pick (bitOf 16 m c) ((i + n) % 16) i) (λ i c. c) b y
+move-moves : (n m : ℕ) (b y : List ℕ) → y ≡ block (movedBit n m b) → Moves 16 16 (λ i c. pick (bitOf 16 m c) ((i + n) % 16) i) (λ i c. c) b y
 unfolding moved movedBit
-move-moves n m b y e = record { is = e }
+move-moves n m b y e = record { is = e ∙ sym (block-moved (λ i c. pick (bitOf 16 m c) ((i + n) % 16) i) (λ i c. c) b) }
 
-then-turn : {r k : ℕ → ℕ → ℕ} {b x : List ℕ} (n : ℕ) (y : List ℕ) → Moves r k b x → y ≡ block (turnedBit n x)
-    → Moves (λ i c. r i ((c + n * i % 16) % 16)) (λ i c. k i ((c + n * i % 16) % 16)) b y
+then-turn : {r k : ℕ → ℕ → ℕ} {b x : List ℕ} (n : ℕ) (y : List ℕ) → Moves 16 16 r k b x → y ≡ block (turnedBit n x)
+    → Moves 16 16 (λ i c. r i ((c + n * i % 16) % 16)) (λ i c. k i ((c + n * i % 16) % 16)) b y
 then-turn {x = x} n y h e = moves-then h (turn-moves n x y e) (λ i c li lc. li) (λ i c li lc. last (c + n * i % 16))
   where
     last : (z : ℕ) → z % 16 < 16
     last z = omega arith
 
-then-move : {r k : ℕ → ℕ → ℕ} {b x : List ℕ} (n m : ℕ) (y : List ℕ) → Moves r k b x → y ≡ block (movedBit n m x)
-    → Moves (λ i c. r (pick (bitOf 16 m c) ((i + n) % 16) i) c) (λ i c. k (pick (bitOf 16 m c) ((i + n) % 16) i) c) b y
+then-move : {r k : ℕ → ℕ → ℕ} {b x : List ℕ} (n m : ℕ) (y : List ℕ) → Moves 16 16 r k b x → y ≡ block (movedBit n m x)
+    → Moves 16 16 (λ i c. r (pick (bitOf 16 m c) ((i + n) % 16) i) c) (λ i c. k (pick (bitOf 16 m c) ((i + n) % 16) i) c) b y
 then-move {x = x} n m y h e =
     moves-then h (move-moves n m x y e) (λ i c li lc. pick-lt (bitOf 16 m c) ((i + n) % 16) i 16 (omega arith) li) (λ i c li lc. lc)
 
@@ -93,7 +93,7 @@ unfolding pick bitOf rowShift sourceRow sourceColumn
 reorder-is b t u v w r p q s x y =
     moves-same (λ j i. sourceRow i j) (λ j i. sourceColumn i j)
     (then-move 15 255 r (then-move 14 21845 w (then-move 12 13107 v (then-move 8 3855 u (turn-moves 1 b t p) q) s) x) y) tt tt
-    ∙ reordered-moves b
+    ∙ block-moved (λ j i. sourceRow i j) (λ j i. sourceColumn i j) b ∙ reordered-moves b
 
 pub restore-is : (b t u v w r : List ℕ) → t ≡ block (movedBit 8 3855 b) → u ≡ block (movedBit 4 13107 t) → v ≡ block (movedBit 2 21845 u)
     → w ≡ block (movedBit 1 255 v) → r ≡ block (turnedBit 15 w) → r ≡ restored (transposed b)
@@ -101,4 +101,4 @@ unfolding pick bitOf rowShift targetRow targetColumn
 restore-is b t u v w r p q s x y =
     moves-same targetColumn targetRow
     (then-turn 15 r (then-move 1 255 w (then-move 2 21845 v (then-move 4 13107 u (move-moves 8 3855 b t p) q) s) x) y) tt tt
-    ∙ restored-moves b
+    ∙ block-moved targetColumn targetRow b ∙ restored-moves b

@@ -16,9 +16,9 @@ use Rattle.bits.specs.BitLaws.{bitOf-lt, fromBits-ext, fromBits-bitOf}
 use Rattle.bits.specs.Tests.{every, each, both, both-left, both-right}
 use Rattle.bits.specs.Xor.{_⊕_}
 use Rattle.blocks.specs.Block.{bitAt, rowWord, block}
-use Rattle.blocks.specs.Moves.{pick, chosen, moved, transposed}
-use Rattle.blocks.specs.MoveLaws.{Moves, moves-same, moves-then, bitOf-xor, bitOf-and, choose-bit}
-use Rattle.permutation_core.specs.Stages.{own, other, rowsStage, columnsColumn, columnsStage, crossedFirst, crossedSecond, crossRow, crossColumn, crossStage}
+use Rattle.blocks.specs.Moves.{pick, chosen, movedWord, moved, transposed}
+use Rattle.blocks.specs.MoveLaws.{Moves, moves-same, moves-then, block-moved, bitOf-xor, bitOf-and, choose-bit}
+use Rattle.permutation_core.specs.Stages.{own, other, rowsStage, columnsColumn, columnsStage, crossedFirst, crossedSecond, crossRow, crossColumn, crossWord, crossStage, eightTransposed}
 use Rattle.blocks.specs.Exchanges.{rowsExchanged, columnsExchanged}
 
 -- ---- numbers shifted, over their width w
@@ -64,13 +64,13 @@ pub record Mask (w m n : ℕ) : Type 0 where
   pub left : (c : ℕ) → c < w → bitOf w m c ≡ 0 → c + n < w
   pub across : (c : ℕ) → c + n < w → bitOf w m (c + n) ≡ 1 - bitOf w m c
 
-abbrev pub ends : ℕ → ℕ → ℕ → ℕ → Bool
+abbrev ends : ℕ → ℕ → ℕ → ℕ → Bool
 ends w m n c = both (leb (bitOf w m c * n) c) (ltb (c + n) (w + bitOf w m c * w))
 
-abbrev pub masks : ℕ → ℕ → ℕ → Bool
+abbrev masks : ℕ → ℕ → ℕ → Bool
 masks w m n = both (every w (ends w m n)) (every (w - n) (λ c. eqb (bitOf w m (c + n)) (1 - bitOf w m c)))
 
-pub mask-of : (w m n : ℕ) → T (masks w m n) → Mask w m n
+mask-of : (w m n : ℕ) → T (masks w m n) → Mask w m n
 mask-of w m n t =
     record {
       right = λ c l e.
@@ -101,6 +101,18 @@ mask2 = mask-of 16 13107 2 tt
 pub mask1 : Mask 16 21845 1
 unfolding bitOf
 mask1 = mask-of 16 21845 1 tt
+
+pub eight4 : Mask 64 1085102592571150095 4
+unfolding bitOf
+eight4 = mask-of 64 1085102592571150095 4 tt
+
+pub eight2 : Mask 64 3689348814741910323 2
+unfolding bitOf
+eight2 = mask-of 64 3689348814741910323 2 tt
+
+pub eight1 : Mask 64 6148914691236517205 1
+unfolding bitOf
+eight1 = mask-of 64 6148914691236517205 1 tt
 
 -- By the digit of a mask.
 by-mask : {A : Type 0} (w m c : ℕ) → (bitOf w m c ≡ 1 → A) → (bitOf w m c ≡ 0 → A) → A
@@ -174,7 +186,7 @@ module _ (w m n x y : ℕ) (k : Mask w m n) where
       (λ c l. ap (λ u. u % 2) (by-mask w m c (λ e. rw e (second-in c l e)) (λ e. rw e (second-out c l e))))
 
 -- Numbers whose columns are chosen by a mask, by their bits.
-pub picked-bits : (w m : ℕ) (g h f : ℕ → ℕ) → ((c : ℕ) → c < w → bitOf w m c ≡ 1 → g c ≡ f c) → ((c : ℕ) → c < w → bitOf w m c ≡ 0 → h c ≡ f c)
+picked-bits : (w m : ℕ) (g h f : ℕ → ℕ) → ((c : ℕ) → c < w → bitOf w m c ≡ 1 → g c ≡ f c) → ((c : ℕ) → c < w → bitOf w m c ≡ 0 → h c ≡ f c)
     → fromBits w (λ c. pick (bitOf w m c) (g c) (h c)) ≡ fromBits w f
 unfolding pick
 picked-bits w m g h f yes-is no-is =
@@ -212,22 +224,6 @@ module _ (b : List ℕ) (k x y t : ℕ) (p : x ≡ getD b k 0) (q : y ≡ getD b
         (λ c l u. shr-bit 16 y n c (w .right c l u) l ∙ rw (u, h, d) (ap (λ v. bitOf 16 v (c - n)) q))
         (λ c l u. shl-bit 16 y n c (w .left c l u) ∙ rw (u, h, d) (ap (λ v. bitOf 16 v (c + n)) q))
 
-  pub cross-even : (m n : ℕ) → t ≡ crossedFirst 16 m n x y → t ≡ rowWord (crossStage m n b) (2 * k)
-  unfolding rowWord crossStage crossRow crossColumn crossedFirst bitAt pick
-  cross-even m n e =
-      let d : 2 * k / 2 ≡ k = omega arith in
-      let h : 2 * k % 2 ≡ 0 = omega arith in
-      e ∙ picked-bits 16 m (λ c. bitOf 16 y (c - n)) (bitOf 16 x) (crossStage m n b (2 * k))
-      (λ c l u. rw (u, h, d) (ap (λ v. bitOf 16 v (c - n)) q)) (λ c l u. rw (u, h, d) (ap (λ v. bitOf 16 v c) p))
-
-  pub cross-odd : (m n : ℕ) → t ≡ crossedSecond 16 m n x y → t ≡ rowWord (crossStage m n b) (2 * k + 1)
-  unfolding rowWord crossStage crossRow crossColumn crossedSecond bitAt pick
-  cross-odd m n e =
-      let d : (2 * k + 1) / 2 ≡ k = omega arith in
-      let h : (2 * k + 1) % 2 ≡ 1 = omega arith in
-      e ∙ picked-bits 16 m (bitOf 16 y) (λ c. bitOf 16 x (c + n)) (crossStage m n b (2 * k + 1))
-      (λ c l u. rw (u, h, d) (ap (λ v. bitOf 16 v c) q)) (λ c l u. rw (u, h, d) (ap (λ v. bitOf 16 v (c + n)) p))
-
 pub columns-even : (b : List ℕ) (m n k x : ℕ) → x ≡ getD b k 0 → x < 2 ^ 16 → x ≡ rowWord (columnsStage m n b) (2 * k)
 unfolding rowWord columnsStage columnsColumn bitAt own pick
 columns-even b m n k x p l =
@@ -236,31 +232,50 @@ columns-even b m n k x p l =
     sym (fromBits-bitOf 16 x l)
     ∙ fromBits-ext 16 (bitOf 16 x) (columnsStage m n b (2 * k)) (λ c lc. ap (λ u. u % 2) (rw (h, d) (ap (λ v. bitOf 16 v c) p)))
 
-pub ruleset crossing = (crossed-first, crossed-second)
+-- Two of 2R numbers of w bits.
+module _ (R w : ℕ) (b : List ℕ) (k x y t : ℕ) (p : x ≡ getD b k 0) (q : y ≡ getD b (R + k) 0) (m n : ℕ) where
+  pub cross-even : t ≡ crossedFirst w m n x y → t ≡ crossWord R w m n b (2 * k)
+  unfolding crossWord movedWord crossRow crossColumn crossedFirst pick
+  cross-even e =
+      let d : 2 * k / 2 ≡ k = omega arith in
+      let h : 2 * k % 2 ≡ 0 = omega arith in
+      e ∙ picked-bits w m (λ c. bitOf w y (c - n)) (bitOf w x) (λ c. bitOf w (getD b (crossRow R w m (2 * k) c) 0) (crossColumn w m n (2 * k) c))
+      (λ c l u. rw (u, h, d) (ap (λ v. bitOf w v (c - n)) q)) (λ c l u. rw (u, h, d) (ap (λ v. bitOf w v c) p))
 
-pub ruleset stage-rows = (rows-even, rows-odd, columns-even, columns-odd, cross-even, cross-odd)
+  pub cross-odd : t ≡ crossedSecond w m n x y → t ≡ crossWord R w m n b (2 * k + 1)
+  unfolding crossWord movedWord crossRow crossColumn crossedSecond pick
+  cross-odd e =
+      let d : (2 * k + 1) / 2 ≡ k = omega arith in
+      let h : (2 * k + 1) % 2 ≡ 1 = omega arith in
+      e ∙ picked-bits w m (bitOf w y) (λ c. bitOf w x (c + n)) (λ c. bitOf w (getD b (crossRow R w m (2 * k + 1) c) 0) (crossColumn w m n (2 * k + 1) c))
+      (λ c l u. rw (u, h, d) (ap (λ v. bitOf w v c) q)) (λ c l u. rw (u, h, d) (ap (λ v. bitOf w v (c + n)) p))
 
--- ---- four stages
+pub ruleset crossing = (crossed-first, crossed-second, cross-even, cross-odd)
+
+pub ruleset stage-rows = (rows-even, rows-odd, columns-even, columns-odd)
+
+-- ---- stages one after the other
 
 -- Places that are computed.
-within : (f : ℕ → ℕ → ℕ) → T (every 16 (λ i. every 16 (λ c. ltb (f i c) 16))) → (i c : ℕ) → i < 16 → c < 16 → f i c < 16
-within f t i c li lc = ltb→lt (f i c) 16 (each 16 (λ c. ltb (f i c) 16) (each 16 (λ i. every 16 (λ c. ltb (f i c) 16)) t i li) c lc)
+within : (n w z : ℕ) (f : ℕ → ℕ → ℕ) → T (every n (λ i. every w (λ c. ltb (f i c) z))) → (i c : ℕ) → i < n → c < w → f i c < z
+within n w z f t i c li lc = ltb→lt (f i c) z (each w (λ c. ltb (f i c) z) (each n (λ i. every w (λ c. ltb (f i c) z)) t i li) c lc)
 
-stages-then : {r₁ c₁ r₂ c₂ : ℕ → ℕ → ℕ} {b x y : List ℕ} → Moves r₁ c₁ b x → Moves r₂ c₂ x y → T (every 16 (λ i. every 16 (λ c. ltb (r₂ i c) 16)))
-    → T (every 16 (λ i. every 16 (λ c. ltb (c₂ i c) 16))) → Moves (λ i c. r₁ (r₂ i c) (c₂ i c)) (λ i c. c₁ (r₂ i c) (c₂ i c)) b y
-stages-then {r₂ = r₂} {c₂ = c₂} h k p q = moves-then h k (within r₂ p) (within c₂ q)
+stages-then : {n w : ℕ} {r₁ c₁ r₂ c₂ : ℕ → ℕ → ℕ} {b x y : List ℕ} → Moves n w r₁ c₁ b x → Moves n w r₂ c₂ x y
+    → T (every n (λ i. every w (λ c. ltb (r₂ i c) n))) → T (every n (λ i. every w (λ c. ltb (c₂ i c) w)))
+    → Moves n w (λ i c. r₁ (r₂ i c) (c₂ i c)) (λ i c. c₁ (r₂ i c) (c₂ i c)) b y
+stages-then {n} {w} {r₂ = r₂} {c₂ = c₂} h k p q = moves-then h k (within n w n r₂ p) (within n w w c₂ q)
 
-rows-moves : (m : ℕ) (b y : List ℕ) → y ≡ block (rowsStage m b) → Moves (λ i c. pick (bitOf 16 m c) (other i) (own i)) (λ i c. c) b y
+rows-moves : (m : ℕ) (b y : List ℕ) → y ≡ block (rowsStage m b) → Moves 16 16 (λ i c. pick (bitOf 16 m c) (other i) (own i)) (λ i c. c) b y
 unfolding moved rowsStage
-rows-moves m b y e = record { is = e }
+rows-moves m b y e = record { is = e ∙ sym (block-moved (λ i c. pick (bitOf 16 m c) (other i) (own i)) (λ i c. c) b) }
 
-columns-moves : (m n : ℕ) (b y : List ℕ) → y ≡ block (columnsStage m n b) → Moves (λ i c. own i) (columnsColumn m n) b y
+columns-moves : (m n : ℕ) (b y : List ℕ) → y ≡ block (columnsStage m n b) → Moves 16 16 (λ i c. own i) (columnsColumn m n) b y
 unfolding moved columnsStage
-columns-moves m n b y e = record { is = e }
+columns-moves m n b y e = record { is = e ∙ sym (block-moved (λ i c. own i) (columnsColumn m n) b) }
 
-cross-moves : (m n : ℕ) (b y : List ℕ) → y ≡ block (crossStage m n b) → Moves (crossRow m) (crossColumn m n) b y
-unfolding moved crossStage
-cross-moves m n b y e = record { is = e }
+cross-moves : (R w m n : ℕ) (b y : List ℕ) → y ≡ crossStage R w m n b → Moves (2 * R) w (crossRow R w m) (crossColumn w m n) b y
+unfolding crossStage
+cross-moves R w m n b y e = record { is = e }
 
 pub rows-exchanged : (b t u v r : List ℕ) → t ≡ block (rowsStage 255 b) → u ≡ block (rowsStage 3855 t) → v ≡ block (rowsStage 13107 u)
     → r ≡ block (rowsStage 21845 v) → r ≡ rowsExchanged b
@@ -268,6 +283,7 @@ unfolding rowsExchanged own other pick bitOf _⊕_
 rows-exchanged b t u v r p q s w =
     moves-same (λ i c. i ⊕ c) (λ i c. c)
     (stages-then (stages-then (stages-then (rows-moves 255 b t p) (rows-moves 3855 t u q) tt tt) (rows-moves 13107 u v s) tt tt) (rows-moves 21845 v r w) tt tt) tt tt
+    ∙ block-moved (λ i c. i ⊕ c) (λ i c. c) b
 
 pub columns-exchanged : (b t u v r : List ℕ) → t ≡ block (columnsStage 255 8 b) → u ≡ block (columnsStage 3855 4 t)
     → v ≡ block (columnsStage 13107 2 u) → r ≡ block (columnsStage 21845 1 v) → r ≡ columnsExchanged b
@@ -275,12 +291,21 @@ unfolding columnsExchanged own columnsColumn pick bitOf _⊕_
 columns-exchanged b t u v r p q s w =
     moves-same (λ i c. i) (λ i c. c ⊕ i)
     (stages-then (stages-then (stages-then (columns-moves 255 8 b t p) (columns-moves 3855 4 t u q) tt tt) (columns-moves 13107 2 u v s) tt tt) (columns-moves 21845 1 v r w) tt tt) tt tt
+    ∙ block-moved (λ i c. i) (λ i c. c ⊕ i) b
 
-pub block-transposed : (b t u v r : List ℕ) → t ≡ block (crossStage 255 8 b) → u ≡ block (crossStage 3855 4 t)
-    → v ≡ block (crossStage 13107 2 u) → r ≡ block (crossStage 21845 1 v) → r ≡ transposed b
+pub block-transposed : (b t u v r : List ℕ) → t ≡ crossStage 8 16 255 8 b → u ≡ crossStage 8 16 3855 4 t → v ≡ crossStage 8 16 13107 2 u
+    → r ≡ crossStage 8 16 21845 1 v → r ≡ transposed b
 unfolding transposed crossRow crossColumn pick bitOf
 block-transposed b t u v r p q s w =
     moves-same (λ i c. c) (λ i c. i)
-    (stages-then (stages-then (stages-then (cross-moves 255 8 b t p) (cross-moves 3855 4 t u q) tt tt) (cross-moves 13107 2 u v s) tt tt) (cross-moves 21845 1 v r w) tt tt) tt tt
+    (stages-then (stages-then (stages-then (cross-moves 8 16 255 8 b t p) (cross-moves 8 16 3855 4 t u q) tt tt) (cross-moves 8 16 13107 2 u v s) tt tt) (cross-moves 8 16 21845 1 v r w) tt tt) tt tt
+    ∙ block-moved (λ i c. c) (λ i c. i) b
 
-pub ruleset permuting = (mask8, mask4, mask2, mask1, rows-exchanged, columns-exchanged, block-transposed)
+pub eight-transposed : (b u v r : List ℕ) → u ≡ crossStage 4 64 1085102592571150095 4 b → v ≡ crossStage 4 64 3689348814741910323 2 u
+    → r ≡ crossStage 4 64 6148914691236517205 1 v → r ≡ eightTransposed b
+unfolding eightTransposed crossRow crossColumn pick bitOf
+eight-transposed b u v r p q s =
+    moves-same (λ i c. c % 8) (λ i c. c / 8 * 8 + i)
+    (stages-then (stages-then (cross-moves 4 64 1085102592571150095 4 b u p) (cross-moves 4 64 3689348814741910323 2 u v q) tt tt) (cross-moves 4 64 6148914691236517205 1 v r s) tt tt) tt tt
+
+pub ruleset permuting = (mask8, mask4, mask2, mask1, eight4, eight2, eight1, rows-exchanged, columns-exchanged, block-transposed, eight-transposed)

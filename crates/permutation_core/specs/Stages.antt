@@ -2,10 +2,10 @@
 -- brings each bit row home. What a stage does with the columns depends on a mask of columns.
 -- Assumes nothing.
 use mathlib.Core.List.{List}
-use Prim.Native.Nat.{ℕ, _+_, _-_, _/_, _%_}
+use Prim.Native.Nat.{ℕ, _+_, _-_, _*_, _/_, _%_}
 use Rattle.bits.specs.Bits.{bitOf, fromBits}
 use Rattle.blocks.specs.Block.{bitAt}
-use Rattle.blocks.specs.Moves.{pick}
+use Rattle.blocks.specs.Moves.{pick, movedWord, movedIn}
 
 -- The bit row that gives bit row i, and the one beside it in its stage.
 unfoldable pub own : ℕ → ℕ
@@ -32,12 +32,19 @@ crossedFirst w m n x y = fromBits w (λ c. pick (bitOf w m c) (bitOf w y (c - n)
 unfoldable pub crossedSecond : ℕ → ℕ → ℕ → ℕ → ℕ → ℕ
 crossedSecond w m n x y = fromBits w (λ c. pick (bitOf w m c) (bitOf w y c) (bitOf w x (c + n)))
 
--- So do those of two bit rows of a block.
-unfoldable pub crossRow : ℕ → ℕ → ℕ → ℕ
-crossRow m i c = pick (bitOf 16 m c) (8 + i / 2) (i / 2)
+-- A stage of 2R numbers of w bits: numbers k and R+k exchange columns so, and give numbers 2k and 2k+1.
+unfoldable pub crossRow : ℕ → ℕ → ℕ → ℕ → ℕ → ℕ
+crossRow R w m i c = pick (bitOf w m c) (R + i / 2) (i / 2)
 
-unfoldable pub crossColumn : ℕ → ℕ → ℕ → ℕ → ℕ
-crossColumn m n i c = pick (i % 2) (pick (bitOf 16 m c) c (c + n)) (pick (bitOf 16 m c) (c - n) c)
+unfoldable pub crossColumn : ℕ → ℕ → ℕ → ℕ → ℕ → ℕ
+crossColumn w m n i c = pick (i % 2) (pick (bitOf w m c) c (c + n)) (pick (bitOf w m c) (c - n) c)
 
-unfoldable pub crossStage : ℕ → ℕ → List ℕ → ℕ → ℕ → ℕ
-crossStage m n b i c = bitAt b (crossRow m i c) (crossColumn m n i c)
+unfoldable pub crossWord : ℕ → ℕ → ℕ → ℕ → List ℕ → ℕ → ℕ
+crossWord R w m n b = movedWord w (crossRow R w m) (crossColumn w m n) b
+
+unfoldable pub crossStage : ℕ → ℕ → ℕ → ℕ → List ℕ → List ℕ
+crossStage R w m n b = movedIn (2 * R) w (crossRow R w m) (crossColumn w m n) b
+
+-- Eight blocks of 8 by 8 bits side by side in eight numbers of 64, bit row i of block B being byte B of number i: each by columns.
+unfoldable pub eightTransposed : List ℕ → List ℕ
+eightTransposed = movedIn 8 64 (λ i c. c % 8) (λ i c. c / 8 * 8 + i)

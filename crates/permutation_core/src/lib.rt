@@ -7,8 +7,7 @@ ghost use lib.ListN.{getD};
 ghost use Rattle.blocks.specs.Block.{block};
 ghost use Rattle.blocks.specs.Moves.{transposed};
 ghost use Rattle.blocks.specs.Exchanges.{rowsExchanged, columnsExchanged};
-ghost use Rattle.permutation_core.specs.Stages.{rowsStage, columnsStage, crossedFirst, crossedSecond, crossStage};
-ghost use Rattle.permutation_core.specs.Eight.{eightMoved, eightRow, eightColumn, eightTransposed};
+ghost use Rattle.permutation_core.specs.Stages.{rowsStage, columnsStage, crossedFirst, crossedSecond, crossStage, eightTransposed};
 ghost use Rattle.permutation_core.specs.StageLaws.{Mask};
 
 // Two bit rows exchange the columns of m.
@@ -88,7 +87,7 @@ fn crossed_eight(x: u64, y: u64, m: u64, n: usize) -> EightRows
 // The columns of m of the first of two bit rows change places with those n before them of the second.
 fn cross_stage(b: [u16; 16], m: u16, n: usize) -> [u16; 16]
     requires { ⌜ Mask 16 m n × (n < 16) ⌝ }
-    ensures { λ r. ⌜ r ≡ block (crossStage m n b) ⌝ }
+    ensures { λ r. ⌜ r ≡ crossStage 8 16 m n b ⌝ }
 {
     let mut out = [0u16; 16];
     for k in 0..8 {
@@ -106,7 +105,7 @@ fn cross_stage(b: [u16; 16], m: u16, n: usize) -> [u16; 16]
 // The same of eight blocks of 8 by 8 bits side by side.
 fn cross_stage_eight(b: [u64; 8], m: u64, n: usize) -> [u64; 8]
     requires { ⌜ Mask 64 m n × (n < 64) ⌝ }
-    ensures { λ r. ⌜ r ≡ eightMoved (eightRow m) (eightColumn m n) b ⌝ }
+    ensures { λ r. ⌜ r ≡ crossStage 4 64 m n b ⌝ }
 {
     let mut out = [0u64; 8];
     for k in 0..4 {

@@ -1,24 +1,24 @@
 -- `permutation_core::cross_stage` meets its contract: two bit rows a turn.
 -- Assumes nothing.
 use Prim.Native.Nat.{_-_}
-use Rattle.blocks.specs.Block.{rowWord, block}
+use Rattle.blocks.specs.Moves.{movedIn}
 use Rattle.blocks.specs.Twos.{Twos, twos}
-use Rattle.permutation_core.specs.Stages.{crossStage}
-use Rattle.permutation_core.specs.StageLaws.{stage-rows}
+use Rattle.permutation_core.specs.Stages.{crossWord, crossStage}
+use Rattle.permutation_core.specs.StageLaws.{crossing}
 use borrow.Author.Needs.{needs}
 use Rattle.permutation_core.proofs.cross_stage.Statement.{statement}
 use Rattle.permutation_core.proofs.cross_stage.Tie as tie
 
-ruleset kit = (needs, twos, stage-rows)
+ruleset kit = (needs, twos, crossing)
 
 abbrev Inv-loop : tie.InvT-loop
-Inv-loop m n b out₀ k₀ out k = Twos (rowWord (crossStage m n b)) 8 k out
+Inv-loop m n b out₀ k₀ out k = Twos (crossWord 8 16 m n b) 8 k out
 
 abbrev μ-loop : tie.MeasureT-loop
 μ-loop m n b out₀ k₀ out k = 8 - k
 
 pub cross-stage-spec : {M : Type 1} → statement M
-unfolding block
+unfolding crossStage crossWord movedIn
 cross-stage-spec =
     tie.close
     (tie.spec

@@ -2,22 +2,23 @@
 -- Assumes nothing.
 use Prim.Native.Nat.{_-_}
 use Rattle.blocks.specs.Twos.{Twos, twos}
-use Rattle.permutation_core.specs.Eight.{eightWord, eightMoved, eightRow, eightColumn}
-use Rattle.permutation_core.specs.EightLaws.{eight-rows}
+use Rattle.blocks.specs.Moves.{movedIn}
+use Rattle.permutation_core.specs.Stages.{crossWord, crossStage}
+use Rattle.permutation_core.specs.StageLaws.{crossing}
 use borrow.Author.Needs.{needs}
 use Rattle.permutation_core.proofs.cross_stage_eight.Statement.{statement}
 use Rattle.permutation_core.proofs.cross_stage_eight.Tie as tie
 
-ruleset kit = (needs, twos, eight-rows)
+ruleset kit = (needs, twos, crossing)
 
 abbrev Inv-loop : tie.InvT-loop
-Inv-loop m n b out₀ k₀ out k = Twos (eightWord (eightRow m) (eightColumn m n) b) 4 k out
+Inv-loop m n b out₀ k₀ out k = Twos (crossWord 4 64 m n b) 4 k out
 
 abbrev μ-loop : tie.MeasureT-loop
 μ-loop m n b out₀ k₀ out k = 4 - k
 
 pub cross-stage-eight-spec : {M : Type 1} → statement M
-unfolding eightMoved
+unfolding crossStage crossWord movedIn
 cross-stage-eight-spec =
     tie.close
     (tie.spec

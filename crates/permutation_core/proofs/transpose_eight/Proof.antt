@@ -1,11 +1,11 @@
 -- `permutation_core::transpose_eight` meets its contract: stage after stage.
 -- Assumes nothing.
-use Rattle.permutation_core.specs.EightLaws.{eight-permuting}
+use Rattle.permutation_core.specs.StageLaws.{permuting}
 use borrow.Author.Needs.{needs}
 use Rattle.permutation_core.proofs.transpose_eight.Statement.{statement}
 use Rattle.permutation_core.proofs.transpose_eight.Tie as tie
 
-ruleset kit = (needs, eight-permuting)
+ruleset kit = (needs, permuting)
 
 pub transpose-eight-spec : {M : Type 1} → statement M
 transpose-eight-spec =
