@@ -20,7 +20,6 @@ use Rattle.bits.specs.FlipLaws.{flip-byte}
 use Rattle.bits.specs.Lists.{tabulate}
 use Rattle.bits.specs.Parts.{part}
 use Rattle.bits.specs.ListLaws.{length-tabulate, getD-tabulate, is-tabulate, tabulate-ext}
-use Rattle.bits.specs.Tests.{grid}
 use Rattle.bits.specs.Xor.{_⊕_}
 use Rattle.bits.specs.XorLaws.{⊕-self, ⊕-zero, zero-⊕, ⊕-lt}
 use Rattle.word_spec.specs.CodeWord.{Word, CodeWord}
@@ -50,14 +49,11 @@ use Rattle.gathering_spec.specs.Collecting.{syndromesIn, ByWords, Collected, by
 use Rattle.gathering_core.specs.Held.{halvesWord}
 use Rattle.gathering_core.specs.HeldLaws.{halves-held, gathered-held, parities-held}
 use Rattle.gathering_core.specs.RowWords.{codedHalves}
-use Rattle.receiving_core.specs.Sets.{Removed, passSet, pass-first, pass-second}
+use Rattle.receiving_core.specs.Sets.{bit-of-power, Removed, passSet, pass-first, pass-second}
 use Rattle.receiving_core.specs.Mending.{flippedNumber, flippedIf, bufferFlippedIf, flippedBack, codedBit, flippedCoded, mendedBy, updated, Holding}
 use Rattle.receiving_core.specs.Mending.{repairedBy, inSet, Handled, HandledSet, HandledDirty, HandledAll, Repaired}
 
 -- ---- a number with one bit flipped, as code does it
-
-one-bit : (j c : ℕ) → j < 16 → c < 16 → 2 ^ (15 - j) / 2 ^ (15 - c) % 2 ≡ cond (eqb c j) 1 0
-one-bit = grid 16 16 (λ j c. 2 ^ (15 - j) / 2 ^ (15 - c) % 2) (λ j c. cond (eqb c j) 1 0) tt
 
 bit-flip : (b : ℕ) → b < 2 → b ⊕ 1 ≡ 1 - b
 unfolding _⊕_
@@ -73,7 +69,7 @@ flip-number v j lv lj =
     ∙ fromBits-ext 16 (bitOf 16 (v ⊕ 2 ^ (15 - j))) (flipped j (bitOf 16 v)) (λ c lc. ap (λ u. u % 2) (here c lc (ℕ-discrete c j)))
   where
     digit : (c : ℕ) → c < 16 → bitOf 16 (v ⊕ 2 ^ (15 - j)) c ≡ bitOf 16 v c ⊕ cond (eqb c j) 1 0
-    digit c lc = bitOf-⊕ 16 v (2 ^ (15 - j)) c ∙ ap (λ u. bitOf 16 v c ⊕ u) (one-bit j c lj lc)
+    digit c lc = bitOf-⊕ 16 v (2 ^ (15 - j)) c ∙ ap (λ u. bitOf 16 v c ⊕ u) (bit-of-power 16 j c (omega arith) lj lc)
 
     here : (c : ℕ) → c < 16 → Dec (c ≡ j) → bitOf 16 (v ⊕ 2 ^ (15 - j)) c ≡ flipped j (bitOf 16 v) c
     here c lc (yes e) =

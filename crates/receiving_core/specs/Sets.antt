@@ -3,9 +3,11 @@
 -- Assumes nothing.
 use mathlib.Core.Path.{_≡_, sym, ap, _∙_}
 use mathlib.Core.Bool.{cond}
+use mathlib.Core.Logic.{_≢_}
 use Prim.Native.Nat.{ℕ, suc, _+_, _-_, _*_, _/_, _%_, _^_, _<_, _≤_}
 use native.Mathlib.Nat.{div-eq-of-lt, one-mul, pow-suc}
 use native.Mathlib.Omega.{arith}
+use native.Mathlib.Decide.{ℕ-discrete}
 use borrow.Author.Tests.{eq-eqb, ne-eqb}
 use lib.Count.{leadingZeros, leading-le, leading-top}
 use lib.Dec.{eqb, lit<}
@@ -52,8 +54,17 @@ first-is left w p l e =
     let f = leading-top 32 left p l in
     first-from left w (f .0) (ap (λ n. n + suc (f .0)) e ∙ f .1) (f .2) (f .3)
 
-one-bit : (w u : ℕ) → w < 32 → u < 32 → 2 ^ (31 - w) / 2 ^ (31 - u) % 2 ≡ cond (eqb u w) 1 0
-one-bit = grid 32 32 (λ w u. 2 ^ (31 - w) / 2 ^ (31 - u) % 2) (λ w u. cond (eqb u w) 1 0) tt
+-- The bits of a power of two, as a number of w bits.
+power-digit : (i k : ℕ) → i < 32 → k < 32 → 2 ^ i / 2 ^ k % 2 ≡ cond (eqb k i) 1 0
+power-digit = grid 32 32 (λ i k. 2 ^ i / 2 ^ k % 2) (λ i k. cond (eqb k i) 1 0) tt
+
+pub bit-of-power : (w j c : ℕ) → w ≤ 32 → j < w → c < w → bitOf w (2 ^ (w - 1 - j)) c ≡ cond (eqb c j) 1 0
+unfolding bitOf
+bit-of-power w j c lw lj lc = power-digit (w - 1 - j) (w - 1 - c) (omega arith) (omega arith) ∙ go (ℕ-discrete c j)
+  where
+    go : Dec (c ≡ j) → _≡_ {A = ℕ} (cond (eqb (w - 1 - c) (w - 1 - j)) 1 0) (cond (eqb c j) 1 0)
+    go (yes e) = let d : w - 1 - c ≡ w - 1 - j = omega arith in simp (eq-eqb c j e, eq-eqb (w - 1 - c) (w - 1 - j) d)
+    go (no n) = let d : w - 1 - c ≢ w - 1 - j = λ e. n (omega arith) in simp (ne-eqb c j n, ne-eqb (w - 1 - c) (w - 1 - j) d)
 
 removed : (left w : ℕ) → First left w → w < 32 → Removed left w (left - 2 ^ (31 - w))
 unfolding bitOf
@@ -72,7 +83,7 @@ removed left w f lw = record { fewer = omega (arith, f .top, small); gone = ap (
     whole = sym (ap (λ v. v ⊕ r) (sym (one-mul b)) ∙ ⊕-shifted 1 (31 - w) r small ∙ omega (arith, one-mul b, f .top))
 
     split : (u : ℕ) → u < 32 → bitOf 32 left u ≡ cond (eqb u w) 1 0 ⊕ bitOf 32 r u
-    split u lu = ap (λ v. bitOf 32 v u) whole ∙ bitOf-⊕ 32 b r u ∙ ap (λ v. v ⊕ bitOf 32 r u) (one-bit w u lw lu)
+    split u lu = ap (λ v. bitOf 32 v u) whole ∙ bitOf-⊕ 32 b r u ∙ ap (λ v. v ⊕ bitOf 32 r u) (bit-of-power 32 w u (omega arith) lw lu)
 
 pub removed-is : (left w : ℕ) → First left w → w < 32 → Removed left w (left - 1 * 2 ^ (31 - w) % 2 ^ 32)
 removed-is left w f lw =
