@@ -1,19 +1,13 @@
 -- The loops over the lanes of eight, four and two, as code goes through them.
 -- Assumes nothing.
-use mathlib.Core.Path.{_≡_, refl, ap, ap₂, _∙_}
+use mathlib.Core.Path.{_≡_, ap, ap₂, _∙_}
 use mathlib.Core.List.{List}
-use Prim.Native.Nat.{ℕ, _+_, _*_, _%_, _<_}
+use Prim.Native.Nat.{ℕ, _+_, _<_}
 use native.Mathlib.Omega.{arith}
-use lib.ListN.{getD, set}
-use Rattle.bits.specs.Xor.{_⊕_, xorSum}
 use Rattle.blocks.specs.SideBySide.{laidIn}
 use Rattle.blocks.specs.Laying.{Laid, laid-none, laid-more, laid-fewer}
-use Rattle.gathering_spec.specs.Networks.{network, lane, added, backColumns, frontColumns, up64Columns, up32Columns, up16Columns}
-use Rattle.gathering_spec.specs.Sums.{halvesLane, lane64, lane32, lane16, joinedRows, Gathered, Parities}
-use Rattle.gathering_spec.specs.ParityLaws.{parities}
-use Rattle.gathering_spec.specs.SumLaws.{gathered}
-use Rattle.gathering_core.specs.Held.{halvesWord, Fronts, Backs}
-use Rattle.gathering_core.specs.HeldLaws.{gathered-joined, parities-joined}
+use Rattle.networks_spec.specs.Networks.{network, lane, added, backColumns, frontColumns, up64Columns, up32Columns, up16Columns}
+use Rattle.gathering_spec.specs.Sums.{halvesLane, lane64, lane32, lane16, joinedRows}
 
 -- s came, level by level, from the sums of the blocks of two rows.
 pub record Levelled (a b s : List ℕ) : Type 0 where
@@ -26,27 +20,6 @@ pub record Levelled (a b s : List ℕ) : Type 0 where
 pub levelled : (a b eight four two s : List ℕ) → eight ≡ joinedRows a b → Laid (lane64 eight) 4 four → Laid (lane32 four) 2 two → s ≡ lane16 two 0
     → Levelled a b s
 levelled a b eight four two s e l m q = record { four = four; two = two; of-eight = rw e at l; of-four = m; last = q }
-
--- z are the sums of the blocks of row s, and p its parities. Bit 255, which stands in number 127, counts in the parities alone.
-pub record RowChecked (h : List ℕ) (P : ℕ) (halves : List ℕ) (s : ℕ) (z : List ℕ) (p : ℕ) : Type 0 where
-  pub x : List ℕ
-  pub y : List ℕ
-  pub fronts : Fronts h P s x
-  pub backs : Backs halves s y
-  pub sums : Laid (halvesLane x (set y 127 0)) 8 z
-  pub parity : p ≡ xorSum 128 (λ n. getD x n 0 ⊕ getD y n 0)
-
--- Of both rows, that is gathered of the words of the pair.
-module _ (h : List ℕ) (P : ℕ) (halves a b : List ℕ) (p q : ℕ) (m : RowChecked h P halves 0 a p) (n : RowChecked h P halves 1 b q) where
-  pub gathered-levels : (s : List ℕ) → Levelled a b s → Gathered (halvesWord h P halves) s
-  gathered-levels s l =
-      gathered-joined h P halves (m .x) (m .y) (n .x) (n .y) (m .fronts) (m .backs) (n .fronts) (n .backs) s
-      (gathered (m .x) (m .y) (n .x) (n .y) a b (joinedRows a b) (l .four) (l .two) s (m .sums) (n .sums) refl (l .of-eight) (l .of-four) (l .last))
-
-  pub parities-levels : (r : ℕ) → r ≡ p * 65536 + q % 65536 → Parities (halvesWord h P halves) r
-  parities-levels r e =
-      parities-joined h P halves (m .x) (m .y) (n .x) (n .y) (m .fronts) (m .backs) (n .fronts) (n .backs) r
-      (parities (m .x) (m .y) (n .x) (n .y) p q r (m .parity) (n .parity) e)
 
 -- ---- a lane of sums, call by call
 

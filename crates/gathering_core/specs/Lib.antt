@@ -1,7 +1,1 @@
--- Definitions first; the laws about each stand in the file below it.
-pub mod RowWords
-pub mod RowWordLaws
-pub mod Held
-pub mod HeldLaws
 pub mod Lanes
-pub mod ByWords

@@ -9,7 +9,7 @@ ghost use lib.ListN.{length, getD};
 ghost use Rattle.bits.specs.Xor.{_⊕_, xorSum};
 ghost use Rattle.blocks.specs.SideBySide.{laidIn};
 ghost use Rattle.blocks.specs.Laying.{Laid};
-ghost use Rattle.gathering_spec.specs.Networks.{lane, added};
+ghost use Rattle.networks_spec.specs.Networks.{lane, added};
 ghost use Rattle.gathering_spec.specs.Sums.{halvesLane, lane64, lane32, lane16, joinedRows};
 ghost use Rattle.gathering_core.specs.Lanes.{Levelled};
 

@@ -1,5 +1,3 @@
-// The syndromes of the 32 words of a pair gathered by rows, as 02, E3 asks: a row is taken in byte order, and all its words' sums are
-// formed side by side. Over `permutation_core` and `sums_core`; the repairs come afterwards, in `receiving_core`.
-pub mod checks;
-mod lanes;
-pub mod rows;
+// S1, S3 and parities of the words of a pair, from rows that have its words side by side, as 02, E3 asks: the sums of all words are formed
+// together. Over `sums_core`; `rows_core` has the rows, and the repairs come afterwards, in `receiving_core`.
+pub mod lanes;

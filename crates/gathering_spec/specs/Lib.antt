@@ -1,8 +1,4 @@
 -- Definitions first; the laws about each stand in the file below it.
-pub mod Networks
-pub mod NetworkLaws
-pub mod Circuits
-pub mod CircuitLaws
 pub mod Sums
 pub mod SumLaws
 pub mod ParityLaws

@@ -16,7 +16,7 @@ use Rattle.bits.specs.Xor.{_⊕_, xorSum}
 use Rattle.bits.specs.XorLaws.{xorSum-ext, xorSum-⊕, xorSum-split, xorSum-exchange}
 use Rattle.gf256.specs.Linear.{Linear, additive, sum-through}
 use Rattle.word_spec.specs.CodeWord.{Word, parity}
-use Rattle.gathering_spec.specs.NetworkLaws.{bitOf-⊕}
+use Rattle.networks_spec.specs.NetworkLaws.{bitOf-⊕}
 use Rattle.gathering_spec.specs.Sums.{bitIn, wordIn, bothRows, Parities}
 use Rattle.gathering_spec.specs.SumLaws.{xorSum-blocks, front-bit, back-bit, upper-bit, lower-word}
 

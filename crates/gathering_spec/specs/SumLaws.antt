@@ -1,4 +1,4 @@
--- Laws of the sums: what the networks gather is S1 and S3 of every word. The columns are compared with the powers of a by computation.
+-- Laws of the sums: what the networks gather is S1 and S3 of every word.
 -- Assumes nothing.
 use mathlib.Core.Path.{_≡_, refl, sym, ap, ap₂, _∙_}
 use mathlib.Core.Bool.{Bool, true, false, cond}
@@ -17,10 +17,9 @@ use lib.Seq.{getD-set-other}
 use Rattle.bits.specs.Bits.{bitOf}
 use Rattle.bits.specs.BitLaws.{bitOf-lt}
 use Rattle.bits.specs.ListLaws.{getD-tabulate}
-use Rattle.bits.specs.Tests.{grid}
 use Rattle.bits.specs.Xor.{_⊕_, xorSum}
 use Rattle.bits.specs.XorLaws.{sums, ⊕-shr, xorSum-ext, xorSum-⊕, xorSum-split}
-use Rattle.gf256.specs.Linear.{Linear, additive, lin, lin-linear, then, same, bit-through, sum-through}
+use Rattle.gf256.specs.Linear.{Linear, additive, lin, lin-linear, bit-through, sum-through}
 use Rattle.gf256.specs.Field.{cube, cube-zero}
 use Rattle.gf256.specs.Tables.{powers, cubed}
 use Rattle.gf256.specs.PowerLaws.{cube-in}
@@ -30,41 +29,12 @@ use Rattle.word_spec.specs.SyndromeLaws.{locator-entry, locator-end}
 use Rattle.blocks.specs.Moves.{pick}
 use Rattle.blocks.specs.SideBySide.{laidWord}
 use Rattle.blocks.specs.Laying.{Laid}
-use Rattle.gathering_spec.specs.Networks.{network, lane, backColumns, frontColumns, up64Columns, up32Columns, up16Columns}
-use Rattle.gathering_spec.specs.NetworkLaws.{low-digit, Shows, network-shows, added-shows, lin-shows}
+use Rattle.networks_spec.specs.Networks.{network, lane, backColumns, frontColumns, up64Columns, up32Columns, up16Columns}
+use Rattle.networks_spec.specs.ColumnLaws.{raise, raise-linear, column, front-columns, back-columns}
+use Rattle.networks_spec.specs.NetworkLaws.{low-digit, Shows, network-shows, added-shows, lin-shows}
 use Rattle.gathering_spec.specs.Sums.{halvesLane, lane64, lane32, lane16, bitIn, wordIn, bothRows, joinedNumber, joinedRows, Gathered}
 
 -- ---- the columns of the code
-
--- Of block C of eight, moved to the last place: 64, 32 and 16 places on, or not.
-raise : ℕ → ℕ → ℕ
-raise C x =
-    pick (C % 2) (pick (C / 2 % 2) (pick (C / 4) x (lin up64Columns x)) (lin up32Columns (pick (C / 4) x (lin up64Columns x))))
-    (lin up16Columns (pick (C / 2 % 2) (pick (C / 4) x (lin up64Columns x)) (lin up32Columns (pick (C / 4) x (lin up64Columns x)))))
-
-picked : (t : ℕ) {f g : ℕ → ℕ} → Linear f → Linear g → Linear (λ x. pick t (f x) (g x))
-unfolding pick
-picked zero F G = G
-picked (suc t) F G = F
-
-step-linear : (t : ℕ) (cs : List ℕ) {f : ℕ → ℕ} → Linear f → Linear (λ x. pick t (f x) (lin cs (f x)))
-step-linear t cs F = picked t F (then F (lin-linear cs))
-
-raise-linear : (C : ℕ) → Linear (raise C)
-unfolding raise
-raise-linear C = step-linear (C % 2) up16Columns (step-linear (C / 2 % 2) up32Columns (step-linear (C / 4) up64Columns same))
-
--- S1 and S3 of the word whose bit k alone is set; bit 255 as if the powers went on.
-column : ℕ → ℕ
-column k = getD powers ((509 - k) % 255) 0 + 256 * getD cubed (getD powers ((509 - k) % 255) 0) 0
-
-front-columns : (C j : ℕ) → C < 8 → j < 16 → raise C (getD frontColumns j 0) ≡ column (C * 16 + j)
-unfolding raise column pick lin powers cubed frontColumns up64Columns up32Columns up16Columns _⊕_
-front-columns = grid 8 16 (λ C j. raise C (getD frontColumns j 0)) (λ C j. column (C * 16 + j)) tt
-
-back-columns : (C j : ℕ) → C < 8 → j < 16 → raise C (getD backColumns j 0) ≡ column (128 + (C * 16 + j))
-unfolding raise column pick lin powers cubed backColumns up64Columns up32Columns up16Columns _⊕_
-back-columns = grid 8 16 (λ C j. raise C (getD backColumns j 0)) (λ C j. column (128 + (C * 16 + j))) tt
 
 locator-last : locator 255 ≡ 0
 locator-last = sym (locator-end 255 (omega arith))

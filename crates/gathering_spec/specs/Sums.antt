@@ -11,7 +11,7 @@ use Rattle.bits.specs.Bits.{bitOf}
 use Rattle.bits.specs.Lists.{tabulate}
 use Rattle.word_spec.specs.CodeWord.{Word, parity}
 use Rattle.word_spec.specs.Syndromes.{S1, S3}
-use Rattle.gathering_spec.specs.Networks.{network, lane, added, backColumns, frontColumns, up64Columns, up32Columns, up16Columns}
+use Rattle.networks_spec.specs.Networks.{network, lane, added, backColumns, frontColumns, up64Columns, up32Columns, up16Columns}
 
 -- Blocks C of both halves.
 unfoldable pub halvesLane : List ℕ → List ℕ → ℕ → List ℕ

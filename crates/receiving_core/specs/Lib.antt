@@ -1,4 +1,2 @@
-pub mod Tables
-pub mod Sets
-pub mod Mending
-pub mod MendingLaws
+pub mod Receiving
+pub mod ReceivingLaws

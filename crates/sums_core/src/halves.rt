@@ -1,7 +1,7 @@
 // The sums over the last block of either half, for the sixteen words of a row side by side: sum i is digit i of S1, sum 8 + i digit i of S3. Bit 255 is
 // taken as if the powers of a went on behind bit 254.
 ghost use mathlib.Core.Path.{_≡_};
-ghost use Rattle.gathering_spec.specs.Networks.{network, frontColumns, backColumns};
+ghost use Rattle.networks_spec.specs.Networks.{network, frontColumns, backColumns};
 
 // S1 and S3 of the last block of the front halves.
 pub fn front(x: &[u16; 16]) -> [u16; 16]

@@ -1,6 +1,6 @@
 // Sums as of places that lie further on: S1 times a power of a, S3 times its cube, for the 32 words of a pair side by side.
 ghost use mathlib.Core.Path.{_≡_};
-ghost use Rattle.gathering_spec.specs.Networks.{network, up64Columns, up32Columns, up16Columns};
+ghost use Rattle.networks_spec.specs.Networks.{network, up64Columns, up32Columns, up16Columns};
 
 // Sums moved 64 places on.
 pub fn up64(x: &[u32; 16]) -> [u32; 16]

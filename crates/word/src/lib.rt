@@ -1,4 +1,4 @@
-// Check words in bytes, the workers and the call `repair_word`. Over `word_spec`, below `pair_core` and `receiving_core`.
+// Check words in bytes, the workers and the call `repair_word`. Over `word_spec`, below `pair_core` and `mending_core`.
 // 01, "Code words": "A word lent by itself is 32 bytes, bit 0 first".
 pub mod checks;
 pub mod completion;

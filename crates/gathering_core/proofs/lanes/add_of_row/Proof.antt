@@ -4,7 +4,7 @@ use Prim.Native.Nat.{_-_}
 use lib.ListN.{getD}
 use Rattle.bits.specs.Filling.{Filling, fill}
 use Rattle.bits.specs.Xor.{_⊕_}
-use Rattle.gathering_spec.specs.Networks.{added}
+use Rattle.networks_spec.specs.Networks.{added}
 use borrow.Author.Needs.{needs}
 use Rattle.gathering_core.proofs.lanes.add_of_row.Statement.{statement}
 use Rattle.gathering_core.proofs.lanes.add_of_row.Tie as tie

@@ -3,7 +3,7 @@
 use Prim.Native.Nat.{_+_, _-_, _*_}
 use lib.ListN.{getD}
 use Rattle.bits.specs.Filling.{Filling, fill}
-use Rattle.gathering_spec.specs.Networks.{lane}
+use Rattle.networks_spec.specs.Networks.{lane}
 use borrow.Author.Needs.{needs}
 use Rattle.gathering_core.proofs.lanes.lane_of_row.Statement.{statement}
 use Rattle.gathering_core.proofs.lanes.lane_of_row.Tie as tie

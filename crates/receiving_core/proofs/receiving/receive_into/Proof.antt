@@ -1,6 +1,6 @@
 -- `receiving_core::receiving::receive_into` meets its contract.
 -- Assumes nothing.
-use Rattle.receiving_core.specs.MendingLaws.{received-clean, received-repaired}
+use Rattle.receiving_core.specs.ReceivingLaws.{received-clean, received-repaired}
 use borrow.Author.Needs.{needs}
 use Rattle.receiving_core.proofs.receiving.receive_into.Statement.{statement}
 use Rattle.receiving_core.proofs.receiving.receive_into.Tie as tie

@@ -1,6 +1,6 @@
 -- `receiving_core::receiving::receive_repaired` meets its contract.
 -- Assumes nothing.
-use Rattle.receiving_core.specs.MendingLaws.{repaired-made}
+use Rattle.receiving_core.specs.ReceivingLaws.{repaired-made}
 use borrow.Author.Needs.{needs}
 use Rattle.receiving_core.proofs.receiving.receive_repaired.Statement.{statement}
 use Rattle.receiving_core.proofs.receiving.receive_repaired.Tie as tie

@@ -2,8 +2,8 @@
 -- Assumes nothing.
 use Rattle.bits.specs.Lists.{tabulate}
 use Rattle.bits.specs.Xor.{_⊕_}
-use Rattle.gathering_spec.specs.Circuits.{run, circuit, backSteps, backSums}
-use Rattle.gathering_spec.specs.CircuitLaws.{back-circuit}
+use Rattle.networks_spec.specs.Circuits.{run, circuit, backSteps, backSums}
+use Rattle.networks_spec.specs.CircuitLaws.{back-circuit}
 use borrow.Author.Needs.{needs}
 use Rattle.sums_core.proofs.halves.back.Statement.{statement}
 use Rattle.sums_core.proofs.halves.back.Tie as tie

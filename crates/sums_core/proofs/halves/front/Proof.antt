@@ -2,8 +2,8 @@
 -- Assumes nothing.
 use Rattle.bits.specs.Lists.{tabulate}
 use Rattle.bits.specs.Xor.{_⊕_}
-use Rattle.gathering_spec.specs.Circuits.{run, circuit, frontSteps, frontSums}
-use Rattle.gathering_spec.specs.CircuitLaws.{front-circuit}
+use Rattle.networks_spec.specs.Circuits.{run, circuit, frontSteps, frontSums}
+use Rattle.networks_spec.specs.CircuitLaws.{front-circuit}
 use borrow.Author.Needs.{needs}
 use Rattle.sums_core.proofs.halves.front.Statement.{statement}
 use Rattle.sums_core.proofs.halves.front.Tie as tie

@@ -2,8 +2,8 @@
 -- Assumes nothing.
 use Rattle.bits.specs.Lists.{tabulate}
 use Rattle.bits.specs.Xor.{_⊕_}
-use Rattle.gathering_spec.specs.Circuits.{run, circuit, up16Steps, up16Sums}
-use Rattle.gathering_spec.specs.CircuitLaws.{up16-circuit}
+use Rattle.networks_spec.specs.Circuits.{run, circuit, up16Steps, up16Sums}
+use Rattle.networks_spec.specs.CircuitLaws.{up16-circuit}
 use borrow.Author.Needs.{needs}
 use Rattle.sums_core.proofs.levels.up16.Statement.{statement}
 use Rattle.sums_core.proofs.levels.up16.Tie as tie

@@ -2,8 +2,8 @@
 -- Assumes nothing.
 use Rattle.bits.specs.Lists.{tabulate}
 use Rattle.bits.specs.Xor.{_⊕_}
-use Rattle.gathering_spec.specs.Circuits.{run, circuit, up64Steps, up64Sums}
-use Rattle.gathering_spec.specs.CircuitLaws.{up64-circuit}
+use Rattle.networks_spec.specs.Circuits.{run, circuit, up64Steps, up64Sums}
+use Rattle.networks_spec.specs.CircuitLaws.{up64-circuit}
 use borrow.Author.Needs.{needs}
 use Rattle.sums_core.proofs.levels.up64.Statement.{statement}
 use Rattle.sums_core.proofs.levels.up64.Tie as tie

@@ -1,0 +1,5 @@
+pub mod ByWords
+pub mod Tables
+pub mod Sets
+pub mod Mending
+pub mod MendingLaws

@@ -1,0 +1,124 @@
+//! crates/rows_core: rows as words of sixteen bits, eight blocks side by side: read in byte order, and with the words of a pair put in order.
+
+use super::blocks::{block_in, lay, Block, BlockRow};
+use super::permutation_core::{exchange_columns, exchange_rows, transpose};
+
+/// Bytes j and j+1, the second the upper.
+fn read_word(s: &[u8], j: usize) -> u16 {
+    u16::from(s[j + 1]) * 256 + u16::from(s[j])
+}
+
+/// The words of the row that starts at a byte.
+fn row_words(s: &[u8; 512], from: usize) -> BlockRow {
+    let mut words = [0; 128];
+    for x in 0..128 {
+        words[x] = read_word(s, from + 2 * x);
+    }
+    words
+}
+
+/// A word, if it is of the block that is asked for.
+fn asked(word: u16, block: usize, of: usize) -> u16 {
+    if block == of {
+        word
+    } else {
+        0
+    }
+}
+
+/// Word i of a block of the front halves, from the pair whose number is the block's; all eight pairs are read.
+fn front_word(history: &[u8; 5120], from: usize, i: usize, block: usize) -> u16 {
+    let mut v = 0;
+    for pair in 0..8 {
+        let word = read_word(history, 512 * pair + 16 * i + 2 * block + from);
+        v = v ^ asked(word, pair, block);
+    }
+    v
+}
+
+fn front_eight(history: &[u8; 5120], from: usize, i: usize, out: &mut [u16]) {
+    for c in 0..8 {
+        out[c] = front_word(history, from, i, c);
+    }
+}
+
+/// The words of the front halves.
+fn front_words(history: &[u8; 5120], from: usize) -> BlockRow {
+    let mut words = [0; 128];
+    for i in 0..16 {
+        front_eight(history, from, i, &mut words[i * 8..i * 8 + 8]);
+    }
+    words
+}
+
+/// The bit rows of each block exchanged: bit r of number 8j+C is bit 16C+j of the front half of word r.
+fn fronts_in(words: &BlockRow) -> BlockRow {
+    let mut row = [0; 128];
+    for block in 0..8 {
+        lay(&mut row, block, exchange_rows(block_in(words, block)));
+    }
+    row
+}
+
+/// The columns of each block exchanged: number 8r+C holds bits 16C to 16C+15 of the back half of word r.
+fn backs_in(words: &BlockRow) -> BlockRow {
+    let mut row = [0; 128];
+    for block in 0..8 {
+        lay(&mut row, block, exchange_columns(block_in(words, block)));
+    }
+    row
+}
+
+/// The same of row s of a coded pair.
+fn coded_row(coded: &[u8; 512], s: usize) -> BlockRow {
+    let words = row_words(coded, 256 * s);
+    backs_in(&words)
+}
+
+fn put_halves(coded: &[u8; 512], s: usize, row: &mut [u16]) {
+    let from = coded_row(coded, s);
+    for i in 0..128 {
+        row[i] = from[i];
+    }
+}
+
+/// The back halves of the 32 words of a coded pair.
+pub fn halves_of(coded: &[u8; 512]) -> [u16; 256] {
+    let mut halves = [0; 256];
+    for s in 0..2 {
+        put_halves(coded, s, &mut halves[s * 128..s * 128 + 128]);
+    }
+    halves
+}
+
+/// Block C of row s of the halves.
+fn half_block(halves: &[u16; 256], s: usize, block: usize) -> Block {
+    let mut b = [0; 16];
+    for r in 0..16 {
+        b[r] = halves[128 * s + 8 * r + block];
+    }
+    b
+}
+
+/// The columns of row s of the halves: bit r of number 8j+C is bit 16C+j of the back half of word 16s+r.
+fn columns_of(halves: &[u16; 256], s: usize) -> BlockRow {
+    let mut row = [0; 128];
+    for block in 0..8 {
+        lay(&mut row, block, transpose(half_block(halves, s, block)));
+    }
+    row
+}
+
+/// The front halves of the words of row s of a pair, side by side; zeros before pair 10.
+pub fn fronts(history: &[u8; 5120], pair: u32, s: usize) -> BlockRow {
+    if pair < 10 {
+        return [0; 128];
+    }
+    let words = front_words(history, 256 - 256 * s);
+    fronts_in(&words)
+}
+
+/// Their back halves, side by side.
+pub fn backs(halves: &[u16; 256], s: usize) -> BlockRow {
+    columns_of(halves, s)
+}
