@@ -5,4 +5,3 @@ pub mod Division
 pub mod Field
 pub mod Tables
 pub mod PowerLaws
-pub mod RootLaws

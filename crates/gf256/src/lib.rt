@@ -5,8 +5,7 @@ ghost use mathlib.Core.Path.{_≡_};
 ghost use Prim.Native.Nat.{_<_};
 ghost use lib.ListN.{getD};
 ghost use Rattle.gf256.specs.Field.{_·_, cube};
-ghost use Rattle.gf256.specs.Tables.{powers, logs as exponents, cubed, rooted};
-ghost use Rattle.gf256.specs.RootLaws.{Root};
+ghost use Rattle.gf256.specs.Tables.{powers, logs as exponents, cubed};
 
 // The table of powers.
 pub fn powers() -> [u8; 255]
@@ -27,13 +26,6 @@ pub fn cubes() -> [u8; 256]
     ensures { λ r. ⌜ r ≡ cubed ⌝ }
 {
     tables::CUBES
-}
-
-// The table of roots.
-pub fn roots() -> [u8; 256]
-    ensures { λ r. ⌜ r ≡ rooted ⌝ }
-{
-    tables::ROOTS
 }
 
 // The exponent of an element that is not 0, from a lent table.
@@ -79,12 +71,4 @@ pub fn over(x: u8, y: u8, table: &[u8; 255], logs: &[u8; 256]) -> u8
         return table[i + 255 - j];
     }
     table[i - j]
-}
-
-// A root of y y + y = c that is not 0, or 0 where there is none, from a lent table.
-pub fn root_in(roots: &[u8; 256], c: u8) -> u8
-    requires { ⌜ now roots ≡ rooted ⌝ }
-    ensures { λ r. ⌜ Root c r ⌝ }
-{
-    roots[c as usize]
 }

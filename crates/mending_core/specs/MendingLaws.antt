@@ -27,8 +27,7 @@ use Rattle.word_spec.specs.RepairTheorems.{repair-is}
 use Rattle.word_spec.specs.declared.Repair.{Repair}
 use Rattle.word_spec.specs.declared.Repair.the-variants.{Sound, One, Two, Lost}
 use Rattle.word_spec.specs.declared.Syndromes.{Syndromes}
-use Rattle.word.specs.Applying.{Inside}
-use Rattle.word.specs.Telling.{Told}
+use Rattle.locating_core.specs.Telling.{Told, Inside}
 use Rattle.pair_spec.specs.Pairs.{laidOut, codedIndex, codedPair}
 use Rattle.pair_spec.specs.PairLaws.{codedPlace, codedPlace-lt, codedIndex-is, coded-from, coded-back, coded-laid, length-codedPair}
 use Rattle.pair_words_core.specs.Halves.{wordHalf, wordHalves}

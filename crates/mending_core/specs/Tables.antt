@@ -3,7 +3,8 @@
 use mathlib.Core.Path.{_≡_}
 use mathlib.Core.List.{List}
 use Prim.Native.Nat.{ℕ}
-use Rattle.gf256.specs.Tables.{powers, logs, cubed, rooted}
+use Rattle.gf256.specs.Tables.{powers, logs, cubed}
+use Rattle.locating_core.specs.Roots.{rooted}
 
 -- The four that a repair reads: powers of a, their exponents, cubes, roots.
 pub record Tables (p l q r : List ℕ) : Type 0 where

@@ -6,7 +6,7 @@ ghost use mathlib.Core.Path.{_≡_};
 ghost use Prim.Native.Nat.{_*_, _<_};
 ghost use lib.ListN.{length};
 ghost use Rattle.bits.specs.Lists.{tabulate};
-ghost use Rattle.word.specs.Applying.{Inside};
+ghost use Rattle.locating_core.specs.Telling.{Inside};
 ghost use Rattle.mending_core.specs.Tables.{Tables};
 ghost use Rattle.mending_core.specs.Mending.{flippedIf, flippedBack, bufferFlippedIf, flippedCoded, mendedBy, Handled, HandledSet, HandledDirty, HandledAll};
 ghost use Rattle.mending_core.specs.Sets.{First, Removed, passSet};
@@ -89,7 +89,7 @@ fn repair_word(
     ensures { λ m. ⌜ Handled (now (numbers .entry)) odd front w (now (halves .entry)) (now (coded .entry)) m (now (halves .exit)) (now (coded .exit)) × (length (now (coded .exit)) ≡ 512) ⌝ }
 {
     let s = collecting::syndromes(numbers, odd, w);
-    let r = word::locating::repair_told(s, front, table, logs, cubes, roots);
+    let r = locating_core::locating::repair_told(s, front, table, logs, cubes, roots);
     mend(halves, coded, w, r);
     word::mark_of(r)
 }
@@ -215,7 +215,7 @@ pub fn repair_words(
     let table = gf256::powers();
     let logs = gf256::logs();
     let cubes = gf256::cubes();
-    let roots = gf256::roots();
+    let roots = locating_core::roots();
     let numbers = collecting::by_words(sums);
     repair_dirty(
         halves,

@@ -3,6 +3,4 @@ pub mod WordBits
 pub mod BackHalves
 pub mod Halves
 pub mod HalvesLaws
-pub mod NumberBits
-pub mod PayloadParts
 pub mod WordBytes

@@ -1,4 +1,4 @@
--- What a row is checked by, and what a pair with repairs leaves.
+-- What code leaves on its way through a pair: the sums and parities of a row, and a pair with its repairs.
 -- Assumes nothing.
 use mathlib.Core.Path.{_≡_}
 use mathlib.Core.List.{List}

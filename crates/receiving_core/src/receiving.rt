@@ -3,8 +3,8 @@
 use crate::checks;
 use mending_core::mending::no_marks;
 use mending_core::mending::repair_words;
-use pair_words_core::halves::put_payload;
 use pair_words_core::history::shift_in;
+use payload_core::put_payload;
 use rows_core::rows;
 ghost use mathlib.Core.Path.{_≡_};
 ghost use Prim.Native.Nat.{_*_};

@@ -2,10 +2,9 @@
 -- Assumes nothing.
 use mathlib.Core.Path.{_≡_, refl, sym, ap, _∙_}
 use mathlib.Core.List.{List}
-use mathlib.Core.Bool.{Bool, true, false, cond}
+use mathlib.Core.Bool.{Bool}
 use Prim.Native.Nat.{ℕ, _*_, _<_}
 use native.Mathlib.Omega.{arith}
-use lib.Dec.{ltb}
 use lib.ListN.{length, getD}
 use Rattle.bits.specs.Bits.{bit, pack, flipped}
 use Rattle.bits.specs.BitLaws.{bit-lt, bit-pack-of, flipped-lt, length-pack, pack-bit, pack-ext}
@@ -15,7 +14,6 @@ use Rattle.word_spec.specs.CodeWord.{Word}
 use Rattle.word_spec.specs.Repair.{places, flipAll, repaired, repair}
 use Rattle.word_spec.specs.RepairLaws.{Bits, code-ext, flipped-ext}
 use Rattle.word_spec.specs.RepairTheorems.{repair-is}
-use Rattle.word_spec.specs.Locating.{Located, confined, one-lost, two-lost}
 use Rattle.word_spec.specs.Syndromes.{syndromesOf}
 use Rattle.word_spec.specs.RemainderLaws.{added}
 use Rattle.word_spec.specs.Checks.{check, tail}
@@ -25,14 +23,7 @@ use Rattle.word_spec.specs.declared.Repair.{Repair}
 use Rattle.word_spec.specs.declared.Repair.the-variants.{Sound, One, Two, Lost}
 use Rattle.word_spec.specs.declared.Syndromes.{Syndromes}
 use Rattle.word.specs.Checking.{syndromes-are}
-use Rattle.word.specs.Telling.{Told}
-
--- The places of a repair lie in the word.
-abbrev pub Inside : Repair → Type 0
-Inside Sound = Unit {0}
-Inside (One i) = i < 256
-Inside (Two i j) = (i < 256) × (j < 256)
-Inside Lost = Unit {0}
+use Rattle.locating_core.specs.Telling.{Told, Inside}
 
 pub inside-one : (r : Repair) (i n : ℕ) → Inside r → r ≡ One i → n ≡ 32 → i < n * 8
 inside-one r i n t e l = omega (arith, rw e at t)
@@ -71,28 +62,6 @@ apply-two s t d r i j l e f h =
     (λ k h. flipped-ext i (bit t) (flipped j (bit s)) k
     (ap (λ x. bit x k) f ∙ bit-pack-of (length s) (flipped j (bit s)) (flipped-lt j (bit s) (bit-lt s)) k (omega arith)))
     ∙ rw e refl
-
--- What was located lies in the word, and confined it still does.
-lost-or : (t : Bool) (x : Repair) → Inside x → Inside (cond t Lost x)
-lost-or true x i = tt
-lost-or false x i = i
-
-located-inside : (s : Syndromes) (q : Repair) → Located s q → Inside q
-located-inside s Sound L = tt
-located-inside s (One i) L = L .found (one-lost i) .0 .1
-located-inside s (Two i j) L = let t = L .found (two-lost i j) .0 in (omega (arith, t .1, t .2), t .2)
-located-inside s Lost L = tt
-
-within : (front : Bool) (q : Repair) → Inside q → Inside (confined front q)
-unfolding confined
-within true q i = i
-within false Sound i = tt
-within false (One k) i = lost-or (ltb k 128) (One k) i
-within false (Two j k) i = lost-or (ltb j 128) (Two j k) i
-within false Lost i = tt
-
-pub confined-inside : (s : Syndromes) (front : Bool) (q r : Repair) → Located s q → r ≡ confined front q → Inside r
-confined-inside s front q r L e = rw e (within front q (located-inside s q L))
 
 -- The whole of a repair in place.
 pub repaired-in-place : (s d : List ℕ) (front : Bool) (v : ℕ) (y : Syndromes) (r : Repair) → (v ≡ check (bit s)) × (v < 131072)

@@ -1,7 +1,5 @@
 -- Laws for the code; what a reader must believe stands in crate word_spec.
 pub mod Partial
 pub mod Checking
-pub mod Finding
-pub mod Telling
 pub mod Applying
 pub mod Completing

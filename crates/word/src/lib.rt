@@ -1,13 +1,13 @@
-// Check words in bytes, the workers and the call `repair_word`. Over `word_spec`, below `pair_core` and `mending_core`.
+// Check words in bytes, the workers and the call `repair_word`. Over `word_spec` and `locating_core`, below `pair_core` and `mending_core`.
 // 01, "Code words": "A word lent by itself is 32 bytes, bit 0 first".
 pub mod checks;
 pub mod completion;
-pub mod locating;
 pub mod syndrome;
 pub mod tables;
 
 use calls::Answer;
 use calls::Refusal;
+use locating_core::locating;
 use word_spec::Repair;
 ghost use mathlib.Core.Path.{_≡_};
 ghost use Prim.Native.Nat.{_<_};
@@ -15,8 +15,9 @@ ghost use lib.ListN.{length};
 ghost use Rattle.bits.specs.Bits.{bit, pack};
 ghost use Rattle.word_spec.specs.Repair.{repair, repaired, mark};
 ghost use Rattle.word_spec.specs.Checks.{check};
-ghost use Rattle.gf256.specs.Tables.{powers, logs as exponents, cubed, rooted};
-ghost use Rattle.word.specs.Applying.{Inside};
+ghost use Rattle.gf256.specs.Tables.{powers, logs as exponents, cubed};
+ghost use Rattle.locating_core.specs.Roots.{rooted};
+ghost use Rattle.locating_core.specs.Telling.{Inside};
 ghost use Rattle.word_spec.specs.Calls.{repairCall};
 ghost use Rattle.calls.specs.Calls.{after};
 
@@ -83,7 +84,7 @@ pub fn repair_word(word: &mut [u8], front: bool) -> Answer
     let table = gf256::powers();
     let logs = gf256::logs();
     let cubes = gf256::cubes();
-    let roots = gf256::roots();
+    let roots = locating_core::roots();
     let r = repair_in_place(word, v, front, &table, &logs, &cubes, &roots);
     Answer::Done(mark_of(r) as u32)
 }

@@ -1,8 +1,8 @@
 //! The library's functions once more, in plain Rust with the same loops: what is left between the two
-//! when the structure is the same. It follows crates/bits, pair, pair_core, pair_words_core, receiving_core, mending_core,
-//! gathering_core, rows_core, sums_core, permutation_core, blocks, word, gf256, interleaver, interleaver_core, block_core, cells,
-//! levels_core, mapping_core, mapping_qpsk_core, cells_core, frame, frame_core and frame_legal_core function by function, and changes
-//! with them.
+//! when the structure is the same. It follows crates/bits, pair, pair_core, pair_words_core, payload_core, receiving_core,
+//! mending_core, gathering_core, rows_core, sums_core, permutation_core, blocks, word, locating_core, gf256, interleaver,
+//! interleaver_core, block_core, cells, levels_core, mapping_core, mapping_qpsk_core, cells_core, frame, frame_core and
+//! frame_legal_core function by function, and changes with them.
 //!
 //! Lengths of buffers that contracts of the library require are in the types here, and no call is inlined
 //! into the code that times it.
@@ -28,12 +28,14 @@ mod frame_legal_core;
 mod front;
 mod gathering_core;
 mod gf256;
+mod locating_core;
 mod mapping_core;
 mod mapping_qpsk_core;
 mod mending_core;
 mod numbers;
 mod pair_core;
 mod pair_words_core;
+mod payload_core;
 mod permutation_core;
 mod receiving_core;
 mod rows_core;

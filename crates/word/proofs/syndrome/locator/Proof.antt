@@ -2,7 +2,7 @@
 -- Assumes nothing.
 use borrow.Author.Needs.{needs}
 use Rattle.word_spec.specs.SyndromeLaws.{locator-end}
-use Rattle.word.specs.Finding.{locator-in}
+use Rattle.locating_core.specs.Finding.{locator-in}
 use Rattle.word.proofs.syndrome.locator.Statement.{statement}
 use Rattle.word.proofs.syndrome.locator.Tie as tie
 

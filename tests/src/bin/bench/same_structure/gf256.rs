@@ -1,6 +1,6 @@
 //! crates/gf256: what is read off its tables.
 
-mod tables;
+pub mod tables;
 
 pub fn powers() -> [u8; 255] {
     tables::POWERS
@@ -12,10 +12,6 @@ pub fn logs() -> [u8; 256] {
 
 pub fn cubes() -> [u8; 256] {
     tables::CUBES
-}
-
-pub fn roots() -> [u8; 256] {
-    tables::ROOTS
 }
 
 pub fn log_in(table: &[u8; 256], x: u8) -> usize {
@@ -47,8 +43,4 @@ pub fn over(x: u8, y: u8, table: &[u8; 255], logs: &[u8; 256]) -> u8 {
         return table[i + 255 - j];
     }
     table[i - j]
-}
-
-pub fn root_in(roots: &[u8; 256], c: u8) -> u8 {
-    roots[c as usize]
 }

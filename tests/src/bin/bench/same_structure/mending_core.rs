@@ -1,7 +1,8 @@
 //! crates/mending_core: the repairs of the words of a pair, by syndromes that were gathered before.
 
 use super::gf256;
-use super::word::{mark_of, repair_told, Repair};
+use super::locating_core::{self, repair_told, Repair};
+use super::word::mark_of;
 
 mod collecting;
 
@@ -150,7 +151,7 @@ pub fn repair_words(
     let table = gf256::powers();
     let logs = gf256::logs();
     let cubes = gf256::cubes();
-    let roots = gf256::roots();
+    let roots = locating_core::roots();
     let numbers = collecting::by_words(sums);
     repair_dirty(
         halves, coded, &numbers, odd, dirty, front, &table, &logs, &cubes, &roots, marks,

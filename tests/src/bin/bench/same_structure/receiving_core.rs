@@ -1,7 +1,8 @@
 //! crates/receiving_core: a pair received by rows: syndromes gathered side by side, then the repairs.
 
 use super::mending_core::{no_marks, repair_words};
-use super::pair_words_core::{put_payload, shift_in};
+use super::pair_words_core::shift_in;
+use super::payload_core::put_payload;
 use super::rows_core::halves_of;
 
 mod checks;

@@ -1,6 +1,7 @@
-//! crates/word: completion, and the repair that syndromes tell.
+//! crates/word: completion, and the mark of a repair.
 
-use super::{bit, gf256};
+use super::bit;
+use super::locating_core::Repair;
 
 /// Entry i: the check bits of a word whose one set bit is bit 255 - i.
 const CHECKS: [u32; 256] = checks();
@@ -56,93 +57,6 @@ fn add_check(w: &mut [u8], v: u32) {
 pub fn complete(w: &mut [u8]) {
     let v = check_of(w);
     add_check(w, v);
-}
-
-#[derive(Clone, Copy)]
-pub struct Syndromes {
-    pub s1: u8,
-    pub s3: u8,
-    pub parity: u8,
-}
-
-#[derive(Clone, Copy)]
-pub enum Repair {
-    Sound,
-    One(usize),
-    Two(usize, usize),
-    Lost,
-}
-
-fn place_of(x: u8, logs: &[u8; 256]) -> usize {
-    if x == 0 {
-        return 255;
-    }
-    254 - gf256::log_in(logs, x)
-}
-
-/// The two places of an even word whose S1 is not 0.
-fn locate_two(
-    s: Syndromes,
-    table: &[u8; 255],
-    logs: &[u8; 256],
-    cubes: &[u8; 256],
-    roots: &[u8; 256],
-) -> Repair {
-    let q = gf256::cube_in(cubes, s.s1);
-    let c = gf256::over(s.s3 ^ q, q, table, logs);
-    let y = gf256::root_in(roots, c);
-    if y == 0 {
-        return Repair::Lost;
-    }
-    let x = gf256::times(s.s1, y, table, logs);
-    let i = place_of(x, logs);
-    let j = place_of(x ^ s.s1, logs);
-    if i < j {
-        return Repair::Two(i, j);
-    }
-    Repair::Two(j, i)
-}
-
-fn locate(
-    s: Syndromes,
-    table: &[u8; 255],
-    logs: &[u8; 256],
-    cubes: &[u8; 256],
-    roots: &[u8; 256],
-) -> Repair {
-    let Syndromes { s1, s3, parity } = s;
-    if parity == 1 {
-        if gf256::cube_in(cubes, s1) == s3 {
-            return Repair::One(place_of(s1, logs));
-        }
-        return Repair::Lost;
-    }
-    if s1 == 0 {
-        if s3 == 0 {
-            return Repair::Sound;
-        }
-        return Repair::Lost;
-    }
-    locate_two(s, table, logs, cubes, roots)
-}
-
-fn confine(r: Repair, front: bool) -> Repair {
-    match r {
-        Repair::One(i) | Repair::Two(i, _) if !front && i < 128 => Repair::Lost,
-        r => r,
-    }
-}
-
-/// The repair of a word that has these syndromes; `front` says whether flips may fall in the front half.
-pub fn repair_told(
-    s: Syndromes,
-    front: bool,
-    table: &[u8; 255],
-    logs: &[u8; 256],
-    cubes: &[u8; 256],
-    roots: &[u8; 256],
-) -> Repair {
-    confine(locate(s, table, logs, cubes, roots), front)
 }
 
 pub fn mark_of(r: Repair) -> u8 {

@@ -1,4 +1,4 @@
-//! Powers, exponents, cubes and roots.
+//! Powers, exponents and cubes.
 
 /// a^0 to a^254.
 pub const POWERS: [u8; 255] = powers();
@@ -6,8 +6,6 @@ pub const POWERS: [u8; 255] = powers();
 pub const LOGS: [u8; 256] = logs();
 /// Entry x is the cube of x.
 pub const CUBES: [u8; 256] = cubes();
-/// Entry c: a y that is not 0 with y y + y = c, the smaller of two, or 0 where there is none.
-pub const ROOTS: [u8; 256] = roots();
 
 const fn powers() -> [u8; 255] {
     let mut powers = [1; 255];
@@ -42,15 +40,4 @@ const fn cubes() -> [u8; 256] {
         x += 1;
     }
     cubes
-}
-
-const fn roots() -> [u8; 256] {
-    let mut roots = [0; 256];
-    let mut y = 255;
-    while 0 < y {
-        let square = POWERS[LOGS[y] as usize * 2 % 255];
-        roots[square as usize ^ y] = y as u8;
-        y -= 1;
-    }
-    roots
 }

@@ -1,7 +1,7 @@
 //! S1 and S3 of the words of a pair, gathered side by side, word by word; the syndromes of one.
 
+use crate::same_structure::locating_core::Syndromes;
 use crate::same_structure::permutation_core::transpose_eight;
-use crate::same_structure::word::Syndromes;
 
 /// Two numbers of 32 bits in one of 64.
 fn pair_up(a: u32, b: u32) -> u64 {

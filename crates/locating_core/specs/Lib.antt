@@ -1,0 +1,4 @@
+pub mod Roots
+pub mod RootLaws
+pub mod Finding
+pub mod Telling

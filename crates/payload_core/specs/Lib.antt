@@ -1,0 +1,2 @@
+pub mod NumberBits
+pub mod PayloadParts
