@@ -1,5 +1,5 @@
 // The library for C and Rust: one exported function for each entry point, buffers as pointer and length. See include/ofec.h. Over the
-// crates of calls (`word`, `pair`, `interleaver`, `cells`, `frame`, `line_file`).
+// crates of calls (`word`, `encoder`, `receiver`, `interleaver`, `cells`, `frame`, `line_file`).
 use calls::Answer;
 use profile::Profile;
 ghost use mathlib.Core.Path.{_≡_};
@@ -62,7 +62,7 @@ pub extern "C" fn ofec_encode_pair(
 ) -> Outcome
     ensures { λ r. ⌜ exported r (encodeBuffers (now (coded .exit)) (now (history .exit))) ≡ inNumbers pair (encodeCall (now (payload .entry)) (now (coded .entry)) (now (history .entry)) encoder pair) ⌝ }
 {
-    let encoded = pair::encode_pair(payload, coded, history, encoder, pair);
+    let encoded = encoder::encode_pair(payload, coded, history, encoder, pair);
     outcome_of(encoded, pair)
 }
 
@@ -78,7 +78,7 @@ pub extern "C" fn ofec_receive_pair(
 ) -> Outcome
     ensures { λ r. ⌜ exported r (receiveBuffers (now (payload .exit)) (now (marks .exit)) (now (history .exit))) ≡ inNumbers pair (receiveCall (now (coded .entry)) (now (payload .entry)) (now (marks .entry)) (now (history .entry)) encoder pair) ⌝ }
 {
-    let received = pair::receive_pair(coded, payload, marks, history, encoder, pair);
+    let received = receiver::receive_pair(coded, payload, marks, history, encoder, pair);
     outcome_of(received, pair)
 }
 

@@ -1,8 +1,6 @@
 // S1 and S3 of the words side by side: of each block, for the sixteen words of a row; then, for the 32 of both rows, of two blocks, of
 // four and of all eight. A lane is one of eight columns of sixteen numbers, number 8i+C in lane C.
 use blocks::lay;
-use sums_core::halves;
-use sums_core::levels;
 ghost use mathlib.Core.Path.{_≡_};
 ghost use Prim.Native.Nat.{_+_, _*_, _%_, _<_};
 ghost use lib.ListN.{length, getD};
@@ -43,8 +41,8 @@ fn halves_lane(x: &[u16; 128], y: &[u16; 128], c: usize) -> [u16; 16]
 {
     let f = lane_of_row(x, c);
     let b = lane_of_row(y, c);
-    let s = halves::front(&f);
-    let t = halves::back(&b);
+    let s = block_sums_core::front(&f);
+    let t = block_sums_core::back(&b);
     add_of_row(&s, &t)
 }
 
@@ -135,7 +133,7 @@ fn lane_64(z: &[u32; 128], c: usize) -> [u32; 16]
 {
     let f = lane(z, c);
     let b = lane(z, c + 4);
-    let s = levels::up64(&f);
+    let s = moved_sums_core::up64(&f);
     add(&s, &b)
 }
 
@@ -145,7 +143,7 @@ fn lane_32(z: &[u32; 128], c: usize) -> [u32; 16]
 {
     let f = lane(z, c);
     let b = lane(z, c + 2);
-    let s = levels::up32(&f);
+    let s = moved_sums_core::up32(&f);
     add(&s, &b)
 }
 
@@ -154,7 +152,7 @@ fn lane_16(z: &[u32; 128]) -> [u32; 16]
 {
     let f = lane(z, 0);
     let b = lane(z, 1);
-    let s = levels::up16(&f);
+    let s = moved_sums_core::up16(&f);
     add(&s, &b)
 }
 

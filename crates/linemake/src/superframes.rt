@@ -113,8 +113,8 @@ pub fn write_all(
 ) -> u32
     requires { ⌜ (superframes ≤ 65) × (length (now overhead) ≡ 12288) × Legal overheadRule (now overhead) ⌝ }
 {
-    let mut history0 = pair_stream::fresh(0);
-    let mut history1 = pair_stream::fresh(1);
+    let mut history0 = history_core::fresh(0);
+    let mut history1 = history_core::fresh(1);
     let mut line = [0u8; 356352];
     for q in 0..superframes {
         let first = first_pair(profile, q);

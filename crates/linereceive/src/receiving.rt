@@ -104,7 +104,7 @@ fn receive_and_write(
     requires { ⌜ (number ≤ 168) × (length (now coded) ≡ number * 512) × (encoder ≤ 1) × (first < 65536) × BeforePair encoder first (now history) × (length (now payload) ≡ number * 444) × (length (now marks) ≡ number * 32) ⌝ }
     ensures { λ r. ⌜ (r .flips < 4294967296) × (r .lost < 4294967296) × BeforePair encoder (first + number) (now (history .exit)) ⌝ }
 {
-    pair_stream::receive(number, coded, encoder, first, history, payload, marks);
+    receiver_stream::receive(number, coded, encoder, first, history, payload, marks);
     if !put(payload_file, payload, payload_name) {
         return refused(MISFIT);
     }
@@ -344,8 +344,8 @@ pub fn receive_all(
 ) -> Received
     requires { ⌜ (capture .superframes ≤ 64) × (length (now overhead) ≡ 12288) ⌝ }
 {
-    let mut history0 = pair_stream::fresh(0);
-    let mut history1 = pair_stream::fresh(1);
+    let mut history0 = history_core::fresh(0);
+    let mut history1 = history_core::fresh(1);
     let mut space = [0u8; 356352];
     let mut flips = 0u64;
     let mut lost = 0u64;

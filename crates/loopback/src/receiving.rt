@@ -126,7 +126,7 @@ fn receive_next(
     let e = a + 512;
     let mut out = [0u8; 444];
     let mut marks = [0u8; 32];
-    pair_stream::receive(
+    receiver_stream::receive(
         1,
         &got[a..e],
         encoder,
@@ -152,7 +152,7 @@ fn receive_all(encoder: u32, sent: &[u8], got: &[u8], counts: &mut [u32])
     requires { ⌜ (encoder < 2) × (length (now sent) ≡ 172032) × (length (now got) ≡ 172032) × (length (now counts) ≡ 41) ⌝ }
     ensures { λ _. ⌜ now (counts .exit) ≡ eachStep 336 (nextReceived encoder (now (sent .entry)) (now (got .entry))) (now (counts .entry)) ⌝ }
 {
-    let mut history = pair_stream::fresh(encoder);
+    let mut history = history_core::fresh(encoder);
     for k in 0..336 {
         refuse_receiving(&mut history, counts);
         receive_next(k, encoder, sent, got, &mut history, counts);

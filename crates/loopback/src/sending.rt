@@ -54,7 +54,7 @@ fn encode_next(encoder: u32, q: u32, history: &mut [u8], coded: &mut [u8])
 {
     let mut payload = blank();
     draw(encoder, q, &mut payload);
-    pair_stream::encode(168, &payload, encoder, 168 * q, history, coded);
+    encoder_stream::encode(168, &payload, encoder, 168 * q, history, coded);
 }
 
 // The coded pairs of both halves, each after refused calls.
@@ -62,7 +62,7 @@ fn encode_both(encoder: u32, coded: &mut [u8], counts: &mut [u32])
     requires { ⌜ (encoder < 2) × (length (now coded) ≡ 172032) × (length (now counts) ≡ 41) ⌝ }
     ensures { λ _. ⌜ (now (coded .exit) ≡ endToEnd 2 86016 (sentIn encoder)) × (now (counts .exit) ≡ eachStep 2 (λ q. halfSent) (now (counts .entry))) ⌝ }
 {
-    let mut history = pair_stream::fresh(encoder);
+    let mut history = history_core::fresh(encoder);
     for q in 0..2 {
         let f = q * 86016;
         let g = f + 86016;

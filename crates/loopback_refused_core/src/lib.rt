@@ -1,6 +1,7 @@
 // Workers of `loopback`: refused calls among the others. Some are lent an encoder's or a receiver's own history, and leave it as it was.
-// Over `pair` and `frame`; `loopback_core` counts them.
+// Over `encoder`, `receiver` and `frame`; `loopback_core` counts them.
 use calls::Answer;
+use history_core::SPENT;
 use loopback_core::counts::answered;
 use profile::Profile;
 ghost use mathlib.Core.Path.{_≡_};
@@ -11,16 +12,13 @@ ghost use Rattle.pair_spec.specs.Front.{BeforePair};
 ghost use Rattle.loopback_core.specs.Steps.{eachStep};
 ghost use Rattle.loopback_core.specs.Tally.{answered, refusedTwo};
 
-// The pair number that no call takes.
-const SPENT: u32 = 4294967295;
-
 // A call of encoding with a byte too few.
 fn encode_short(history: &mut [u8]) -> Answer
     ensures { λ r. ⌜ (r ≡ Refused Misfit) × (now (history .exit) ≡ now (history .entry)) ⌝ }
 {
     let payload = [0u8; 443];
     let mut coded = [0u8; 512];
-    pair::encode_pair(&payload, &mut coded, history, 0, 0)
+    encoder::encode_pair(&payload, &mut coded, history, 0, 0)
 }
 
 // A history: the encoder's number, the next pair number, and ten pairs.
@@ -31,7 +29,7 @@ fn spent() -> History
     ensures { λ r. ⌜ BeforePair 0 4294967295 r ⌝ }
 {
     let mut history = [0u8; 5128];
-    pair::front::put(0, SPENT, &mut history[0..8]);
+    history_core::put(0, SPENT, &mut history[0..8]);
     history
 }
 
@@ -42,7 +40,7 @@ fn encode_spent() -> Answer
     let payload = [0u8; 444];
     let mut coded = [0u8; 512];
     let mut history = spent();
-    pair::encode_pair(&payload, &mut coded, &mut history, 0, SPENT)
+    encoder::encode_pair(&payload, &mut coded, &mut history, 0, SPENT)
 }
 
 // Both, for each of 168 pairs.
@@ -63,7 +61,7 @@ fn receive_short(history: &mut [u8]) -> Answer
     let coded = [0u8; 511];
     let mut payload = [0u8; 444];
     let mut marks = [0u8; 32];
-    pair::receive_pair(&coded, &mut payload, &mut marks, history, 0, 0)
+    receiver::receive_pair(&coded, &mut payload, &mut marks, history, 0, 0)
 }
 
 // One with the pair number that no call takes, and a history that shows it.
@@ -74,7 +72,7 @@ fn receive_spent() -> Answer
     let mut payload = [0u8; 444];
     let mut marks = [0u8; 32];
     let mut history = spent();
-    pair::receive_pair(&coded, &mut payload, &mut marks, &mut history, 0, SPENT)
+    receiver::receive_pair(&coded, &mut payload, &mut marks, &mut history, 0, SPENT)
 }
 
 // Both.

@@ -1,8 +1,9 @@
 //! The library's functions once more, in plain Rust with the same loops: what is left between the two
-//! when the structure is the same. It follows crates/bits, pair, pair_core, pair_words_core, payload_core, receiving_core,
-//! mending_core, gathering_core, rows_core, sums_core, permutation_core, blocks, word, locating_core, gf256, interleaver,
-//! interleaver_core, block_core, cells, levels_core, mapping_core, mapping_qpsk_core, cells_core, frame, frame_core and
-//! frame_legal_core function by function, and changes with them.
+//! when the structure is the same. It follows crates/bits, encoder, receiver, history_core, pair_core, pair_words_core,
+//! payload_core, receiving_core, mending_core, gathering_core, rows_core, block_sums_core, moved_sums_core,
+//! permutation_core, blocks, word, locating_core, gf256, interleaver, interleaver_core, block_core, cells, levels_core,
+//! mapping_core, mapping_qpsk_core, cells_core, frame, frame_core and frame_legal_core function by function, and changes
+//! with them.
 //!
 //! Lengths of buffers that contracts of the library require are in the types here, and no call is inlined
 //! into the code that times it.
@@ -21,17 +22,19 @@ use ofec_tests::outcome::{Outcome, COUNT_SPENT, MISFIT, NO_SUCH_FRAME, STRAY_HIS
 use ofec_tests::profile::Profile;
 
 mod block_core;
+mod block_sums_core;
 mod blocks;
 mod cells_core;
 mod frame_core;
 mod frame_legal_core;
-mod front;
 mod gathering_core;
 mod gf256;
+mod history_core;
 mod locating_core;
 mod mapping_core;
 mod mapping_qpsk_core;
 mod mending_core;
+mod moved_sums_core;
 mod numbers;
 mod pair_core;
 mod pair_words_core;
@@ -39,7 +42,6 @@ mod payload_core;
 mod permutation_core;
 mod receiving_core;
 mod rows_core;
-mod sums_core;
 mod word;
 
 /// Bit i of a buffer.
@@ -60,7 +62,7 @@ pub fn encode_pair(
     else {
         return Outcome::refused_pair(MISFIT, pair);
     };
-    if front::stray(history, encoder, pair) {
+    if history_core::stray(history, encoder, pair) {
         return Outcome::refused_pair(STRAY_HISTORY, pair);
     }
     if pair == u32::MAX {
@@ -68,7 +70,7 @@ pub fn encode_pair(
     }
     let (shown, pairs) = split_front(history);
     pair_core::encode_into(payload, coded, pairs, pair);
-    front::put(encoder, pair + 1, shown);
+    history_core::put(encoder, pair + 1, shown);
     Outcome::accepted(pair + 1)
 }
 
@@ -96,7 +98,7 @@ pub fn receive_pair(
     ) else {
         return Outcome::refused_pair(MISFIT, pair);
     };
-    if front::stray(history, encoder, pair) {
+    if history_core::stray(history, encoder, pair) {
         return Outcome::refused_pair(STRAY_HISTORY, pair);
     }
     if pair == u32::MAX {
@@ -104,7 +106,7 @@ pub fn receive_pair(
     }
     let (shown, pairs) = split_front(history);
     receiving_core::receive_into(coded, payload, marks, pairs, pair);
-    front::put(encoder, pair + 1, shown);
+    history_core::put(encoder, pair + 1, shown);
     Outcome::accepted(pair + 1)
 }
 

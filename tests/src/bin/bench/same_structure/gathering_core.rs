@@ -2,7 +2,7 @@
 //! two blocks, of four and of all eight. A lane is one of eight columns of sixteen numbers, number 8i+C in lane C.
 
 use super::blocks::{lay, Block, BlockRow};
-use super::sums_core::{halves, levels};
+use super::{block_sums_core, moved_sums_core};
 
 fn lane_of_row(x: &BlockRow, c: usize) -> Block {
     let mut v = [0; 16];
@@ -24,8 +24,8 @@ fn add_of_row(a: &Block, b: &Block) -> Block {
 fn halves_lane(x: &BlockRow, y: &BlockRow, c: usize) -> Block {
     let f = lane_of_row(x, c);
     let b = lane_of_row(y, c);
-    let s = halves::front(&f);
-    let t = halves::back(&b);
+    let s = block_sums_core::front(&f);
+    let t = block_sums_core::back(&b);
     add_of_row(&s, &t)
 }
 
@@ -87,21 +87,21 @@ fn add(a: &[u32; 16], b: &[u32; 16]) -> [u32; 16] {
 fn lane_64(z: &[u32; 128], c: usize) -> [u32; 16] {
     let f = lane(z, c);
     let b = lane(z, c + 4);
-    let s = levels::up64(&f);
+    let s = moved_sums_core::up64(&f);
     add(&s, &b)
 }
 
 fn lane_32(z: &[u32; 128], c: usize) -> [u32; 16] {
     let f = lane(z, c);
     let b = lane(z, c + 2);
-    let s = levels::up32(&f);
+    let s = moved_sums_core::up32(&f);
     add(&s, &b)
 }
 
 fn lane_16(z: &[u32; 128]) -> [u32; 16] {
     let f = lane(z, 0);
     let b = lane(z, 1);
-    let s = levels::up16(&f);
+    let s = moved_sums_core::up16(&f);
     add(&s, &b)
 }
 
