@@ -1,6 +1,6 @@
 // Makes a line file of two payload files and an overhead list, super-frame by super-frame, and prints its header's numbers, or why
 // it is refused: linemake PAYLOAD0 PAYLOAD1 OVERHEAD LINE, and `qpsk` behind it for a line of that profile.
-// Over `cells_core`, `history_core`, `encoder_stream`, `superframe`, `header_core`, `line_file`, `report` and `files`.
+// Over `cells_core`, `history_core`, `pair_stream`, `superframe`, `header_core`, `line_file`, `report` and `files`.
 mod inputs;
 mod line;
 mod pairs;

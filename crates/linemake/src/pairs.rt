@@ -35,7 +35,7 @@ fn read_and_encode(
     if !read_next(argument, file, payload) {
         return MISFIT;
     }
-    encoder_stream::encode(pairs, payload, encoder, first, history, coded);
+    pair_stream::encode(pairs, payload, encoder, first, history, coded);
     0
 }
 

@@ -1,7 +1,7 @@
 // Receives a capture of a line, super-frame by super-frame, with the overhead list of the line file; writes payload and marks of both
 // receivers, and prints what these and the overhead cells show: linereceive LINE CAPTURE PAYLOAD0 PAYLOAD1 MARKS0 MARKS1, and `qpsk`
 // behind it for a line of that profile.
-// Over `marks`, `cells_core`, `history_core`, `receiver_stream`, `superframe`, `header_core`, `report` and `files`.
+// Over `marks`, `cells_core`, `history_core`, `pair_stream`, `superframe`, `header_core`, `report` and `files`.
 mod inputs;
 mod outputs;
 mod receiving;

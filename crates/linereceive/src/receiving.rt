@@ -104,7 +104,7 @@ fn receive_and_write(
     requires { ⌜ (number ≤ 168) × (length (now coded) ≡ number * 512) × (encoder ≤ 1) × (first < 65536) × BeforePair encoder first (now history) × (length (now payload) ≡ number * 444) × (length (now marks) ≡ number * 32) ⌝ }
     ensures { λ r. ⌜ (r .flips < 4294967296) × (r .lost < 4294967296) × BeforePair encoder (first + number) (now (history .exit)) ⌝ }
 {
-    receiver_stream::receive(number, coded, encoder, first, history, payload, marks);
+    pair_stream::receive(number, coded, encoder, first, history, payload, marks);
     if !put(payload_file, payload, payload_name) {
         return refused(MISFIT);
     }

@@ -1,6 +1,6 @@
 // Two payload streams from a fixed seed, through the whole chain and back over a damaged line, with refused calls in between; what came
 // of it, in counts. A run is 16 buffers: two super-frames of 16-QAM; and then four of QPSK.
-// Over `pair_words_core`, `history_core`, `encoder_stream`, `receiver_stream`, `cells_core`, `superframe`, `loopback_core` and `loopback_refused_core`.
+// Over `pair_words_core`, `history_core`, `pair_stream`, `cells_core`, `superframe`, `loopback_core` and `loopback_refused_core`.
 //
 // Each function that has a large array returns before the next such array is needed, so that the program stays within a megabyte of
 // stack: one receiver after the other, each with a run of the line of its own, and what was sent is encoded again where it is needed.

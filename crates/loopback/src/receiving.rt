@@ -126,7 +126,7 @@ fn receive_next(
     let e = a + 512;
     let mut out = [0u8; 444];
     let mut marks = [0u8; 32];
-    receiver_stream::receive(
+    pair_stream::receive(
         1,
         &got[a..e],
         encoder,

@@ -54,7 +54,7 @@ fn encode_next(encoder: u32, q: u32, history: &mut [u8], coded: &mut [u8])
 {
     let mut payload = blank();
     draw(encoder, q, &mut payload);
-    encoder_stream::encode(168, &payload, encoder, 168 * q, history, coded);
+    pair_stream::encode(168, &payload, encoder, 168 * q, history, coded);
 }
 
 // The coded pairs of both halves, each after refused calls.

@@ -1,7 +1,6 @@
 // Super-frames of the line, for either profile: the coded pairs of both encoders made into frames, by the calls of interleaving, cells
-// and framing for every buffer and sub-frame; and the way back, from frames to coded pairs. `encoder_stream` and `receiver_stream` have
-// the step between payload and coded pairs. Over `cells_core`, `superframe_buffers_core` and `superframe_core`; by the definitions of
-// `superframe_spec`.
+// and framing for every buffer and sub-frame; and the way back, from frames to coded pairs. `pair_stream` has the step between payload
+// and coded pairs. Over `cells_core`, `superframe_buffers_core` and `superframe_core`; by the definitions of `superframe_spec`.
 use calls::Answer;
 use calls::Refusal;
 use cells_core::legal::first_illegal;

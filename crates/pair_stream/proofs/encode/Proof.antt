@@ -1,4 +1,4 @@
--- `encoder_stream::encode` meets its contract: one pair a turn.
+-- `pair_stream::encode` meets its contract: one pair a turn.
 -- Assumes nothing.
 use mathlib.Core.Path.{refl, ap, ap₂}
 use Prim.Native.Nat.{_+_, _-_, _*_}
@@ -11,8 +11,8 @@ use Rattle.pair_spec.specs.Calls.{EncodeBuffers, encodeBuffers}
 use Rattle.pair_spec.specs.Stream.{pairEncoder, givenAt}
 use Rattle.pair_spec.specs.StreamLaws.{Streaming, streaming, stream-more, coded-block}
 use borrow.Author.Needs.{needs}
-use Rattle.encoder_stream.proofs.encode.Statement.{statement}
-use Rattle.encoder_stream.proofs.encode.Tie as tie
+use Rattle.pair_stream.proofs.encode.Statement.{statement}
+use Rattle.pair_stream.proofs.encode.Tie as tie
 
 ruleset kit = (needs, by-blocks, streaming)
 

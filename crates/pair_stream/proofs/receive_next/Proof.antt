@@ -1,9 +1,9 @@
--- `receiver_stream::receive_next` meets its contract.
+-- `pair_stream::receive_next` meets its contract.
 -- Assumes nothing.
 use Rattle.pair_spec.specs.StreamLaws.{pair-calls}
 use borrow.Author.Needs.{needs}
-use Rattle.receiver_stream.proofs.receive_next.Statement.{statement}
-use Rattle.receiver_stream.proofs.receive_next.Tie as tie
+use Rattle.pair_stream.proofs.receive_next.Statement.{statement}
+use Rattle.pair_stream.proofs.receive_next.Tie as tie
 
 ruleset kit = (needs, pair-calls)
 

@@ -1,9 +1,9 @@
--- `encoder_stream::encode_next` meets its contract.
+-- `pair_stream::encode_next` meets its contract.
 -- Assumes nothing.
 use borrow.Author.Needs.{needs}
 use Rattle.pair_spec.specs.StreamLaws.{pair-calls}
-use Rattle.encoder_stream.proofs.encode_next.Statement.{statement}
-use Rattle.encoder_stream.proofs.encode_next.Tie as tie
+use Rattle.pair_stream.proofs.encode_next.Statement.{statement}
+use Rattle.pair_stream.proofs.encode_next.Tie as tie
 
 pub encode-next-spec : {M : Type 1} → statement M
 encode-next-spec =

@@ -1,4 +1,4 @@
--- `receiver_stream::receive` meets its contract: one pair a turn.
+-- `pair_stream::receive` meets its contract: one pair a turn.
 -- Assumes nothing.
 use mathlib.Core.Path.{refl, ap}
 use Prim.Native.Nat.{_+_, _-_, _*_}
@@ -12,8 +12,8 @@ use Rattle.pair_spec.specs.CallLaws.{receive-written}
 use Rattle.pair_spec.specs.Stream.{pairReceiver, givenAt}
 use Rattle.pair_spec.specs.StreamLaws.{Streaming, streaming, stream-more, payload-block, marks-block}
 use borrow.Author.Needs.{needs}
-use Rattle.receiver_stream.proofs.receive.Statement.{statement}
-use Rattle.receiver_stream.proofs.receive.Tie as tie
+use Rattle.pair_stream.proofs.receive.Statement.{statement}
+use Rattle.pair_stream.proofs.receive.Tie as tie
 
 ruleset kit = (needs, by-blocks, streaming)
 
