@@ -3,7 +3,7 @@
 pub mod numbers;
 
 ghost use mathlib.Core.Path.{_≡_};
-ghost use Prim.Native.Nat.{_*_, _<_};
+ghost use Prim.Native.Nat.{_+_, _*_, _%_, _<_};
 ghost use lib.ListN.{length};
 ghost use Rattle.bits.specs.Bits.{bit, pack, flipped};
 
@@ -29,4 +29,18 @@ pub fn widen(x: u8) -> usize
     ensures { λ r. ⌜ (r ≡ x) × (r < 256) ⌝ }
 {
     x as usize
+}
+
+// A number of 32 bits as one of 64.
+fn wide(x: u32) -> u64
+    ensures { λ r. ⌜ (r ≡ x) × (r < 4294967296) ⌝ }
+{
+    x as u64
+}
+
+// Two numbers of 32 bits in one of 64.
+pub fn pair_up(a: u32, b: u32) -> u64
+    ensures { λ r. ⌜ r ≡ a * 4294967296 + b % 4294967296 ⌝ }
+{
+    wide(a) * 4294967296 + wide(b)
 }

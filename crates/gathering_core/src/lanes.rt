@@ -1,14 +1,25 @@
 // S1 and S3 of the words side by side: of each block, for the sixteen words of a row; then, for the 32 of both rows, of two blocks, of
-// four and of all eight. A lane is one of eight columns of sixteen numbers, number 8i+C in lane C.
+// four and of all eight. A lane is one of eight columns of sixteen numbers, number 8i+C in lane C. Two lanes do not fill a vector: from
+// four lanes on, two go together in numbers of 64 bits, and each operation serves both.
+use bits::pair_up;
 use blocks::lay;
 ghost use mathlib.Core.Path.{_≡_};
-ghost use Prim.Native.Nat.{_+_, _*_, _%_, _<_};
+ghost use Prim.Native.Nat.{_+_, _*_, _/_, _%_, _<_};
 ghost use lib.ListN.{length, getD};
 ghost use Rattle.bits.specs.Xor.{_⊕_, xorSum};
 ghost use Rattle.blocks.specs.SideBySide.{laidIn};
 ghost use Rattle.blocks.specs.Laying.{Laid};
 ghost use Rattle.networks_spec.specs.Networks.{lane, added};
-ghost use Rattle.gathering_spec.specs.Sums.{halvesLane, lane64, lane32, lane16, joinedRows};
+ghost use Rattle.gathering_spec.specs.Sums.{
+  halvesLane,
+  lane64,
+  pairedLanes,
+  lanes32,
+  lowerHalves,
+  upperHalves,
+  lane16,
+  joinedRows,
+};
 ghost use Rattle.gathering_core.specs.Lanes.{Levelled};
 
 // ---- the words of a row
@@ -126,7 +137,7 @@ fn add(a: &[u32; 16], b: &[u32; 16]) -> [u32; 16]
     v
 }
 
-// The sums of blocks that lie 64, 32 and 16 places apart.
+// The sums of blocks that lie 64 places apart.
 fn lane_64(z: &[u32; 128], c: usize) -> [u32; 16]
     requires { ⌜ c < 4 ⌝ }
     ensures { λ r. ⌜ r ≡ lane64 (now (z .entry)) c ⌝ }
@@ -137,26 +148,7 @@ fn lane_64(z: &[u32; 128], c: usize) -> [u32; 16]
     add(&s, &b)
 }
 
-fn lane_32(z: &[u32; 128], c: usize) -> [u32; 16]
-    requires { ⌜ c < 2 ⌝ }
-    ensures { λ r. ⌜ r ≡ lane32 (now (z .entry)) c ⌝ }
-{
-    let f = lane(z, c);
-    let b = lane(z, c + 2);
-    let s = moved_sums_core::up32(&f);
-    add(&s, &b)
-}
-
-fn lane_16(z: &[u32; 128]) -> [u32; 16]
-    ensures { λ r. ⌜ r ≡ lane16 (now (z .entry)) 0 ⌝ }
-{
-    let f = lane(z, 0);
-    let b = lane(z, 1);
-    let s = moved_sums_core::up16(&f);
-    add(&s, &b)
-}
-
-// Of eight sums four, and of four two.
+// Of eight sums four.
 fn by_four(x: &[u32; 128]) -> [u32; 128]
     ensures { λ r. ⌜ Laid (lane64 (now (x .entry))) 4 r ⌝ }
 {
@@ -167,15 +159,84 @@ fn by_four(x: &[u32; 128]) -> [u32; 128]
     z
 }
 
-fn by_two(x: &[u32; 128]) -> [u32; 128]
-    ensures { λ r. ⌜ Laid (lane32 (now (x .entry))) 2 r ⌝ }
+// ---- two lanes in numbers of 64 bits
+
+// The halves of a number of 64 bits.
+fn lower_half(x: u64) -> u32
+    ensures { λ r. ⌜ r ≡ x % 4294967296 ⌝ }
 {
-    let mut z = [0u32; 128];
-    for c in 0..2 {
-        put_lane(&mut z, c, lane_32(x, c));
-    }
-    z
+    (x % 4294967296) as u32
 }
+
+fn upper_half(x: u64) -> u32
+    ensures { λ r. ⌜ r ≡ x / 4294967296 ⌝ }
+{
+    (x / 4294967296) as u32
+}
+
+// Lanes C and C + 1, the second in the upper halves: two numbers that lie side by side in memory are then read as one.
+fn two_lanes(z: &[u32; 128], c: usize) -> [u64; 16]
+    requires { ⌜ c < 7 ⌝ }
+    ensures { λ r. ⌜ r ≡ pairedLanes (now (z .entry)) c ⌝ }
+{
+    let mut v = [0u64; 16];
+    for i in 0..16 {
+        v[i] = pair_up(z[8 * i + c + 1], z[8 * i + c]);
+    }
+    v
+}
+
+fn add_wide(a: &[u64; 16], b: &[u64; 16]) -> [u64; 16]
+    ensures { λ r. ⌜ r ≡ added (now (a .entry)) (now (b .entry)) ⌝ }
+{
+    let mut v = [0u64; 16];
+    for i in 0..16 {
+        v[i] = a[i] ^ b[i];
+    }
+    v
+}
+
+fn lower_halves(z: &[u64; 16]) -> [u32; 16]
+    ensures { λ r. ⌜ r ≡ lowerHalves (now (z .entry)) ⌝ }
+{
+    let mut v = [0u32; 16];
+    for i in 0..16 {
+        v[i] = lower_half(z[i]);
+    }
+    v
+}
+
+fn upper_halves(z: &[u64; 16]) -> [u32; 16]
+    ensures { λ r. ⌜ r ≡ upperHalves (now (z .entry)) ⌝ }
+{
+    let mut v = [0u32; 16];
+    for i in 0..16 {
+        v[i] = upper_half(z[i]);
+    }
+    v
+}
+
+// Of four sums two, both at once: those of blocks that lie 32 places apart.
+fn by_two(z: &[u32; 128]) -> [u64; 16]
+    ensures { λ r. ⌜ r ≡ lanes32 (now (z .entry)) ⌝ }
+{
+    let f = two_lanes(z, 0);
+    let b = two_lanes(z, 2);
+    let s = moved_sums_core::up32(&f);
+    add_wide(&s, &b)
+}
+
+// Of these two one: those of blocks that lie sixteen places apart.
+fn lane_16(z: &[u64; 16]) -> [u32; 16]
+    ensures { λ r. ⌜ r ≡ lane16 (now (z .entry)) ⌝ }
+{
+    let f = lower_halves(z);
+    let b = upper_halves(z);
+    let s = moved_sums_core::up16(&f);
+    add(&s, &b)
+}
+
+// ---- all levels
 
 // S1 and S3 of both rows' words, from those of each row block by block.
 pub fn levels(a: &[u16; 128], b: &[u16; 128]) -> [u32; 16]

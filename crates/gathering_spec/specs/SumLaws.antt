@@ -32,7 +32,22 @@ use Rattle.blocks.specs.Laying.{Laid}
 use Rattle.networks_spec.specs.Networks.{network, lane, backColumns, frontColumns, up64Columns, up32Columns, up16Columns}
 use Rattle.networks_spec.specs.ColumnLaws.{raise, raise-linear, column, front-columns, back-columns}
 use Rattle.networks_spec.specs.NetworkLaws.{low-digit, Shows, network-shows, added-shows, lin-shows}
-use Rattle.gathering_spec.specs.Sums.{halvesLane, lane64, lane32, lane16, bitIn, wordIn, bothRows, joinedNumber, joinedRows, Gathered}
+use Rattle.gathering_spec.specs.Sums.{
+  halvesLane,
+  lane64,
+  pairedNumber,
+  pairedLanes,
+  lanes32,
+  lowerHalves,
+  upperHalves,
+  lane16,
+  bitIn,
+  wordIn,
+  bothRows,
+  joinedNumber,
+  joinedRows,
+  Gathered,
+}
 
 -- ---- the columns of the code
 
@@ -96,6 +111,29 @@ module _ (x y : List ℕ) (r : ℕ) where
       let m : (128 + (C * 16 + j)) % 16 ≡ j = omega arith in
       simp (le-ltb (128 + (C * 16 + j)) 128 (omega arith), q, m)
 
+-- ---- two numbers of n bits in one of twice as many
+
+upper-half : (n x w : ℕ) → w < n → bitOf (n + n) x w ≡ bitOf n (x / 2 ^ n) w
+unfolding bitOf
+upper-half n x w l =
+    let e : n + n - 1 - w ≡ n + (n - 1 - w) = omega arith in
+    ap (λ k. x / 2 ^ k % 2) e ∙ ap (λ u. u % 2) (sym (shr-shr x n (n - 1 - w)))
+
+lower-half : (n x w : ℕ) → w < n → bitOf (n + n) x (n + w) ≡ bitOf n (x % 2 ^ n) w
+unfolding bitOf
+lower-half n x w l =
+    let e : n + n - 1 - (n + w) ≡ n - 1 - w = omega arith in
+    ap (λ k. x / 2 ^ k % 2) e ∙ low-digit n x (n - 1 - w) (omega arith)
+
+pub upper-bit : (n a b w : ℕ) → w < n → bitOf (n + n) (a * 2 ^ n + b % 2 ^ n) w ≡ bitOf n a w
+upper-bit n a b w l = upper-half n (a * 2 ^ n + b % 2 ^ n) w l ∙ ap (λ u. bitOf n u w) (high a n (mod-lt b (pow-pos n)))
+
+pub lower-bit : (n a b w : ℕ) → w < n → bitOf (n + n) (a * 2 ^ n + b % 2 ^ n) (n + w) ≡ bitOf n b w
+unfolding bitOf
+lower-bit n a b w l =
+    lower-half n (a * 2 ^ n + b % 2 ^ n) w l ∙ ap (λ u. bitOf n u w) (low a n (mod-lt b (pow-pos n)))
+    ∙ sym (low-digit n b (n - 1 - w) (omega arith))
+
 -- ---- what the levels show of word r
 
 halfSum : List ℕ → List ℕ → ℕ → ℕ → ℕ
@@ -155,8 +193,47 @@ module _ (x y z : List ℕ) (l0 : Laid (halvesLane x y) 8 z) (r : ℕ) where
       ∙ sym (xorSum-blocks 8 16 (λ k. wordIn x y r (128 + k) * column (128 + k))))
       ∙ sym (xorSum-split 128 128 (λ k. wordIn x y r k * column k))
 
+-- Word w in two lanes that are put together, and in two that are taken apart.
+module _ (z : List ℕ) (w v : ℕ) (l : w < 32) where
+  paired-upper : (C : ℕ) → Shows 32 (lane z (C + 1)) w v → Shows 64 (pairedLanes z C) w v
+  unfolding lane pairedLanes pairedNumber
+  paired-upper C p =
+      record {
+        bits = λ i li.
+            let e : 8 * i + (C + 1) ≡ 8 * i + C + 1 = omega arith in
+            ap (λ u. bitOf 64 u w) (getD-tabulate 16 (pairedNumber z C) i 0 li)
+            ∙ upper-bit 32 (getD z (8 * i + C + 1) 0) (getD z (8 * i + C) 0) w l
+            ∙ sym (ap (λ u. bitOf 32 u w) (getD-tabulate 16 (λ i. getD z (8 * i + (C + 1)) 0) i 0 li ∙ ap (λ n. getD z n 0) e))
+            ∙ p .bits i li;
+      }
+
+  paired-lower : (C : ℕ) → Shows 32 (lane z C) w v → Shows 64 (pairedLanes z C) (32 + w) v
+  unfolding lane pairedLanes pairedNumber
+  paired-lower C p =
+      record {
+        bits = λ i li. ap (λ u. bitOf 64 u (32 + w)) (getD-tabulate 16 (pairedNumber z C) i 0 li)
+            ∙ lower-bit 32 (getD z (8 * i + C + 1) 0) (getD z (8 * i + C) 0) w l
+            ∙ sym (ap (λ u. bitOf 32 u w) (getD-tabulate 16 (λ i. getD z (8 * i + C) 0) i 0 li)) ∙ p .bits i li;
+      }
+
+  halves-upper : Shows 64 z w v → Shows 32 (upperHalves z) w v
+  unfolding upperHalves
+  halves-upper p =
+      record {
+        bits = λ i li. ap (λ u. bitOf 32 u w) (getD-tabulate 16 (λ i. getD z i 0 / 4294967296) i 0 li)
+            ∙ sym (upper-half 32 (getD z i 0) w l) ∙ p .bits i li;
+      }
+
+  halves-lower : Shows 64 z (32 + w) v → Shows 32 (lowerHalves z) w v
+  unfolding lowerHalves
+  halves-lower p =
+      record {
+        bits = λ i li. ap (λ u. bitOf 32 u w) (getD-tabulate 16 (λ i. getD z i 0 % 4294967296) i 0 li)
+            ∙ sym (lower-half 32 (getD z i 0) w l) ∙ p .bits i li;
+      }
+
 -- Level by level, for word w of both rows.
-module _ (z0 z1 z2 : List ℕ) (l1 : Laid (lane64 z0) 4 z1) (l2 : Laid (lane32 z1) 2 z2) (w : ℕ) (v : ℕ → ℕ)
+module _ (z0 z1 : List ℕ) (l1 : Laid (lane64 z0) 4 z1) (w : ℕ) (lw : w < 32) (v : ℕ → ℕ)
     (s0 : (C : ℕ) → C < 8 → Shows 32 (lane z0 C) w (v C)) where
   v1 : ℕ → ℕ
   v1 C = lin up64Columns (v C) ⊕ v (C + 4)
@@ -171,21 +248,34 @@ module _ (z0 z1 z2 : List ℕ) (l1 : Laid (lane64 z0) 4 z1) (l2 : Laid (lane32 z
   v2 : ℕ → ℕ
   v2 C = lin up32Columns (v1 C) ⊕ v1 (C + 2)
 
-  shows2 : (C : ℕ) → C < 2 → Shows 32 (lane z2 C) w (v2 C)
-  unfolding v2 lane32 up32Columns
-  shows2 C l =
-      laid-shows l2 C w (v2 C) l
-      (added-shows 32 (network up32Columns (lane z1 C)) (lane z1 (C + 2)) w (lin up32Columns (v1 C)) (v1 (C + 2))
-      (lin-shows 32 up32Columns (lane z1 C) w (v1 C) refl (shows1 C (omega arith))) (shows1 (C + 2) (omega arith)))
+  shows2 : (k a b : ℕ) → Shows 64 (pairedLanes z1 0) k a → Shows 64 (pairedLanes z1 2) k b → Shows 64 (lanes32 z1) k (lin up32Columns a ⊕ b)
+  unfolding lanes32 up32Columns
+  shows2 k a b p q =
+      added-shows 64 (network up32Columns (pairedLanes z1 0)) (pairedLanes z1 2) k (lin up32Columns a) b
+      (lin-shows 64 up32Columns (pairedLanes z1 0) k a refl p) q
+
+  upper2 : Shows 32 (upperHalves (lanes32 z1)) w (v2 1)
+  unfolding v2
+  upper2 =
+      halves-upper (lanes32 z1) w (v2 1) lw
+      (shows2 w (v1 1) (v1 3)
+      (paired-upper z1 w (v1 1) lw 0 (shows1 1 (omega arith))) (paired-upper z1 w (v1 3) lw 2 (shows1 3 (omega arith))))
+
+  lower2 : Shows 32 (lowerHalves (lanes32 z1)) w (v2 0)
+  unfolding v2
+  lower2 =
+      halves-lower (lanes32 z1) w (v2 0) lw
+      (shows2 (32 + w) (v1 0) (v1 2)
+      (paired-lower z1 w (v1 0) lw 0 (shows1 0 (omega arith))) (paired-lower z1 w (v1 2) lw 2 (shows1 2 (omega arith))))
 
   total : ℕ
   total = lin up16Columns (v2 0) ⊕ v2 1
 
-  shows3 : Shows 32 (lane16 z2 0) w total
+  shows3 : Shows 32 (lane16 (lanes32 z1)) w total
   unfolding total lane16 up16Columns
   shows3 =
-      added-shows 32 (network up16Columns (lane z2 0)) (lane z2 1) w (lin up16Columns (v2 0)) (v2 1)
-      (lin-shows 32 up16Columns (lane z2 0) w (v2 0) refl (shows2 0 (omega arith))) (shows2 1 (omega arith))
+      added-shows 32 (network up16Columns (lowerHalves (lanes32 z1))) (upperHalves (lanes32 z1)) w (lin up16Columns (v2 0)) (v2 1)
+      (lin-shows 32 up16Columns (lowerHalves (lanes32 z1)) w (v2 0) refl lower2) upper2
 
   raised : total ≡ xorSum 8 (λ C. raise C (v C))
   unfolding total v2 v1 xorSum raise pick
@@ -252,25 +342,8 @@ low-linear = additive (λ v. v % 256) (λ a b. xor-mod a b 8)
 high-linear : Linear (λ v. v / 256)
 high-linear = additive (λ v. v / 256) (λ a b. ⊕-shr a b 8)
 
--- ---- two numbers of n bits in one of twice as many
+-- ---- two rows in one
 
-pub upper-bit : (n a b w : ℕ) → w < n → bitOf (n + n) (a * 2 ^ n + b % 2 ^ n) w ≡ bitOf n a w
-unfolding bitOf
-upper-bit n a b w l =
-    let e : n + n - 1 - w ≡ n + (n - 1 - w) = omega arith in
-    ap (λ k. (a * 2 ^ n + b % 2 ^ n) / 2 ^ k % 2) e
-    ∙ ap (λ u. u % 2)
-    (sym (shr-shr (a * 2 ^ n + b % 2 ^ n) n (n - 1 - w)) ∙ ap (λ u. u / 2 ^ (n - 1 - w)) (high a n (mod-lt b (pow-pos n))))
-
-pub lower-bit : (n a b w : ℕ) → w < n → bitOf (n + n) (a * 2 ^ n + b % 2 ^ n) (n + w) ≡ bitOf n b w
-unfolding bitOf
-lower-bit n a b w l =
-    let e : n + n - 1 - (n + w) ≡ n - 1 - w = omega arith in
-    ap (λ k. (a * 2 ^ n + b % 2 ^ n) / 2 ^ k % 2) e
-    ∙ low-digit n (a * 2 ^ n + b % 2 ^ n) (n - 1 - w) (omega arith) ∙ ap (λ u. u / 2 ^ (n - 1 - w) % 2) (low a n (mod-lt b (pow-pos n)))
-    ∙ sym (low-digit n b (n - 1 - w) (omega arith))
-
--- Two rows.
 pub lower-word : (a b w : ℕ) → 16 ≤ w → w < 32 → bitOf 32 (a * 65536 + b % 65536) w ≡ bitOf 16 b (w - 16)
 lower-word a b w l lw = let e : w ≡ 16 + (w - 16) = omega arith in ap (bitOf 32 (a * 65536 + b % 65536)) e ∙ lower-bit 16 a b (w - 16) (omega arith)
 
@@ -298,17 +371,17 @@ module _ (a b z : List ℕ) (e : z ≡ joinedRows a b) (C : ℕ) (lC : C < 8) wh
 
 -- ---- what the levels leave is gathered of the words of both rows
 
-module _ (x0 y0 x1 y1 a b z0 z1 z2 s : List ℕ) (la : Laid (halvesLane x0 (set y0 127 0)) 8 a) (lb : Laid (halvesLane x1 (set y1 127 0)) 8 b)
-    (ez : z0 ≡ joinedRows a b) (l1 : Laid (lane64 z0) 4 z1) (l2 : Laid (lane32 z1) 2 z2) (es : s ≡ lane16 z2 0) where
+module _ (x0 y0 x1 y1 a b z0 z1 s : List ℕ) (la : Laid (halvesLane x0 (set y0 127 0)) 8 a) (lb : Laid (halvesLane x1 (set y1 127 0)) 8 b)
+    (ez : z0 ≡ joinedRows a b) (l1 : Laid (lane64 z0) 4 z1) (es : s ≡ lane16 (lanes32 z1)) where
   -- S1 and S3 of word w, if it is word r of the row x, y.
-  gathered-word : (w : ℕ) (x y c : List ℕ) (r : ℕ) (l0 : Laid (halvesLane x (set y 127 0)) 8 c)
+  gathered-word : (w : ℕ) → w < 32 → (x y c : List ℕ) (r : ℕ) (l0 : Laid (halvesLane x (set y 127 0)) 8 c)
       → ((C : ℕ) → C < 8 → Shows 32 (lane z0 C) w (v0 x (set y 127 0) c l0 r C))
       → ((i : ℕ) → i < 8 → bitOf 32 (getD s i 0) w ≡ S1 (wordIn x y r) / 2 ^ i % 2) × ((i : ℕ) → i < 8 → bitOf 32 (getD s (8 + i) 0) w ≡ S3 (wordIn x y r) / 2 ^ i % 2)
   unfolding S1 S3
-  gathered-word w x y c r l0 shows = (
-    λ i li. ap (λ t. bitOf 32 (getD t i 0) w) es ∙ shows3 z0 z1 z2 l1 l2 w v shows .bits i (omega arith) ∙ low-digit 8 sum i li
+  gathered-word w lw x y c r l0 shows = (
+    λ i li. ap (λ t. bitOf 32 (getD t i 0) w) es ∙ shows3 z0 z1 l1 w lw v shows .bits i (omega arith) ∙ low-digit 8 sum i li
         ∙ ap (λ u. u / 2 ^ i % 2) (ap (λ u. u % 256) is ∙ part x y r (λ v. v % 256) low-linear locator (λ k l. column-parts k l .0) locator-last),
-    λ i li. ap (λ t. bitOf 32 (getD t (8 + i) 0) w) es ∙ shows3 z0 z1 z2 l1 l2 w v shows .bits (8 + i) (omega arith)
+    λ i li. ap (λ t. bitOf 32 (getD t (8 + i) 0) w) es ∙ shows3 z0 z1 l1 w lw v shows .bits (8 + i) (omega arith)
         ∙ ap (λ u. u % 2) (sym (shr-shr sum 8 i))
         ∙ ap (λ u. u / 2 ^ i % 2) (ap (λ u. u / 256) is ∙ part x y r (λ v. v / 256) high-linear (λ k. cube (locator k)) (λ k l. column-parts k l .1) (ap cube locator-last ∙ cube-zero)),
   )
@@ -317,10 +390,10 @@ module _ (x0 y0 x1 y1 a b z0 z1 z2 s : List ℕ) (la : Laid (halvesLane x0 (set 
       v = v0 x (set y 127 0) c l0 r
 
       sum : ℕ
-      sum = total z0 z1 z2 l1 l2 w v shows
+      sum = total z0 z1 l1 w lw v shows
 
       is : sum ≡ xorSum 256 (λ k. wordIn x (set y 127 0) r k * column k)
-      is = raised z0 z1 z2 l1 l2 w v shows ∙ whole x (set y 127 0) c l0 r
+      is = raised z0 z1 l1 w lw v shows ∙ whole x (set y 127 0) c l0 r
 
   upper : (w : ℕ) → w < 16 → (C : ℕ) → C < 8 → Shows 32 (lane z0 C) w (v0 x0 (set y0 127 0) a la w C)
   upper w l C lC = shows-upper a b z0 ez C lC w (v0 x0 (set y0 127 0) a la w C) l (shows0 x0 (set y0 127 0) a la w C lC)
@@ -334,10 +407,10 @@ module _ (x0 y0 x1 y1 a b z0 z1 z2 s : List ℕ) (la : Laid (halvesLane x0 (set 
     where
       first : (w : ℕ) → w < 32 → (i : ℕ) → i < 8 → Dec (w < 16)
           → bitOf 32 (getD s i 0) w ≡ S1 (cond (ltb w 16) (wordIn x0 y0 w) (wordIn x1 y1 (w - 16))) / 2 ^ i % 2
-      first w lw i li (yes l) = simp (lt-ltb w 16 l) (gathered-word w x0 y0 a w la (upper w l) .0 i li)
-      first w lw i li (no l) = simp (le-ltb w 16 (omega arith)) (gathered-word w x1 y1 b (w - 16) lb (lower w (omega arith) lw) .0 i li)
+      first w lw i li (yes l) = simp (lt-ltb w 16 l) (gathered-word w lw x0 y0 a w la (upper w l) .0 i li)
+      first w lw i li (no l) = simp (le-ltb w 16 (omega arith)) (gathered-word w lw x1 y1 b (w - 16) lb (lower w (omega arith) lw) .0 i li)
 
       third : (w : ℕ) → w < 32 → (i : ℕ) → i < 8 → Dec (w < 16)
           → bitOf 32 (getD s (8 + i) 0) w ≡ S3 (cond (ltb w 16) (wordIn x0 y0 w) (wordIn x1 y1 (w - 16))) / 2 ^ i % 2
-      third w lw i li (yes l) = simp (lt-ltb w 16 l) (gathered-word w x0 y0 a w la (upper w l) .1 i li)
-      third w lw i li (no l) = simp (le-ltb w 16 (omega arith)) (gathered-word w x1 y1 b (w - 16) lb (lower w (omega arith) lw) .1 i li)
+      third w lw i li (yes l) = simp (lt-ltb w 16 l) (gathered-word w lw x0 y0 a w la (upper w l) .1 i li)
+      third w lw i li (no l) = simp (le-ltb w 16 (omega arith)) (gathered-word w lw x1 y1 b (w - 16) lb (lower w (omega arith) lw) .1 i li)

@@ -17,15 +17,31 @@ use Rattle.networks_spec.specs.Networks.{network, lane, added, backColumns, fro
 unfoldable pub halvesLane : List ℕ → List ℕ → ℕ → List ℕ
 halvesLane x y C = added (network frontColumns (lane x C)) (network backColumns (lane y C))
 
--- Of eight lanes four, of four two, of two one.
+-- Of eight lanes four.
 unfoldable pub lane64 : List ℕ → ℕ → List ℕ
 lane64 z C = added (network up64Columns (lane z C)) (lane z (C + 4))
 
-unfoldable pub lane32 : List ℕ → ℕ → List ℕ
-lane32 z C = added (network up32Columns (lane z C)) (lane z (C + 2))
+-- Two lanes in numbers of 64 bits: lane C + 1 in the upper halves, lane C in the lower.
+unfoldable pub pairedNumber : List ℕ → ℕ → ℕ → ℕ
+pairedNumber z C i = getD z (8 * i + C + 1) 0 * 4294967296 + getD z (8 * i + C) 0 % 4294967296
 
-unfoldable pub lane16 : List ℕ → ℕ → List ℕ
-lane16 z C = added (network up16Columns (lane z C)) (lane z (C + 1))
+unfoldable pub pairedLanes : List ℕ → ℕ → List ℕ
+pairedLanes z C = tabulate 16 (pairedNumber z C)
+
+-- Of four lanes two, both at once: lane 1 in the upper halves, lane 0 in the lower.
+unfoldable pub lanes32 : List ℕ → List ℕ
+lanes32 z = added (network up32Columns (pairedLanes z 0)) (pairedLanes z 2)
+
+-- The halves of sixteen numbers of 64 bits.
+unfoldable pub lowerHalves : List ℕ → List ℕ
+lowerHalves u = tabulate 16 (λ i. getD u i 0 % 4294967296)
+
+unfoldable pub upperHalves : List ℕ → List ℕ
+upperHalves u = tabulate 16 (λ i. getD u i 0 / 4294967296)
+
+-- Of the two lanes in these halves one.
+unfoldable pub lane16 : List ℕ → List ℕ
+lane16 u = added (network up16Columns (lowerHalves u)) (upperHalves u)
 
 -- Bit r of number 8j + C of 128: that of word r at place j of block C.
 unfoldable pub bitIn : List ℕ → ℕ → ℕ → ℕ → ℕ

@@ -1,23 +1,10 @@
 // S1 and S3 of the words of a pair, gathered side by side, word by word; the syndromes of one.
+use bits::pair_up;
 use permutation_core::transpose_eight;
 use word_spec::Syndromes;
 ghost use mathlib.Core.Path.{_≡_};
-ghost use Prim.Native.Nat.{_+_, _*_, _%_, _<_};
+ghost use Prim.Native.Nat.{_<_};
 ghost use Rattle.gathering_spec.specs.Collecting.{pairedSums, ByWords, syndromesIn};
-
-// Two numbers of 32 bits in one of 64.
-fn pair_up(a: u32, b: u32) -> u64
-    ensures { λ r. ⌜ r ≡ a * 4294967296 + b % 4294967296 ⌝ }
-{
-    wide(a) * 4294967296 + wide(b)
-}
-
-// A number of 32 bits as one of 64.
-fn wide(x: u32) -> u64
-    ensures { λ r. ⌜ (r ≡ x) × (r < 4294967296) ⌝ }
-{
-    x as u64
-}
 
 // The sums in falling order, those of S1 in the upper halves and those of S3 in the lower.
 fn paired(sums: &[u32; 16]) -> [u64; 8]

@@ -73,8 +73,8 @@ pub fn up64(x: &[u32; 16]) -> [u32; 16]
     ]
 }
 
-// Sums moved 32 places on.
-pub fn up32(x: &[u32; 16]) -> [u32; 16]
+// Sums moved 32 places on, of two lanes at once: one in the upper halves of the numbers, one in the lower.
+pub fn up32(x: &[u64; 16]) -> [u64; 16]
     ensures { λ r. ⌜ r ≡ network up32Columns (now (x .entry)) ⌝ }
 {
     let x0 = x[0];

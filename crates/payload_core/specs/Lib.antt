@@ -1,2 +1,3 @@
 pub mod NumberBits
+pub mod Riffles
 pub mod PayloadParts

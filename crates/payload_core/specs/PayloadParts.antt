@@ -1,7 +1,7 @@
 -- The payload in parts as the code makes it from numbers of sixteen bits: 16 bits of each word for each of six blocks, then 15 bits of each
 -- word.
 -- Assumes nothing.
-use mathlib.Core.Path.{_≡_, refl, sym, ap, _∙_}
+use mathlib.Core.Path.{_≡_, refl, sym, ap, ap₂, _∙_}
 use mathlib.Core.List.{List}
 use Prim.Native.Nat.{ℕ, _+_, _-_, _*_, _/_, _%_, _^_, _<_}
 use native.Mathlib.Omega.{arith}
@@ -10,17 +10,16 @@ use lib.ListN.{length, getD}
 use Rattle.bits.specs.Bits.{bitOf, byteOf, fromBits, pack}
 use Rattle.bits.specs.BitLaws.{fromBits-lt, fromBits-ext, fromBits-bitOf}
 use Rattle.bits.specs.Lists.{tabulate}
+use Rattle.bits.specs.ListLaws.{tabulate-ext}
 use Rattle.pair_words_core.specs.BackHalves.{payloadSource, payload-low, payload-last}
 use Rattle.pair_words_core.specs.Halves.{halvesBit, payloadIn}
 use Rattle.payload_core.specs.NumberBits.{behind, behind-both, behind-split, bits-amid}
 use Rattle.payload_core.specs.NumberBits.{byte-of-number, pack-number, pack-part, two-lent}
+use Rattle.payload_core.specs.Riffles.{byBlocks, halfByte, blockByte, blocksByte, row-byte}
 
--- Bit i of what block C of the words gives, of all six blocks, and of what block 6 gives.
-unfoldable pub blockBit : List ℕ → ℕ → ℕ → ℕ
-blockBit halves c i = halvesBit halves (i / 16 * 128 + c * 16 + i % 16)
-
+-- Bit i of what six blocks of the words give, and of what block 6 gives.
 unfoldable pub firstBit : List ℕ → ℕ → ℕ
-firstBit halves i = blockBit halves (i / 512) (i % 512)
+firstBit halves i = halvesBit halves (i % 512 / 16 * 128 + i / 512 * 16 + i % 16)
 
 unfoldable pub lastBit : List ℕ → ℕ → ℕ
 lastBit halves i = halvesBit halves (i / 15 * 128 + 96 + i % 15)
@@ -35,35 +34,31 @@ number-bit s n k i l e =
 
 -- ---- six blocks
 
--- The two bytes of a number.
-block-byte : (s : List ℕ) (c w j x : ℕ) → x ≡ getD s (8 * w + c) 0 → j < 2 → byteOf (bitOf 16 x) j ≡ byteOf (blockBit s c) (2 * w + j)
-unfolding byteOf blockBit
-block-byte s c w j x e l =
-    fromBits-ext 8 (λ k. bitOf 16 x (j * 8 + k)) (λ k. blockBit s c ((2 * w + j) * 8 + k))
+-- Byte h of block C of word w is among the bytes of six blocks.
+number-byte : (s : List ℕ) (c w h j : ℕ) → w < 32 → h < 2 → j ≡ c * 64 + 2 * w + h
+    → byteOf (bitOf 16 (getD s (8 * w + c) 0)) h ≡ byteOf (firstBit s) j
+unfolding byteOf firstBit
+number-byte s c w h j lw lh e =
+    fromBits-ext 8 (λ k. bitOf 16 (getD s (8 * w + c) 0) (h * 8 + k)) (λ k. firstBit s (j * 8 + k))
     (λ k lk.
-    let d : ((2 * w + j) * 8 + k) / 16 ≡ w = omega arith in
-    let m : ((2 * w + j) * 8 + k) % 16 ≡ j * 8 + k = omega arith in
-    ap (λ b. b % 2) (rw (d, m, e) (sym (number-bit s (8 * w + c) (j * 8 + k) _ (omega arith) (omega arith)))))
+    let a : (j * 8 + k) % 512 / 16 ≡ w = omega arith in
+    let b : (j * 8 + k) / 512 ≡ c = omega arith in
+    let d : (j * 8 + k) % 16 ≡ h * 8 + k = omega arith in
+    ap (λ b. b % 2) (rw (a, b, d) (sym (number-bit s (8 * w + c) (h * 8 + k) _ (omega arith) (omega arith)))))
 
-pub block-upper : (s : List ℕ) (c w x : ℕ) → x ≡ getD s (8 * w + c) 0 → x < 2 ^ 16 → x / 256 % 256 ≡ byteOf (blockBit s c) (2 * w)
-block-upper s c w x e l =
-    let n : 2 * w + 0 ≡ 2 * w = omega arith in
-    byte-of-number 16 x 0 8 l (omega arith) ∙ block-byte s c w 0 x e (omega arith) ∙ ap (byteOf (blockBit s c)) n
+-- What both rows by blocks give are these bytes, one by one
+blocks-byte : (s : List ℕ) (j : ℕ) → j < 384 → blocksByte (byBlocks s 0) (byBlocks s 1) j ≡ byteOf (firstBit s) j
+unfolding blocksByte blockByte halfByte
+blocks-byte s j l =
+    row-byte s (j / 64) (j % 64 / 32) (j % 64 % 32 / 2) (j % 64 % 32 % 2) (omega arith) (omega arith) (omega arith) (omega arith)
+    ∙ number-byte s (j / 64) (16 * (j % 64 / 32) + j % 64 % 32 / 2) (j % 64 % 32 % 2) j (omega arith) (omega arith) (omega arith)
 
-pub block-lower : (s : List ℕ) (c w x : ℕ) → x ≡ getD s (8 * w + c) 0 → x < 2 ^ 16 → x % 256 ≡ byteOf (blockBit s c) (2 * w + 1)
-block-lower s c w x e l = omega (arith, byte-of-number 16 x 1 0 l (omega arith) ∙ block-byte s c w 1 x e (omega arith))
-
--- Block C among the six.
-pub block-part : (s : List ℕ) (c : ℕ) (ys : List ℕ) → ys ≡ pack 64 (blockBit s c) → ys ≡ tabulate 64 (λ i. byteOf (firstBit s) (c * 64 + i))
-unfolding firstBit
-block-part s c ys e =
-    e ∙ pack-part 64 (c * 64) (firstBit s) (blockBit s c)
-    (λ i l.
-    let d : (c * 64 * 8 + i) / 512 ≡ c = omega arith in
-    let m : (c * 64 * 8 + i) % 512 ≡ i = omega arith in
-    rw (d, m))
-
-pub ruleset blockwise = (block-upper, block-lower, block-part)
+-- and all together.
+blocks-are : (s x y ys : List ℕ) → x ≡ byBlocks s 0 → y ≡ byBlocks s 1 → ys ≡ tabulate 384 (blocksByte x y) → ys ≡ pack 384 (firstBit s)
+unfolding pack
+blocks-are s x y ys p q e =
+    e ∙ ap₂ (λ a b. tabulate 384 (blocksByte a b)) p q
+    ∙ tabulate-ext 384 (blocksByte (byBlocks s 0) (byBlocks s 1)) (byteOf (firstBit s)) (blocks-byte s)
 
 -- ---- block 6
 
@@ -124,19 +119,18 @@ pub ruleset lastwise = (fifteen-is, fifteen-of, byte-of-64, eight-words, eight-p
 
 -- ---- both
 
-pub payload-parts : (s d ys zs : List ℕ) → length d ≡ 444 → ys ≡ pack 384 (firstBit s) → zs ≡ pack 60 (lastBit s)
-    → putMid 384 60 (putMid 0 384 d ys) zs ≡ payloadIn s
-unfolding payloadIn pack firstBit blockBit lastBit
-payload-parts s d ys zs long ey ez =
+pub payload-parts : (s x y d ys zs : List ℕ) → length d ≡ 444 → x ≡ byBlocks s 0 → y ≡ byBlocks s 1 → ys ≡ tabulate 384 (blocksByte x y)
+    → zs ≡ pack 60 (lastBit s) → putMid 384 60 (putMid 0 384 d ys) zs ≡ payloadIn s
+unfolding payloadIn pack firstBit lastBit
+payload-parts s x y d ys zs long ex ey eb ez =
     two-lent (byteOf (λ i. halvesBit s (payloadSource i))) 444 384 384 60 d ys zs long (omega arith) (omega arith) refl
-    (ey ∙ pack-part 384 0 (λ i. halvesBit s (payloadSource i)) (firstBit s) first)
+    (blocks-are s x y ys ex ey eb ∙ pack-part 384 0 (λ i. halvesBit s (payloadSource i)) (firstBit s) first)
     (ez ∙ pack-part 60 384 (λ i. halvesBit s (payloadSource i)) (lastBit s) last)
   where
     first : (i : ℕ) → i < 3072 → firstBit s i ≡ halvesBit s (payloadSource (0 + i))
     first i l =
         let z : 0 + i ≡ i = omega arith in
-        let m : i % 512 % 16 ≡ i % 16 = omega arith in
-        rw (z, m, payload-low i l)
+        rw (z, payload-low i l)
 
     last : (i : ℕ) → i < 480 → lastBit s i ≡ halvesBit s (payloadSource (3072 + i))
     last i l = ap (halvesBit s) (omega (arith, payload-last (3072 + i) (omega arith)))

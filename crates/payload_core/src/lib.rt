@@ -1,12 +1,15 @@
 // Workers: from the back halves of a pair's 32 words in numbers of sixteen bits, number 8w+C of block C of word w, to its payload. Over
 // `pair_words_core`, below `receiving_core`.
+use blocks::turn;
 ghost use mathlib.Core.Path.{_≡_};
 ghost use Prim.Native.Nat.{_+_, _*_, _/_, _^_, _<_, _≤_};
 ghost use lib.ListN.{length, getD};
 ghost use Rattle.bits.specs.Bits.{bitOf, fromBits, pack};
+ghost use Rattle.bits.specs.Lists.{tabulate};
 ghost use Rattle.pair_words_core.specs.Halves.{payloadIn};
 ghost use Rattle.payload_core.specs.NumberBits.{behind};
-ghost use Rattle.payload_core.specs.PayloadParts.{blockBit, firstBit, lastBit};
+ghost use Rattle.payload_core.specs.PayloadParts.{lastBit};
+ghost use Rattle.payload_core.specs.Riffles.{turnedRow, riffled, byBlocks, halfByte, blockByte, blocksByte};
 
 // A number.
 fn number(halves: &[u16; 256], n: usize) -> u16
@@ -16,29 +19,81 @@ fn number(halves: &[u16; 256], n: usize) -> u16
     halves[n]
 }
 
-// Block C of each word, two bytes a number.
-fn put_block(halves: &[u16; 256], block: usize, out: &mut [u8])
-    requires { ⌜ (length (now out) ≡ 64) × (block < 6) ⌝ }
-    ensures { λ _. ⌜ now (out .exit) ≡ pack 64 (blockBit (now (halves .entry)) block) ⌝ }
+// The numbers of a row's sixteen words, turned by eight columns: so their two bytes are exchanged.
+fn turned_row(halves: &[u16; 256], s: usize) -> [u16; 128]
+    requires { ⌜ s < 2 ⌝ }
+    ensures { λ r. ⌜ r ≡ turnedRow (now (halves .entry)) s ⌝ }
 {
-    for w in 0..32 {
-        let x = number(halves, 8 * w + block);
-        let a = 2 * w;
+    let mut x = [0u16; 128];
+    for n in 0..128 {
+        x[n] = turn(number(halves, 128 * s + n), 8);
+    }
+    x
+}
+
+// The two halves of a row shuffled into each other.
+fn riffle(x: [u16; 128]) -> [u16; 128]
+    ensures { λ r. ⌜ r ≡ riffled x ⌝ }
+{
+    let mut y = [0u16; 128];
+    for n in 0..64 {
+        let i = 2 * n;
+        let j = i + 1;
+        y[i] = x[n];
+        y[j] = x[64 + n];
+    }
+    y
+}
+
+// These in order by blocks: number 16C+r is of block C of the row's word r.
+fn by_blocks(halves: &[u16; 256], s: usize) -> [u16; 128]
+    requires { ⌜ s < 2 ⌝ }
+    ensures { λ r. ⌜ r ≡ byBlocks (now (halves .entry)) s ⌝ }
+{
+    let x = turned_row(halves, s);
+    riffle(riffle(riffle(riffle(x))))
+}
+
+// A number of a row.
+fn in_row(row: &[u16; 128], n: usize) -> u16
+    requires { ⌜ n < 128 ⌝ }
+    ensures { λ x. ⌜ x ≡ getD (now (row .entry)) n 0 ⌝ }
+{
+    row[n]
+}
+
+// Block C of a row by blocks, two bytes a number, the lower byte first, since the bytes were exchanged.
+fn put_half(row: &[u16; 128], block: usize, out: &mut [u8])
+    requires { ⌜ (length (now out) ≡ 32) × (block < 6) ⌝ }
+    ensures { λ _. ⌜ now (out .exit) ≡ tabulate 32 (halfByte (now (row .entry)) block) ⌝ }
+{
+    for r in 0..16 {
+        let x = in_row(row, 16 * block + r);
+        let a = 2 * r;
         let e = a + 1;
-        out[a] = (x / 256 % 256) as u8;
-        out[e] = (x % 256) as u8;
+        out[a] = (x % 256) as u8;
+        out[e] = (x / 256) as u8;
     }
 }
 
+// Block C of both rows.
+fn put_block(first: &[u16; 128], second: &[u16; 128], block: usize, out: &mut [u8])
+    requires { ⌜ (length (now out) ≡ 64) × (block < 6) ⌝ }
+    ensures { λ _. ⌜ now (out .exit) ≡ tabulate 64 (blockByte (now (first .entry)) (now (second .entry)) block) ⌝ }
+{
+    put_half(first, block, &mut out[0..32]);
+    put_half(second, block, &mut out[32..64]);
+}
+
 // Six blocks, one after the other.
-fn put_blocks(halves: &[u16; 256], out: &mut [u8])
+fn put_blocks(first: &[u16; 128], second: &[u16; 128], out: &mut [u8])
     requires { ⌜ length (now out) ≡ 384 ⌝ }
-    ensures { λ _. ⌜ now (out .exit) ≡ pack 384 (firstBit (now (halves .entry))) ⌝ }
+    ensures { λ _. ⌜ now (out .exit) ≡ tabulate 384 (blocksByte (now (first .entry)) (now (second .entry))) ⌝ }
 {
     for c in 0..6 {
         let a = c * 64;
         let e = a + 64;
-        put_block(halves, c, &mut out[a..e]);
+        put_block(first, second, c, &mut out[a..e]);
     }
 }
 
@@ -108,6 +163,8 @@ pub fn put_payload(halves: &[u16; 256], payload: &mut [u8])
     requires { ⌜ length (now payload) ≡ 444 ⌝ }
     ensures { λ _. ⌜ now (payload .exit) ≡ payloadIn (now (halves .entry)) ⌝ }
 {
-    put_blocks(halves, &mut payload[0..384]);
+    let first = by_blocks(halves, 0);
+    let second = by_blocks(halves, 1);
+    put_blocks(&first, &second, &mut payload[0..384]);
     put_last(halves, &mut payload[384..444]);
 }

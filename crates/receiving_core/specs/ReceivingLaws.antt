@@ -48,7 +48,7 @@ module _ (h : List ℕ) (P : ℕ) (halves a b : List ℕ) (p q : ℕ) (m : RowCh
   pub gathered-levels : (s : List ℕ) → Levelled a b s → Gathered (halvesWord h P halves) s
   gathered-levels s l =
       gathered-joined h P halves (m .x) (m .y) (n .x) (n .y) (m .fronts) (m .backs) (n .fronts) (n .backs) s
-      (gathered (m .x) (m .y) (n .x) (n .y) a b (joinedRows a b) (l .four) (l .two) s (m .sums) (n .sums) refl (l .of-eight) (l .of-four) (l .last))
+      (gathered (m .x) (m .y) (n .x) (n .y) a b (joinedRows a b) (l .four) s (m .sums) (n .sums) refl (l .of-eight) (l .of-four))
 
   pub parities-levels : (r : ℕ) → r ≡ p * 65536 + q % 65536 → Parities (halvesWord h P halves) r
   parities-levels r e =

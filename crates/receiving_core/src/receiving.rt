@@ -70,7 +70,8 @@ pub fn receive_into(
     requires { ⌜ (length (now coded) ≡ 512) × (length (now payload) ≡ 444) × (length (now marks) ≡ 32) × (length (now history) ≡ 512 * depth) ⌝ }
     ensures { λ _. ⌜ receiveBuffers (now (payload .exit)) (now (marks .exit)) (now (history .exit)) ≡ receivePair depth (now (history .entry)) pair (now (coded .entry)) ⌝ }
 {
-    let mut halves = rows::halves_of(coded);
+    let mut halves = [0u16; 256];
+    rows::put_halves(coded, &mut halves);
     let c = checks::gather(history, &halves, pair);
     let sums = c.sums;
     let odd = c.odd;

@@ -1,29 +1,25 @@
 -- Laws of rows as words: as code reads them, and where each bit stands.
 -- Assumes nothing.
-use mathlib.Core.Path.{_≡_, refl, sym, ap, _∙_}
-use mathlib.Core.Bool.{cond}
+use mathlib.Core.Path.{_≡_, sym, ap, _∙_}
 use mathlib.Core.List.{List}
-use Prim.Native.Nat.{ℕ, _+_, _-_, _*_, _/_, _%_, _<_, _≤_}
+use Prim.Native.Nat.{ℕ, _+_, _*_, _/_, _%_, _<_}
 use native.Mathlib.Omega.{arith}
-use native.Mathlib.Decide.{ℕ-discrete}
-use borrow.Author.Tests.{eq-eqb, ne-eqb}
-use lib.Dec.{eqb}
-use lib.ListN.{getD}
+use lib.ListN.{length, getD}
 use Rattle.bits.specs.Bits.{bit, bitOf, fromBits}
 use Rattle.bits.specs.BitLaws.{bit-lt, fromBits-ext}
 use Rattle.bits.specs.Lists.{tabulate}
-use Rattle.bits.specs.ListLaws.{getD-tabulate, tabulate-ext}
+use Rattle.bits.specs.ListLaws.{length-tabulate, getD-tabulate, tabulate-ext}
 use Rattle.bits.specs.NumberLaws.{two-bytes}
 use Rattle.bits.specs.Xor.{_⊕_}
-use Rattle.bits.specs.XorLaws.{⊕-lt, ⊕-zero, zero-⊕}
+use Rattle.bits.specs.XorLaws.{⊕-lt}
 use Rattle.blocks.specs.Block.{bitAt, rowWord, block}
 use Rattle.blocks.specs.BlockLaws.{bitAt-lt, bitAt-block-of}
 use Rattle.blocks.specs.Exchanges.{rowsExchanged, columnsExchanged}
-use Rattle.blocks.specs.Laying.{laid-bit, words-block}
+use Rattle.blocks.specs.Laying.{Laid, laid-bit, words-block}
 use Rattle.blocks.specs.Moves.{moved, transposed}
 use Rattle.blocks.specs.SideBySide.{laidWord, laid, wordsBlock}
 use Rattle.pair_words_core.specs.Halves.{halvesBit}
-use Rattle.rows_core.specs.RowWords.{readWord, rowWords, frontWord, frontWords, frontsBlock, frontsIn, backsBlock, backsIn}
+use Rattle.rows_core.specs.RowWords.{readWord, rowWords, frontBlock, frontWords, frontsBlock, frontsIn, backsBlock, backsIn}
 use Rattle.rows_core.specs.RowWords.{codedHalf, halfBlock, columnsBlock, columnsOf}
 
 -- ---- as code reads them
@@ -34,53 +30,17 @@ read-made s j x y p q lx ly =
     two-bytes s (j + 1) j x y (λ c. bit s (8 * j + (c + 8) % 16)) p q lx ly
     (λ k l. ap (bit s) (omega arith)) (λ k l. ap (bit s) (omega arith))
 
-pub front-made : (h : List ℕ) (from i c v : ℕ) → c < 8 → v ≡ readWord h (514 * c + 16 * i + from) → v ≡ frontWord h from (i * 8 + c)
-unfolding frontWord
-front-made h from i c v l e =
-    let m : (i * 8 + c) % 8 ≡ c = omega arith in
-    let d : (i * 8 + c) / 8 ≡ i = omega arith in
-    rw (m, d) e
-
-pub asked-yes : (n block x : ℕ) → n ≡ block → x ≡ cond (eqb n block) x 0
-asked-yes n block x e = sym (simp (eq-eqb n block e))
-
-pub asked-no : (n block x : ℕ) → (n ≡ block → ⊥) → 0 ≡ cond (eqb n block) x 0
-asked-no n block x d = sym (simp (ne-eqb n block d))
-
--- The word that is asked for among those of eight pairs, of which n were read: none / more / done.
-pub record Asking (h : List ℕ) (from i block n v : ℕ) : Type 0 where
-  pub upto : n ≤ 8
-  pub found : block < n → v ≡ readWord h (514 * block + 16 * i + from)
-  pub nothing : n ≤ block → v ≡ 0
-
-pub asking-none : (h : List ℕ) (from i block : ℕ) → Asking h from i block 0 0
-asking-none h from i block = record { upto = omega arith; found = λ l. absurd (omega arith); nothing = λ l. refl }
-
-pub asking-more : {h : List ℕ} {from i block n v : ℕ} (x p : ℕ) → Asking h from i block n v → n < 8 → x ≡ readWord h (512 * n + 16 * i + 2 * block + from)
-    → p ≡ cond (eqb n block) x 0 → Asking h from i block (n + 1) (v ⊕ p)
-asking-more {h} {from} {i} {block} {n} {v} x p a l ex ep = go (ℕ-discrete n block)
+-- The words of the oldest pair, of which block 0 is the front halves'.
+pub first-block : (h : List ℕ) (from : ℕ) (words : List ℕ) → words ≡ rowWords h from → Laid (frontBlock h from) 1 words
+unfolding rowWords frontBlock laidWord
+first-block h from words e =
+    record { upto = omega arith; long = ap length e ∙ length-tabulate 128 (λ x. readWord h (from + 2 * x)); at = here }
   where
-    go : Dec (n ≡ block) → Asking h from i block (n + 1) (v ⊕ p)
-    go (yes e) =
-        let q : p ≡ x = ep ∙ simp (eq-eqb n block e) in
-        let k : 512 * n + 16 * i + 2 * block + from ≡ 514 * block + 16 * i + from = omega arith in
-        record {
-          upto = omega arith;
-          found = λ m. ap (λ u. u ⊕ p) (a .nothing (omega arith)) ∙ zero-⊕ p ∙ q ∙ ex ∙ ap (readWord h) k;
-          nothing = λ m. absurd (omega arith);
-        }
-    go (no d) =
-        let q : p ≡ 0 = ep ∙ simp (ne-eqb n block d) in
-        record {
-          upto = omega arith;
-          found = λ m. ap (λ u. v ⊕ u) q ∙ ⊕-zero v ∙ a .found (omega arith);
-          nothing = λ m. ap (λ u. v ⊕ u) q ∙ ⊕-zero v ∙ a .nothing (omega arith);
-        }
-
-pub asking-done : {h : List ℕ} {from i block n v : ℕ} → Asking h from i block n v → 8 ≤ n → block < 8 → v ≡ readWord h (514 * block + 16 * i + from)
-asking-done a l m = a .found (omega arith)
-
-pub ruleset asking = (asking-none, asking-more, asking-done)
+    here : (x : ℕ) → x < 128 → x % 8 < 1 → getD words x 0 ≡ laidWord (frontBlock h from) x
+    here x l p =
+        let i : from + 2 * x ≡ 514 * (x % 8) + 16 * (x / 8) + from = omega arith in
+        ap (λ u. getD u x 0) e ∙ getD-tabulate 128 (λ x. readWord h (from + 2 * x)) x 0 l ∙ ap (readWord h) i
+        ∙ sym (getD-tabulate 16 (λ i. readWord h (514 * (x % 8) + 16 * i + from)) (x / 8) 0 (omega arith))
 
 pub fronts-block : (words : List ℕ) (C : ℕ) (b r : List ℕ) → b ≡ wordsBlock words C → r ≡ rowsExchanged b → r ≡ frontsBlock words C
 unfolding frontsBlock
@@ -109,13 +69,14 @@ row-block s from C lC =
     (λ r lr. getD-tabulate 128 (λ x. readWord s (from + 2 * x)) (8 * r + C) 0 (omega arith))
 
 front-block : (h : List ℕ) (from C : ℕ) → C < 8 → wordsBlock (frontWords h from) C ≡ blockAt h (λ r c. 8 * (514 * C + 16 * r + from) + c)
-unfolding blockAt frontWords frontWord readWord
+unfolding blockAt frontWords laid laidWord frontBlock readWord
 front-block h from C lC =
     words-block (frontWords h from) (λ r c. bit h (8 * (514 * C + 16 * r + from) + c)) C
     (λ r lr.
     let m : (8 * r + C) % 8 ≡ C = omega arith in
     let d : (8 * r + C) / 8 ≡ r = omega arith in
-    getD-tabulate 128 (frontWord h from) (8 * r + C) 0 (omega arith) ∙ rw (m, d))
+    getD-tabulate 128 (laidWord (frontBlock h from)) (8 * r + C) 0 (omega arith)
+    ∙ rw (m, d) (getD-tabulate 16 (λ i. readWord h (514 * C + 16 * i + from)) r 0 lr))
 
 at-bit : (s : List ℕ) (f : ℕ → ℕ → ℕ) (r c : ℕ) → r < 16 → c < 16 → bitAt (blockAt s f) r c ≡ bit s (f r c)
 unfolding blockAt

@@ -20,11 +20,11 @@ rowWords s from = tabulate 128 (λ x. readWord s (from + 2 * x))
 
 -- Those of the front halves: block C from pair C of a history, from the row that starts at a byte of its pair. With each C that is a pair
 -- of 512 bytes and a block of two further on.
-unfoldable pub frontWord : List ℕ → ℕ → ℕ → ℕ
-frontWord h from x = readWord h (514 * (x % 8) + 16 * (x / 8) + from)
+unfoldable pub frontBlock : List ℕ → ℕ → ℕ → List ℕ
+frontBlock h from C = tabulate 16 (λ i. readWord h (514 * C + 16 * i + from))
 
 unfoldable pub frontWords : List ℕ → ℕ → List ℕ
-frontWords h from = tabulate 128 (frontWord h from)
+frontWords h from = laid (frontBlock h from)
 
 -- Words read whose bit rows, or whose columns, were exchanged block by block: bit r of number 8j+C is bit 16C+j of the front half of
 -- word r; number 8r+C holds bits 16C to 16C+15 of the back half of word r.

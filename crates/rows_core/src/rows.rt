@@ -5,14 +5,12 @@ use permutation_core::exchange_columns;
 use permutation_core::exchange_rows;
 use permutation_core::transpose;
 ghost use mathlib.Core.Path.{_≡_};
-ghost use mathlib.Core.Bool.{cond};
 ghost use Prim.Native.Nat.{_+_, _*_, _<_, _≤_};
-ghost use lib.Dec.{eqb};
 ghost use lib.ListN.{length};
 ghost use Rattle.bits.specs.Lists.{tabulate};
 ghost use Rattle.pair_spec.specs.History.{depth};
 ghost use Rattle.rows_core.specs.Held.{Fronts, Backs};
-ghost use Rattle.rows_core.specs.RowWords.{readWord, rowWords, frontWord, frontWords, frontsIn, backsIn, codedHalf, codedHalves, halfBlock, columnsOf};
+ghost use Rattle.rows_core.specs.RowWords.{readWord, rowWords, frontBlock, frontWords, frontsIn, backsIn, codedHalf, codedHalves, halfBlock, columnsOf};
 
 // A byte as a number of sixteen bits.
 fn byte(x: u8) -> u16
@@ -29,63 +27,51 @@ fn read_word(s: &[u8], j: usize) -> u16
     byte(s[j + 1]) * 256 + byte(s[j])
 }
 
+// The eight words of bit row i of the row that starts at a byte.
+fn put_words(s: &[u8], from: usize, i: usize, out: &mut [u16])
+    requires { ⌜ (from + 256 ≤ length (now s)) × (i < 16) × (length (now out) ≡ 8) ⌝ }
+    ensures { λ _. ⌜ now (out .exit) ≡ tabulate 8 (λ c. readWord (now (s .entry)) (from + 2 * (i * 8 + c))) ⌝ }
+{
+    for c in 0..8 {
+        out[c] = read_word(s, from + 2 * (i * 8 + c));
+    }
+}
+
 // The words of the row that starts at a byte.
 fn row_words(s: &[u8], from: usize) -> [u16; 128]
     requires { ⌜ from + 256 ≤ length (now s) ⌝ }
     ensures { λ r. ⌜ r ≡ rowWords (now (s .entry)) from ⌝ }
 {
     let mut words = [0u16; 128];
-    for x in 0..128 {
-        words[x] = read_word(s, from + 2 * x);
+    for i in 0..16 {
+        let a = i * 8;
+        let e = a + 8;
+        put_words(s, from, i, &mut words[a..e]);
     }
     words
 }
 
-// A word, if it is of the block that is asked for.
-fn asked(word: u16, block: usize, of: usize) -> u16
-    ensures { λ r. ⌜ r ≡ cond (eqb block of) word 0 ⌝ }
+// Block C of the front halves: from pair C, and from the row that starts at a byte of its pair.
+fn front_block(history: &[u8], from: usize, block: usize) -> [u16; 16]
+    requires { ⌜ (length (now history) ≡ 512 * depth) × (from ≤ 256) × (block < 8) ⌝ }
+    ensures { λ b. ⌜ b ≡ frontBlock (now (history .entry)) from block ⌝ }
 {
-    if block == of { word } else { 0 }
-}
-
-// Word i of a block of the front halves: from the pair whose number is the block's, and from the row that starts at a byte of its pair. All
-// eight pairs are read, so that the compiler reads eight blocks of each at once.
-fn front_word(history: &[u8], from: usize, i: usize, block: usize) -> u16
-    requires { ⌜ (length (now history) ≡ 512 * depth) × (from ≤ 256) × (i < 16) × (block < 8) ⌝ }
-    ensures { λ r. ⌜ r ≡ readWord (now (history .entry)) (514 * block + 16 * i + from) ⌝ }
-{
-    let mut v = 0u16;
-    for pair in 0..8 {
-        v = v
-            ^ asked(
-                read_word(history, 512 * pair + 16 * i + 2 * block + from),
-                pair,
-                block,
-            );
+    let mut b = [0u16; 16];
+    for i in 0..16 {
+        b[i] = read_word(history, 514 * block + 16 * i + from);
     }
-    v
+    b
 }
 
-// Bit row i of the front halves.
-fn front_eight(history: &[u8], from: usize, i: usize, out: &mut [u16])
-    requires { ⌜ (length (now history) ≡ 512 * depth) × (from ≤ 256) × (i < 16) × (length (now out) ≡ 8) ⌝ }
-    ensures { λ _. ⌜ now (out .exit) ≡ tabulate 8 (λ c. frontWord (now (history .entry)) from (i * 8 + c)) ⌝ }
-{
-    for c in 0..8 {
-        out[c] = front_word(history, from, i, c);
-    }
-}
-
-// The words of the front halves.
+// The words of the front halves. Those of the oldest pair come first, of which block 0 stays: so the compiler has whole bit rows, into
+// which it puts the words of the other blocks one by one.
 fn front_words(history: &[u8], from: usize) -> [u16; 128]
     requires { ⌜ (length (now history) ≡ 512 * depth) × (from ≤ 256) ⌝ }
     ensures { λ r. ⌜ r ≡ frontWords (now (history .entry)) from ⌝ }
 {
-    let mut words = [0u16; 128];
-    for i in 0..16 {
-        let a = i * 8;
-        let e = a + 8;
-        front_eight(history, from, i, &mut words[a..e]);
+    let mut words = row_words(history, from);
+    for block in 1..8 {
+        lay(&mut words, block, front_block(history, from, block));
     }
     words
 }
@@ -121,7 +107,7 @@ fn coded_row(coded: &[u8], s: usize) -> [u16; 128]
     backs_in(&words)
 }
 
-fn put_halves(coded: &[u8], s: usize, row: &mut [u16])
+fn put_row(coded: &[u8], s: usize, row: &mut [u16])
     requires { ⌜ (length (now coded) ≡ 512) × (s < 2) × (length (now row) ≡ 128) ⌝ }
     ensures { λ _. ⌜ now (row .exit) ≡ tabulate 128 (λ i. codedHalf (now (coded .entry)) (s * 128 + i)) ⌝ }
 {
@@ -132,17 +118,15 @@ fn put_halves(coded: &[u8], s: usize, row: &mut [u16])
 }
 
 // The back halves of the 32 words of a coded pair.
-pub fn halves_of(coded: &[u8]) -> [u16; 256]
-    requires { ⌜ length (now coded) ≡ 512 ⌝ }
-    ensures { λ r. ⌜ r ≡ codedHalves (now (coded .entry)) ⌝ }
+pub fn put_halves(coded: &[u8], halves: &mut [u16])
+    requires { ⌜ (length (now coded) ≡ 512) × (length (now halves) ≡ 256) ⌝ }
+    ensures { λ _. ⌜ now (halves .exit) ≡ codedHalves (now (coded .entry)) ⌝ }
 {
-    let mut halves = [0u16; 256];
     for s in 0..2 {
         let a = s * 128;
         let e = a + 128;
-        put_halves(coded, s, &mut halves[a..e]);
+        put_row(coded, s, &mut halves[a..e]);
     }
-    halves
 }
 
 // Block C of row s of the halves.

@@ -1,10 +1,9 @@
 -- `payload_core::put_blocks` meets its contract: one block a turn.
 -- Assumes nothing.
 use Prim.Native.Nat.{_-_}
-use Rattle.bits.specs.Bits.{byteOf, pack}
 use Rattle.bits.specs.Filling.{Blocks, by-blocks}
 use Rattle.bits.specs.PartLaws.{part-long}
-use Rattle.payload_core.specs.PayloadParts.{firstBit, blockwise}
+use Rattle.payload_core.specs.Riffles.{blocksByte, blockwise}
 use borrow.Author.Needs.{needs}
 use Rattle.payload_core.proofs.put_blocks.Statement.{statement}
 use Rattle.payload_core.proofs.put_blocks.Tie as tie
@@ -12,13 +11,12 @@ use Rattle.payload_core.proofs.put_blocks.Tie as tie
 ruleset kit = (needs, by-blocks, part-long, blockwise)
 
 abbrev Inv-loop : tie.InvT-loop
-Inv-loop halves out₀ c₀ out c = Blocks (byteOf (firstBit halves)) 64 6 c out
+Inv-loop first second out₀ c₀ out c = Blocks (blocksByte first second) 64 6 c out
 
 abbrev μ-loop : tie.MeasureT-loop
-μ-loop halves out₀ c₀ out c = 6 - c
+μ-loop first second out₀ c₀ out c = 6 - c
 
 pub put-blocks-spec : {M : Type 1} → statement M
-unfolding pack
 put-blocks-spec =
     tie.close
     (tie.spec

@@ -1,32 +1,18 @@
--- `gathering_core::lanes::by_two` meets its contract: lane by lane.
+-- `gathering_core::lanes::by_two` meets its contract.
 -- Assumes nothing.
-use Prim.Native.Nat.{_-_}
-use Rattle.blocks.specs.Laying.{Laid}
-use Rattle.gathering_spec.specs.Sums.{lane32}
-use Rattle.gathering_core.specs.Lanes.{lanes-laid}
+use Rattle.gathering_core.specs.Lanes.{lanes}
 use borrow.Author.Needs.{needs}
 use Rattle.gathering_core.proofs.lanes.by_two.Statement.{statement}
 use Rattle.gathering_core.proofs.lanes.by_two.Tie as tie
 
-ruleset kit = (needs, lanes-laid)
-
-abbrev Inv-loop : tie.InvT-loop
-Inv-loop x z₀ c₀ z c = Laid (lane32 x) c z
-
-abbrev μ-loop : tie.MeasureT-loop
-μ-loop x z₀ c₀ z c = 2 - c
+ruleset kit = (needs, lanes)
 
 pub by-two-spec : {M : Type 1} → statement M
 by-two-spec =
     tie.close
     (tie.spec
-    Inv-loop
-    μ-loop
-    (λ c. search kit)  -- loop-holds
-    (λ c. search kit)  -- slice-aggregate-put-lane
-    (λ c κs. search kit)  -- lane-32-requires
-    (λ c κs. search kit)  -- put-lane-requires
-    (λ c. search kit)  -- add-c
-    (λ c. search kit)  -- loop-less
-    (λ c. search kit)  -- loop-again
+    (λ c κs. search kit)  -- two-lanes-requires
+    (λ c κs. search kit)  -- two-lanes-requires-2
+    (λ c κs. search kit)  -- up32-requires
+    (λ c κs. search kit)  -- add-wide-requires
     (λ c. search kit))  -- returns

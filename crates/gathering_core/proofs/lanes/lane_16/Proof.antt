@@ -11,8 +11,8 @@ pub lane-16-spec : {M : Type 1} → statement M
 lane-16-spec =
     tie.close
     (tie.spec
-    (λ c κs. search kit)  -- lane-requires
-    (λ c κs. search kit)  -- lane-requires-2
+    (λ c κs. search kit)  -- lower-halves-requires
+    (λ c κs. search kit)  -- upper-halves-requires
     (λ c κs. search kit)  -- up16-requires
     (λ c κs. search kit)  -- add-requires
     (λ c. search kit))  -- returns

@@ -9,7 +9,8 @@ pub receive-into-spec : {M : Type 1} → statement M
 receive-into-spec =
     tie.close
     (tie.spec
-    (λ c κs. search needs)  -- halves-of-requires
+    (λ c. search needs)  -- slice-aggregate-put-halves
+    (λ c κs. search needs)  -- put-halves-requires
     (λ c κs. search needs)  -- gather-requires
     (λ c κs. search needs)  -- dirty-requires
     (λ c κs. search needs)  -- receive-clean-requires
@@ -21,9 +22,9 @@ receive-into-spec =
     let t = c .before .before .before .before .before .before .before .before .before .before .before in
     let d = t .before in
     let g = d .before .before .before in
-    let h = g .before .before .before in
-    let k = h .before .before .before .before in
-    received-clean _ _ _ _ _ _ _ _ _ _ (k .before .pre .3) (k .before .pre .0) (λ j. k .shared-slice-known .given j .fits) (h .halves-of .ensures) (g .gather .ensures .0) (g .gather .ensures .1) (d .dirty .ensures)
+    let h = g .before .before .before .before in
+    let k = h .before .before .before .before .before in
+    received-clean _ _ _ _ _ _ _ _ _ _ (k .before .pre .3) (k .before .pre .0) (λ j. k .shared-slice-known .given j .fits) (h .put-halves .ensures) (g .gather .ensures .0) (g .gather .ensures .1) (d .dirty .ensures)
     (t .if1 .taken) (r .0) (r .1) (r .2))  -- returns
     (λ c κs. search needs)  -- receive-repaired-requires
     (λ c. search needs)  -- same-length-4
@@ -33,7 +34,7 @@ receive-into-spec =
     let t = c .before .before .before .before .before .before .before .before .before .before .before .before in
     let d = t .before in
     let g = d .before .before .before in
-    let h = g .before .before .before in
-    let k = h .before .before .before .before in
-    received-repaired _ _ _ _ _ _ _ _ _ _ (k .before .pre .3) (k .before .pre .0) (λ j. k .shared-slice-known .given j .fits) (h .halves-of .ensures) (g .gather .ensures .0) (g .gather .ensures .1) (d .dirty .ensures)
+    let h = g .before .before .before .before in
+    let k = h .before .before .before .before .before in
+    received-repaired _ _ _ _ _ _ _ _ _ _ (k .before .pre .3) (k .before .pre .0) (λ j. k .shared-slice-known .given j .fits) (h .put-halves .ensures) (g .gather .ensures .0) (g .gather .ensures .1) (d .dirty .ensures)
     (c .before .before .before .before .before .before .receive-repaired .ensures)))  -- returns-2

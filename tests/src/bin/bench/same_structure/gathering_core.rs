@@ -2,6 +2,7 @@
 //! two blocks, of four and of all eight. A lane is one of eight columns of sixteen numbers, number 8i+C in lane C.
 
 use super::blocks::{lay, Block, BlockRow};
+use super::numbers::pair_up;
 use super::{block_sums_core, moved_sums_core};
 
 fn lane_of_row(x: &BlockRow, c: usize) -> Block {
@@ -91,20 +92,6 @@ fn lane_64(z: &[u32; 128], c: usize) -> [u32; 16] {
     add(&s, &b)
 }
 
-fn lane_32(z: &[u32; 128], c: usize) -> [u32; 16] {
-    let f = lane(z, c);
-    let b = lane(z, c + 2);
-    let s = moved_sums_core::up32(&f);
-    add(&s, &b)
-}
-
-fn lane_16(z: &[u32; 128]) -> [u32; 16] {
-    let f = lane(z, 0);
-    let b = lane(z, 1);
-    let s = moved_sums_core::up16(&f);
-    add(&s, &b)
-}
-
 /// Of eight sums four.
 fn by_four(x: &[u32; 128]) -> [u32; 128] {
     let mut z = [0; 128];
@@ -114,13 +101,61 @@ fn by_four(x: &[u32; 128]) -> [u32; 128] {
     z
 }
 
-/// Of four sums two.
-fn by_two(x: &[u32; 128]) -> [u32; 128] {
-    let mut z = [0; 128];
-    for c in 0..2 {
-        put_lane(&mut z, c, lane_32(x, c));
+fn lower_half(x: u64) -> u32 {
+    (x % 4294967296) as u32
+}
+
+fn upper_half(x: u64) -> u32 {
+    (x / 4294967296) as u32
+}
+
+/// Lanes C and C + 1, the second in the upper halves.
+fn two_lanes(z: &[u32; 128], c: usize) -> [u64; 16] {
+    let mut v = [0; 16];
+    for i in 0..16 {
+        v[i] = pair_up(z[8 * i + c + 1], z[8 * i + c]);
     }
-    z
+    v
+}
+
+fn add_wide(a: &[u64; 16], b: &[u64; 16]) -> [u64; 16] {
+    let mut v = [0; 16];
+    for i in 0..16 {
+        v[i] = a[i] ^ b[i];
+    }
+    v
+}
+
+fn lower_halves(z: &[u64; 16]) -> [u32; 16] {
+    let mut v = [0; 16];
+    for i in 0..16 {
+        v[i] = lower_half(z[i]);
+    }
+    v
+}
+
+fn upper_halves(z: &[u64; 16]) -> [u32; 16] {
+    let mut v = [0; 16];
+    for i in 0..16 {
+        v[i] = upper_half(z[i]);
+    }
+    v
+}
+
+/// Of four sums two, both at once: those of blocks that lie 32 places apart.
+fn by_two(z: &[u32; 128]) -> [u64; 16] {
+    let f = two_lanes(z, 0);
+    let b = two_lanes(z, 2);
+    let s = moved_sums_core::up32(&f);
+    add_wide(&s, &b)
+}
+
+/// Of these two one: those of blocks that lie sixteen places apart.
+fn lane_16(z: &[u64; 16]) -> [u32; 16] {
+    let f = lower_halves(z);
+    let b = upper_halves(z);
+    let s = moved_sums_core::up16(&f);
+    add(&s, &b)
 }
 
 /// S1 and S3 of both rows' words, from those of each row block by block.

@@ -38,8 +38,8 @@ pub fn up64(x: &[u32; 16]) -> [u32; 16] {
     ]
 }
 
-/// Sums moved 32 places on.
-pub fn up32(x: &[u32; 16]) -> [u32; 16] {
+/// Sums moved 32 places on, of two lanes at once.
+pub fn up32(x: &[u64; 16]) -> [u64; 16] {
     let [x0, x1, x2, x3, x4, x5, x6, x7, x8, x9, x10, x11, x12, x13, x14, x15] = *x;
     let s0 = x0 ^ x3;
     let s1 = x2 ^ x5;

@@ -1,4 +1,4 @@
-//! crates/bits: numbers of 32 bits in a buffer, most significant byte first.
+//! crates/bits: numbers of 32 bits in a buffer, most significant byte first, and two of them in one of 64.
 
 fn two_bytes(bytes: &[u8], i: usize) -> usize {
     usize::from(bytes[i]) * 256 + usize::from(bytes[i + 1])
@@ -20,4 +20,9 @@ pub fn put_numbers(numbers: &[u32], bytes: &mut [u8]) {
     for i in 0..n {
         bytes[i] = byte(numbers[i / 4], i % 4);
     }
+}
+
+/// Two numbers of 32 bits in one of 64.
+pub fn pair_up(a: u32, b: u32) -> u64 {
+    u64::from(a) * 4294967296 + u64::from(b)
 }

@@ -1,22 +1,59 @@
 //! crates/payload_core: the payload of words received, from their back halves in numbers of sixteen bits.
 
+use super::blocks::turn;
+
 fn number(halves: &[u16; 256], n: usize) -> u16 {
     halves[n]
 }
 
-/// Block C of each word, two bytes a number.
-fn put_block(halves: &[u16; 256], block: usize, out: &mut [u8]) {
-    for w in 0..32 {
-        let x = number(halves, 8 * w + block);
-        out[2 * w] = (x / 256 % 256) as u8;
-        out[2 * w + 1] = (x % 256) as u8;
+/// The numbers of a row's sixteen words, turned by eight columns: so their two bytes are exchanged.
+fn turned_row(halves: &[u16; 256], s: usize) -> [u16; 128] {
+    let mut x = [0; 128];
+    for n in 0..128 {
+        x[n] = turn(number(halves, 128 * s + n), 8);
+    }
+    x
+}
+
+/// The two halves of a row shuffled into each other.
+fn riffle(x: [u16; 128]) -> [u16; 128] {
+    let mut y = [0; 128];
+    for n in 0..64 {
+        y[2 * n] = x[n];
+        y[2 * n + 1] = x[64 + n];
+    }
+    y
+}
+
+/// These in order by blocks: number 16C+r is of block C of the row's word r.
+fn by_blocks(halves: &[u16; 256], s: usize) -> [u16; 128] {
+    let x = turned_row(halves, s);
+    riffle(riffle(riffle(riffle(x))))
+}
+
+fn in_row(row: &[u16; 128], n: usize) -> u16 {
+    row[n]
+}
+
+/// Block C of a row by blocks, two bytes a number, the lower byte first.
+fn put_half(row: &[u16; 128], block: usize, out: &mut [u8]) {
+    for r in 0..16 {
+        let x = in_row(row, 16 * block + r);
+        out[2 * r] = (x % 256) as u8;
+        out[2 * r + 1] = (x / 256) as u8;
     }
 }
 
+/// Block C of both rows.
+fn put_block(first: &[u16; 128], second: &[u16; 128], block: usize, out: &mut [u8]) {
+    put_half(first, block, &mut out[0..32]);
+    put_half(second, block, &mut out[32..64]);
+}
+
 /// Six blocks, one after the other.
-fn put_blocks(halves: &[u16; 256], out: &mut [u8]) {
+fn put_blocks(first: &[u16; 128], second: &[u16; 128], out: &mut [u8]) {
     for c in 0..6 {
-        put_block(halves, c, &mut out[c * 64..c * 64 + 64]);
+        put_block(first, second, c, &mut out[c * 64..c * 64 + 64]);
     }
 }
 
@@ -60,6 +97,8 @@ fn put_last(halves: &[u16; 256], out: &mut [u8]) {
 
 /// The payload: six blocks of each word, then what is left of block 6. Number 8w+C of the halves is of block C of word w.
 pub fn put_payload(halves: &[u16; 256], payload: &mut [u8; 444]) {
-    put_blocks(halves, &mut payload[0..384]);
+    let first = by_blocks(halves, 0);
+    let second = by_blocks(halves, 1);
+    put_blocks(&first, &second, &mut payload[0..384]);
     put_last(halves, &mut payload[384..444]);
 }

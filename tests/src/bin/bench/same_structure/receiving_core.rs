@@ -3,7 +3,7 @@
 use super::mending_core::{no_marks, repair_words};
 use super::pair_words_core::shift_in;
 use super::payload_core::put_payload;
-use super::rows_core::halves_of;
+use super::rows_core::put_halves;
 
 mod checks;
 
@@ -46,7 +46,8 @@ pub fn receive_into(
     history: &mut [u8; 5120],
     pair: u32,
 ) {
-    let mut halves = halves_of(coded);
+    let mut halves = [0; 256];
+    put_halves(coded, &mut halves);
     let c = checks::gather(history, &halves, pair);
     let dirty = checks::dirty(&c.sums, c.odd);
     if dirty == 0 {

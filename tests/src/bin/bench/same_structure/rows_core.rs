@@ -8,45 +8,36 @@ fn read_word(s: &[u8], j: usize) -> u16 {
     u16::from(s[j + 1]) * 256 + u16::from(s[j])
 }
 
+/// The eight words of bit row i of the row that starts at a byte.
+fn put_words<const N: usize>(s: &[u8; N], from: usize, i: usize, out: &mut [u16]) {
+    for c in 0..8 {
+        out[c] = read_word(s, from + 2 * (i * 8 + c));
+    }
+}
+
 /// The words of the row that starts at a byte.
-fn row_words(s: &[u8; 512], from: usize) -> BlockRow {
+fn row_words<const N: usize>(s: &[u8; N], from: usize) -> BlockRow {
     let mut words = [0; 128];
-    for x in 0..128 {
-        words[x] = read_word(s, from + 2 * x);
+    for i in 0..16 {
+        put_words(s, from, i, &mut words[i * 8..i * 8 + 8]);
     }
     words
 }
 
-/// A word, if it is of the block that is asked for.
-fn asked(word: u16, block: usize, of: usize) -> u16 {
-    if block == of {
-        word
-    } else {
-        0
-    }
-}
-
-/// Word i of a block of the front halves, from the pair whose number is the block's; all eight pairs are read.
-fn front_word(history: &[u8; 5120], from: usize, i: usize, block: usize) -> u16 {
-    let mut v = 0;
-    for pair in 0..8 {
-        let word = read_word(history, 512 * pair + 16 * i + 2 * block + from);
-        v = v ^ asked(word, pair, block);
-    }
-    v
-}
-
-fn front_eight(history: &[u8; 5120], from: usize, i: usize, out: &mut [u16]) {
-    for c in 0..8 {
-        out[c] = front_word(history, from, i, c);
-    }
-}
-
-/// The words of the front halves.
-fn front_words(history: &[u8; 5120], from: usize) -> BlockRow {
-    let mut words = [0; 128];
+/// Block C of the front halves, from the pair whose number is the block's.
+fn front_block(history: &[u8; 5120], from: usize, block: usize) -> Block {
+    let mut b = [0; 16];
     for i in 0..16 {
-        front_eight(history, from, i, &mut words[i * 8..i * 8 + 8]);
+        b[i] = read_word(history, 514 * block + 16 * i + from);
+    }
+    b
+}
+
+/// The words of the front halves: those of the oldest pair, of which block 0 stays.
+fn front_words(history: &[u8; 5120], from: usize) -> BlockRow {
+    let mut words = row_words(history, from);
+    for block in 1..8 {
+        lay(&mut words, block, front_block(history, from, block));
     }
     words
 }
@@ -75,7 +66,7 @@ fn coded_row(coded: &[u8; 512], s: usize) -> BlockRow {
     backs_in(&words)
 }
 
-fn put_halves(coded: &[u8; 512], s: usize, row: &mut [u16]) {
+fn put_row(coded: &[u8; 512], s: usize, row: &mut [u16]) {
     let from = coded_row(coded, s);
     for i in 0..128 {
         row[i] = from[i];
@@ -83,12 +74,10 @@ fn put_halves(coded: &[u8; 512], s: usize, row: &mut [u16]) {
 }
 
 /// The back halves of the 32 words of a coded pair.
-pub fn halves_of(coded: &[u8; 512]) -> [u16; 256] {
-    let mut halves = [0; 256];
+pub fn put_halves(coded: &[u8; 512], halves: &mut [u16; 256]) {
     for s in 0..2 {
-        put_halves(coded, s, &mut halves[s * 128..s * 128 + 128]);
+        put_row(coded, s, &mut halves[s * 128..s * 128 + 128]);
     }
-    halves
 }
 
 /// Block C of row s of the halves.

@@ -1,12 +1,8 @@
 //! S1 and S3 of the words of a pair, gathered side by side, word by word; the syndromes of one.
 
 use crate::same_structure::locating_core::Syndromes;
+use crate::same_structure::numbers::pair_up;
 use crate::same_structure::permutation_core::transpose_eight;
-
-/// Two numbers of 32 bits in one of 64.
-fn pair_up(a: u32, b: u32) -> u64 {
-    u64::from(a) * 4294967296 + u64::from(b)
-}
 
 /// The sums in falling order, those of S1 in the upper halves and those of S3 in the lower.
 fn paired(sums: &[u32; 16]) -> [u64; 8] {

@@ -1,0 +1,177 @@
+-- The numbers of a row in order by blocks: each is turned, so that its two bytes are exchanged, and four riffles, as of a pack of cards,
+-- bring number 8r+C to place 16C+r.
+-- Assumes nothing.
+use mathlib.Core.Path.{_≡_, refl, ap, ap₂, _∙_}
+use mathlib.Core.List.{List}
+use Prim.Native.Nat.{ℕ, zero, suc, _+_, _*_, _/_, _%_, _^_, _<_}
+use native.Mathlib.Omega.{arith}
+use borrow.Rule.Slice.PartMut.{putMid}
+use lib.ListN.{length, getD}
+use Rattle.bits.specs.Bits.{bitOf, byteOf}
+use Rattle.bits.specs.BitLaws.{byteOf-lt, fromBits-ext}
+use Rattle.bits.specs.Lists.{tabulate}
+use Rattle.bits.specs.ListLaws.{getD-tabulate, tabulate-ext}
+use Rattle.blocks.specs.Moves.{turned}
+use Rattle.payload_core.specs.NumberBits.{behind, behind-split, two-lent}
+
+-- Number n of the 128 of row s, eight for each of its sixteen words, turned by eight columns, so that its two bytes are exchanged.
+unfoldable pub turnedNumber : List ℕ → ℕ → ℕ → ℕ
+turnedNumber halves s n = turned (getD halves (128 * s + n) 0) 8
+
+-- All of them.
+unfoldable pub turnedRow : List ℕ → ℕ → List ℕ
+turnedRow halves s = tabulate 128 (turnedNumber halves s)
+
+-- The two halves of a row shuffled into each other: places 2n and 2n+1 take number n of the first half and number n of the second.
+unfoldable pub riffledNumber : List ℕ → ℕ → ℕ
+riffledNumber x m = getD x (m / 2 + 64 * (m % 2)) 0
+
+-- The row after a riffle.
+unfoldable pub riffled : List ℕ → List ℕ
+riffled x = tabulate 128 (riffledNumber x)
+
+-- Row s by blocks: number 16C+r is of block C of its word r.
+unfoldable pub byBlocks : List ℕ → ℕ → List ℕ
+byBlocks halves s = riffled (riffled (riffled (riffled (turnedRow halves s))))
+
+-- Byte j of the 32 that block C of a row by blocks gives: of each number the lower byte, then the upper.
+unfoldable pub halfByte : List ℕ → ℕ → ℕ → ℕ
+halfByte row c j = getD row (16 * c + j / 2) 0 / 256 ^ (j % 2) % 256
+
+-- Row 0 or row 1 of two.
+unfoldable pub rowOf : List ℕ → List ℕ → ℕ → List ℕ
+rowOf first second zero = first
+rowOf first second (suc s) = second
+
+-- Byte j of the 64 that block C of two rows gives, one row after the other.
+unfoldable pub blockByte : List ℕ → List ℕ → ℕ → ℕ → ℕ
+blockByte first second c j = halfByte (rowOf first second (j / 32)) c (j % 32)
+
+-- Byte j of the 384 that six blocks give, one after the other.
+unfoldable pub blocksByte : List ℕ → List ℕ → ℕ → ℕ
+blocksByte first second j = blockByte first second (j / 64) (j % 64)
+
+-- ---- what code makes
+
+-- A number of a row,
+pub turned-is : (halves : List ℕ) (s n x v : ℕ) → v ≡ turned x 8 → x ≡ getD halves (128 * s + n) 0 → v ≡ turnedNumber halves s n
+unfolding turnedNumber
+turned-is halves s n x v e p = e ∙ ap (λ y. turned y 8) p
+
+-- two numbers of a riffle,
+pub riffle-even : (x : List ℕ) (n v : ℕ) → v ≡ getD x n 0 → v ≡ riffledNumber x (2 * n)
+unfolding riffledNumber
+riffle-even x n v e = e ∙ ap (λ k. getD x k 0) (omega arith)
+
+pub riffle-odd : (x : List ℕ) (n v : ℕ) → v ≡ getD x (64 + n) 0 → v ≡ riffledNumber x (2 * n + 1)
+unfolding riffledNumber
+riffle-odd x n v e = e ∙ ap (λ k. getD x k 0) (omega arith)
+
+-- and four riffles.
+pub four-riffles : (halves : List ℕ) (s : ℕ) (x a b c d : List ℕ) → d ≡ riffled c → c ≡ riffled b → b ≡ riffled a → a ≡ riffled x
+    → x ≡ turnedRow halves s → d ≡ byBlocks halves s
+unfolding byBlocks
+four-riffles halves s x a b c d ed ec eb ea ex = ed ∙ ap riffled (ec ∙ ap riffled (eb ∙ ap riffled (ea ∙ ap riffled ex)))
+
+pub ruleset riffling = (turned-is, riffle-even, riffle-odd, four-riffles)
+
+-- The two bytes of a number,
+module _ (row : List ℕ) (c r x : ℕ) (e : x ≡ getD row (16 * c + r) 0) where
+  pub half-lower : x % 256 ≡ halfByte row c (2 * r)
+  unfolding halfByte
+  half-lower =
+      let d : 2 * r / 2 ≡ r = omega arith in
+      let m : 2 * r % 2 ≡ 0 = omega arith in
+      rw (d, m, e) (omega arith)
+
+  pub half-upper : x < 2 ^ 16 → x / 256 ≡ halfByte row c (2 * r + 1)
+  unfolding halfByte
+  half-upper l =
+      let d : (2 * r + 1) / 2 ≡ r = omega arith in
+      let m : (2 * r + 1) % 2 ≡ 1 = omega arith in
+      rw (d, m) (omega arith)
+
+-- the bytes of two rows,
+pub both-halves : (first second : List ℕ) (c : ℕ) (d ys zs : List ℕ) → length d ≡ 64 → ys ≡ tabulate 32 (halfByte first c)
+    → zs ≡ tabulate 32 (halfByte second c) → putMid 32 32 (putMid 0 32 d ys) zs ≡ tabulate 64 (blockByte first second c)
+unfolding blockByte rowOf
+both-halves first second c d ys zs long ey ez =
+    two-lent (blockByte first second c) 64 32 32 32 d ys zs long (omega arith) (omega arith) refl
+    (ey ∙ tabulate-ext 32 (halfByte first c) (λ k. blockByte first second c (0 + k))
+    (λ k l.
+    let a : (0 + k) / 32 ≡ 0 = omega arith in
+    let b : (0 + k) % 32 ≡ k = omega arith in
+    rw (a, b)))
+    (ez ∙ tabulate-ext 32 (halfByte second c) (λ k. blockByte first second c (32 + k))
+    (λ k l.
+    let a : (32 + k) / 32 ≡ 1 = omega arith in
+    let b : (32 + k) % 32 ≡ k = omega arith in
+    rw (a, b)))
+
+-- and block C among the six.
+pub block-part : (first second : List ℕ) (c : ℕ) (ys : List ℕ) → ys ≡ tabulate 64 (blockByte first second c)
+    → ys ≡ tabulate 64 (λ j. blocksByte first second (c * 64 + j))
+unfolding blocksByte
+block-part first second c ys e =
+    e ∙ tabulate-ext 64 (blockByte first second c) (λ j. blocksByte first second (c * 64 + j))
+    (λ j l.
+    let a : (c * 64 + j) / 64 ≡ c = omega arith in
+    let b : (c * 64 + j) % 64 ≡ j = omega arith in
+    rw (a, b))
+
+pub ruleset blockwise = (half-lower, half-upper, both-halves, block-part)
+
+-- ---- where a number comes from
+
+-- A place of a riffled row takes its number from the place that has the lowest of its seven bits as the highest,
+riffled-at : (x : List ℕ) (m k : ℕ) → m < 128 → m / 2 + 64 * (m % 2) ≡ k → getD (riffled x) m 0 ≡ getD x k 0
+unfolding riffled riffledNumber
+riffled-at x m k l e = getD-tabulate 128 (riffledNumber x) m 0 l ∙ ap (λ i. getD x i 0) e
+
+-- of a row riffled four times, from the place that has the lowest four as the highest,
+riffled-four : (x : List ℕ) (m : ℕ) → m < 128 → getD (riffled (riffled (riffled (riffled x)))) m 0 ≡ getD x (m / 16 + 8 * (m % 16)) 0
+riffled-four x m l =
+    riffled-at (riffled (riffled (riffled x))) m (m / 2 + 64 * (m % 2)) l refl
+    ∙ riffled-at (riffled (riffled x)) (m / 2 + 64 * (m % 2)) (m / 4 + 32 * (m % 4)) (omega arith) (omega arith)
+    ∙ riffled-at (riffled x) (m / 4 + 32 * (m % 4)) (m / 8 + 16 * (m % 8)) (omega arith) (omega arith)
+    ∙ riffled-at x (m / 8 + 16 * (m % 8)) (m / 16 + 8 * (m % 16)) (omega arith) (omega arith)
+
+-- so that place 16C+r of a row by blocks takes number 8r+C of the row.
+byBlocks-at : (halves : List ℕ) (s c r : ℕ) → c < 8 → r < 16
+    → getD (byBlocks halves s) (16 * c + r) 0 ≡ turned (getD halves (8 * (16 * s + r) + c) 0) 8
+unfolding byBlocks turnedRow turnedNumber
+byBlocks-at halves s c r lc lr =
+    let p : (16 * c + r) / 16 + 8 * ((16 * c + r) % 16) ≡ 8 * r + c = omega arith in
+    riffled-four (turnedRow halves s) (16 * c + r) (omega arith)
+    ∙ ap (λ i. getD (turnedRow halves s) i 0) p
+    ∙ getD-tabulate 128 (turnedNumber halves s) (8 * r + c) 0 (omega arith)
+    ∙ ap (λ i. turned (getD halves i 0) 8) (omega arith)
+
+-- Turned by eight columns, a number has its first byte below and its second above.
+turned-bytes : (x : ℕ) → turned x 8 ≡ byteOf (bitOf 16 x) 1 * 256 + byteOf (bitOf 16 x) 0
+unfolding turned byteOf behind
+turned-bytes x =
+    behind-split 8 8 (λ c. bitOf 16 x ((c + 8) % 16))
+    ∙ ap₂ (λ a b. a * 256 + b)
+    (fromBits-ext 8 (λ c. bitOf 16 x ((c + 8) % 16)) (λ k. bitOf 16 x (1 * 8 + k)) (λ k l. ap (λ i. bitOf 16 x i % 2) (omega arith)))
+    (fromBits-ext 8 (λ k. bitOf 16 x ((8 + k + 8) % 16)) (λ k. bitOf 16 x (0 * 8 + k)) (λ k l. ap (λ i. bitOf 16 x i % 2) (omega arith)))
+
+turned-byte : (x h : ℕ) → h < 2 → turned x 8 / 256 ^ h % 256 ≡ byteOf (bitOf 16 x) h
+turned-byte x zero l = omega (arith, turned-bytes x, byteOf-lt (bitOf 16 x) 0)
+turned-byte x (suc zero) l = omega (arith, turned-bytes x, byteOf-lt (bitOf 16 x) 0, byteOf-lt (bitOf 16 x) 1)
+turned-byte x (suc (suc h)) l = absurd (omega arith)
+
+-- The rows are given by their number.
+rowOf-is : (f : ℕ → List ℕ) (s : ℕ) → s < 2 → rowOf (f 0) (f 1) s ≡ f s
+unfolding rowOf
+rowOf-is f zero l = refl
+rowOf-is f (suc zero) l = refl
+rowOf-is f (suc (suc s)) l = absurd (omega arith)
+
+-- Byte h that number 16C+r of row s gives is byte h of block C of word 16s+r.
+pub row-byte : (halves : List ℕ) (c s r h : ℕ) → c < 8 → s < 2 → r < 16 → h < 2
+    → getD (rowOf (byBlocks halves 0) (byBlocks halves 1) s) (16 * c + r) 0 / 256 ^ h % 256
+    ≡ byteOf (bitOf 16 (getD halves (8 * (16 * s + r) + c) 0)) h
+row-byte halves c s r h lc ls lr lh =
+    ap (λ row. getD row (16 * c + r) 0 / 256 ^ h % 256) (rowOf-is (byBlocks halves) s ls)
+    ∙ ap (λ x. x / 256 ^ h % 256) (byBlocks-at halves s c r lc lr) ∙ turned-byte (getD halves (8 * (16 * s + r) + c) 0) h lh
