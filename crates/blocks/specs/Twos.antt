@@ -5,25 +5,51 @@ use mathlib.Core.List.{List}
 use Prim.Native.Nat.{ℕ, _+_, _-_, _*_, _/_, _%_, _^_, _<_, _≤_}
 use native.Mathlib.Omega.{arith}
 use lib.ListN.{length, getD, set, length-set}
-use Rattle.bits.specs.Bits.{bitOf, fromBits}
+use Rattle.bits.specs.Bits.{bit, bitOf, fromBits}
 use Rattle.bits.specs.Filling.{Filling, fill-none, fill-two, fill-done}
 use Rattle.bits.specs.Lists.{tabulate}
-use Rattle.bits.specs.NumberLaws.{half-is}
-use Rattle.blocks.specs.SideBySide.{rowByte}
+use Rattle.bits.specs.NumberLaws.{half-is, two-bytes}
+use Rattle.blocks.specs.SideBySide.{readWord, rowByte, wordByte}
+
+-- Two bytes as they are read.
+pub read-made : (s : List ℕ) (j x y : ℕ) → x ≡ getD s (j + 1) 0 → y ≡ getD s j 0 → x < 256 → y < 256 → x * 256 + y ≡ readWord s j
+unfolding readWord
+read-made s j x y p q lx ly =
+    two-bytes s (j + 1) j x y (λ c. bit s (8 * j + (c + 8) % 16)) p q lx ly
+    (λ k l. ap (bit s) (omega arith)) (λ k l. ap (bit s) (omega arith))
 
 -- A word's bytes.
-row-half : (row : List ℕ) (x h w : ℕ) → w ≡ getD row x 0 → w < 2 ^ 16 → h < 2 → w / 2 ^ (8 - 8 * h) % 256 ≡ rowByte row (2 * x + h)
-unfolding rowByte
-row-half row x h w e l lh =
-    let word : (2 * x + h) / 2 ≡ x = omega arith in
-    let half : (2 * x + h) % 2 ≡ h = omega arith in
-    rw (word, half) (half-is w h l lh ∙ ap (λ v. fromBits 8 (λ c. bitOf 16 v (8 * h + c))) e)
+module _ (row : List ℕ) (x w : ℕ) (e : w ≡ getD row x 0) (l : w < 2 ^ 16) where
+  half-of : (h : ℕ) → h < 2 → w / 2 ^ (8 - 8 * h) % 256 ≡ fromBits 8 (λ c. bitOf 16 (getD row x 0) (8 * h + c))
+  half-of h lh = half-is w h l lh ∙ ap (λ v. fromBits 8 (λ c. bitOf 16 v (8 * h + c))) e
 
-pub row-upper : (row : List ℕ) (x w : ℕ) → w ≡ getD row x 0 → w < 2 ^ 16 → w / 256 % 256 ≡ rowByte row (2 * x)
-row-upper row x w e l = let n : 2 * x + 0 ≡ 2 * x = omega arith in row-half row x 0 w e l (omega arith) ∙ ap (rowByte row) n
+  pub row-upper : w / 256 % 256 ≡ rowByte row (2 * x)
+  unfolding rowByte
+  row-upper =
+      let word : 2 * x / 2 ≡ x = omega arith in
+      let half : 2 * x % 2 ≡ 0 = omega arith in
+      rw (word, half) (half-of 0 (omega arith))
 
-pub row-lower : (row : List ℕ) (x w : ℕ) → w ≡ getD row x 0 → w < 2 ^ 16 → w % 256 ≡ rowByte row (2 * x + 1)
-row-lower row x w e l = omega (arith, row-half row x 1 w e l (omega arith))
+  pub row-lower : w % 256 ≡ rowByte row (2 * x + 1)
+  unfolding rowByte
+  row-lower =
+      let word : (2 * x + 1) / 2 ≡ x = omega arith in
+      let half : (2 * x + 1) % 2 ≡ 1 = omega arith in
+      rw (word, half) (omega (arith, half-of 1 (omega arith)))
+
+  pub word-lower : w % 256 ≡ wordByte row (2 * x)
+  unfolding wordByte
+  word-lower =
+      let word : 2 * x / 2 ≡ x = omega arith in
+      let half : 2 * x % 2 ≡ 0 = omega arith in
+      rw (word, half) (omega (arith, half-of 1 (omega arith)))
+
+  pub word-upper : w / 256 % 256 ≡ wordByte row (2 * x + 1)
+  unfolding wordByte
+  word-upper =
+      let word : (2 * x + 1) / 2 ≡ x = omega arith in
+      let half : (2 * x + 1) % 2 ≡ 1 = omega arith in
+      rw (word, half) (half-of 0 (omega arith))
 
 -- Of 2n values the first 2x are f's.
 pub record Twos (f : ℕ → ℕ) (n x : ℕ) (d : List ℕ) : Type 0 where
@@ -45,3 +71,5 @@ twos-done m h l e = rw e at (fill-done (h .filled) (omega arith))
 pub ruleset twos = (twos-none, twos-room, twos-more, twos-done)
 
 pub ruleset two-bytes-of = (row-upper, row-lower)
+
+pub ruleset two-bytes-of-word = (word-lower, word-upper)

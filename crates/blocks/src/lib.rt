@@ -1,11 +1,26 @@
 // Blocks of sixteen 16-bit rows, by value, and the eight blocks of a row side by side, word i of block C being number 8i+C: functions,
 // definitions and laws. Over `bits`; pairs and interleaver use it.
 ghost use mathlib.Core.Path.{_≡_};
-ghost use Prim.Native.Nat.{_<_};
+ghost use Prim.Native.Nat.{_+_, _<_};
 ghost use lib.ListN.{length, getD};
 ghost use Rattle.bits.specs.Lists.{tabulate};
 ghost use Rattle.blocks.specs.Moves.{chosen, turned};
-ghost use Rattle.blocks.specs.SideBySide.{laidIn, wordsBlock, rowByte};
+ghost use Rattle.blocks.specs.SideBySide.{laidIn, readWord, wordsBlock, rowByte, wordByte};
+
+// A byte as a number of sixteen bits.
+fn byte(x: u8) -> u16
+    ensures { λ r. ⌜ (r ≡ x) × (r < 256) ⌝ }
+{
+    x as u16
+}
+
+// Bytes j and j+1, the second the upper: so the compiler reads them as they lie in memory.
+pub fn read_word(s: &[u8], j: usize) -> u16
+    requires { ⌜ j + 1 < length (now s) ⌝ }
+    ensures { λ r. ⌜ r ≡ readWord (now (s .entry)) j ⌝ }
+{
+    byte(s[j + 1]) * 256 + byte(s[j])
+}
 
 // A row turned left by n columns.
 pub fn turn(x: u16, n: usize) -> u16
@@ -63,5 +78,19 @@ pub fn write_row(row: &[u16; 128], out: &mut [u8])
         let e = a + 1;
         out[a] = (w / 256 % 256) as u8;
         out[e] = (w % 256) as u8;
+    }
+}
+
+// The bytes of words whose bytes stand the other way round: of each the lower first, as they lie in memory.
+pub fn write_words(row: &[u16; 128], out: &mut [u8])
+    requires { ⌜ length (now out) ≡ 256 ⌝ }
+    ensures { λ _. ⌜ now (out .exit) ≡ tabulate 256 (wordByte (now (row .entry))) ⌝ }
+{
+    for x in 0..128 {
+        let w = row_word(row, x);
+        let a = 2 * x;
+        let e = a + 1;
+        out[a] = (w % 256) as u8;
+        out[e] = (w / 256 % 256) as u8;
     }
 }

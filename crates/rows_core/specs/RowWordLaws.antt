@@ -9,7 +9,6 @@ use Rattle.bits.specs.Bits.{bit, bitOf, fromBits}
 use Rattle.bits.specs.BitLaws.{bit-lt, fromBits-ext}
 use Rattle.bits.specs.Lists.{tabulate}
 use Rattle.bits.specs.ListLaws.{length-tabulate, getD-tabulate, tabulate-ext}
-use Rattle.bits.specs.NumberLaws.{two-bytes}
 use Rattle.bits.specs.Xor.{_⊕_}
 use Rattle.bits.specs.XorLaws.{⊕-lt}
 use Rattle.blocks.specs.Block.{bitAt, rowWord, block}
@@ -17,18 +16,12 @@ use Rattle.blocks.specs.BlockLaws.{bitAt-lt, bitAt-block-of}
 use Rattle.blocks.specs.Exchanges.{rowsExchanged, columnsExchanged}
 use Rattle.blocks.specs.Laying.{Laid, laid-bit, words-block}
 use Rattle.blocks.specs.Moves.{moved, transposed}
-use Rattle.blocks.specs.SideBySide.{laidWord, laid, wordsBlock}
+use Rattle.blocks.specs.SideBySide.{laidWord, laid, readWord, wordsBlock}
 use Rattle.pair_words_core.specs.Halves.{halvesBit}
-use Rattle.rows_core.specs.RowWords.{readWord, rowWords, frontBlock, frontWords, frontsBlock, frontsIn, backsBlock, backsIn}
+use Rattle.rows_core.specs.RowWords.{rowWords, frontBlock, frontWords, frontsBlock, frontsIn, backsBlock, backsIn}
 use Rattle.rows_core.specs.RowWords.{codedHalf, halfBlock, columnsBlock, columnsOf}
 
 -- ---- as code reads them
-
-pub read-made : (s : List ℕ) (j x y : ℕ) → x ≡ getD s (j + 1) 0 → y ≡ getD s j 0 → x < 256 → y < 256 → x * 256 + y ≡ readWord s j
-unfolding readWord
-read-made s j x y p q lx ly =
-    two-bytes s (j + 1) j x y (λ c. bit s (8 * j + (c + 8) % 16)) p q lx ly
-    (λ k l. ap (bit s) (omega arith)) (λ k l. ap (bit s) (omega arith))
 
 -- The words of the oldest pair, of which block 0 is the front halves'.
 pub first-block : (h : List ℕ) (from : ℕ) (words : List ℕ) → words ≡ rowWords h from → Laid (frontBlock h from) 1 words

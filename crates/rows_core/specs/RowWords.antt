@@ -8,11 +8,7 @@ use Rattle.bits.specs.Lists.{tabulate}
 use Rattle.bits.specs.Xor.{_⊕_}
 use Rattle.blocks.specs.Exchanges.{rowsExchanged, columnsExchanged}
 use Rattle.blocks.specs.Moves.{transposed}
-use Rattle.blocks.specs.SideBySide.{laid, wordsBlock}
-
--- Bytes j and j+1 as they are read, the second the upper: its columns are turned by 8.
-unfoldable pub readWord : List ℕ → ℕ → ℕ
-readWord s j = fromBits 16 (λ c. bit s (8 * j + (c + 8) % 16))
+use Rattle.blocks.specs.SideBySide.{laid, readWord, wordsBlock}
 
 -- The 128 words of the row of 256 bytes that starts at a byte.
 unfoldable pub rowWords : List ℕ → ℕ → List ℕ

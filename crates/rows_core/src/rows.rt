@@ -1,6 +1,7 @@
 // Rows as words of sixteen bits, eight blocks side by side: read in byte order, and with the words of a pair put in order.
 use blocks::block_in;
 use blocks::lay;
+use blocks::read_word;
 use permutation_core::exchange_columns;
 use permutation_core::exchange_rows;
 use permutation_core::transpose;
@@ -8,24 +9,10 @@ ghost use mathlib.Core.Path.{_≡_};
 ghost use Prim.Native.Nat.{_+_, _*_, _<_, _≤_};
 ghost use lib.ListN.{length};
 ghost use Rattle.bits.specs.Lists.{tabulate};
+ghost use Rattle.blocks.specs.SideBySide.{readWord};
 ghost use Rattle.pair_spec.specs.History.{depth};
 ghost use Rattle.rows_core.specs.Held.{Fronts, Backs};
-ghost use Rattle.rows_core.specs.RowWords.{readWord, rowWords, frontBlock, frontWords, frontsIn, backsIn, codedHalf, codedHalves, halfBlock, columnsOf};
-
-// A byte as a number of sixteen bits.
-fn byte(x: u8) -> u16
-    ensures { λ r. ⌜ (r ≡ x) × (r < 256) ⌝ }
-{
-    x as u16
-}
-
-// Bytes j and j+1, the second the upper: so the compiler reads them as they lie in memory.
-fn read_word(s: &[u8], j: usize) -> u16
-    requires { ⌜ j + 1 < length (now s) ⌝ }
-    ensures { λ r. ⌜ r ≡ readWord (now (s .entry)) j ⌝ }
-{
-    byte(s[j + 1]) * 256 + byte(s[j])
-}
+ghost use Rattle.rows_core.specs.RowWords.{rowWords, frontBlock, frontWords, frontsIn, backsIn, codedHalf, codedHalves, halfBlock, columnsOf};
 
 // The eight words of bit row i of the row that starts at a byte.
 fn put_words(s: &[u8], from: usize, i: usize, out: &mut [u16])

@@ -2,7 +2,8 @@
 -- Assumes nothing.
 use Prim.Native.Nat.{_+_, _-_, _*_}
 use Rattle.bits.specs.Filling.{Filling, fill}
-use Rattle.rows_core.specs.RowWords.{readWord, frontBlock}
+use Rattle.blocks.specs.SideBySide.{readWord}
+use Rattle.rows_core.specs.RowWords.{frontBlock}
 use borrow.Author.Needs.{needs}
 use Rattle.rows_core.proofs.rows.front_block.Statement.{statement}
 use Rattle.rows_core.proofs.rows.front_block.Tie as tie

@@ -2,7 +2,7 @@
 -- Assumes nothing.
 use Prim.Native.Nat.{_+_, _-_, _*_}
 use Rattle.bits.specs.Filling.{Filling, fill}
-use Rattle.rows_core.specs.RowWords.{readWord}
+use Rattle.blocks.specs.SideBySide.{readWord}
 use borrow.Author.Needs.{needs}
 use Rattle.rows_core.proofs.rows.put_words.Statement.{statement}
 use Rattle.rows_core.proofs.rows.put_words.Tie as tie

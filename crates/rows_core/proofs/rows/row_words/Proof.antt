@@ -2,7 +2,8 @@
 -- Assumes nothing.
 use Prim.Native.Nat.{_+_, _-_, _*_}
 use Rattle.bits.specs.Filling.{Blocks, by-blocks}
-use Rattle.rows_core.specs.RowWords.{readWord, rowWords}
+use Rattle.blocks.specs.SideBySide.{readWord}
+use Rattle.rows_core.specs.RowWords.{rowWords}
 use borrow.Author.Needs.{needs}
 use Rattle.rows_core.proofs.rows.row_words.Statement.{statement}
 use Rattle.rows_core.proofs.rows.row_words.Tie as tie

@@ -1,9 +1,9 @@
--- `rows_core::rows::read_word` meets its contract.
+-- `blocks::read_word` meets its contract.
 -- Assumes nothing.
-use Rattle.rows_core.specs.RowWordLaws.{read-made}
+use Rattle.blocks.specs.Twos.{read-made}
 use borrow.Author.Needs.{needs}
-use Rattle.rows_core.proofs.rows.read_word.Statement.{statement}
-use Rattle.rows_core.proofs.rows.read_word.Tie as tie
+use Rattle.blocks.proofs.read_word.Statement.{statement}
+use Rattle.blocks.proofs.read_word.Tie as tie
 
 ruleset kit = (needs, read-made)
 
