@@ -16,9 +16,9 @@ use Rattle.bits.specs.ListLaws.{length-tabulate, getD-tabulate, tabulate-ext}
 use Rattle.bits.specs.Tests.{every, grid}
 use Rattle.bits.specs.Xor.{_⊕_, xorSum}
 use Rattle.bits.specs.XorLaws.{⊕-zero, ⊕-shr, ⊕-mod, bits-⊕-times, xorSum-ext, xorSum-⊕, xorSum-none, xorSum-one}
-use Rattle.networks_spec.specs.Networks.{taken, marked, networkSum, network, backColumns, frontColumns, up64Columns, up32Columns, up16Columns}
+use Rattle.networks_spec.specs.Networks.{taken, marked, networkSum, network, backColumns, frontColumns, up64Columns, up32Columns, up16Columns, checkColumns}
 use Rattle.networks_spec.specs.Circuits.{run, circuit, backSteps, backSums, frontSteps, frontSums, up64Steps, up64Sums}
-use Rattle.networks_spec.specs.Circuits.{up32Steps, up32Sums, up16Steps, up16Sums}
+use Rattle.networks_spec.specs.Circuits.{up32Steps, up32Sums, up16Steps, up16Sums, checkSteps, checkSums}
 
 -- The sum of the numbers at the bits of m.
 picked : List ℕ → ℕ → ℕ
@@ -122,3 +122,7 @@ up32-circuit = circuit-network up32Steps up32Sums up32Columns tt
 pub up16-circuit : (x : List ℕ) → circuit up16Steps up16Sums x ≡ network up16Columns x
 unfolding run tabulate up16Steps up16Sums up16Columns _⊕_
 up16-circuit = circuit-network up16Steps up16Sums up16Columns tt
+
+pub check-circuit : (x : List ℕ) → circuit checkSteps checkSums x ≡ network checkColumns x
+unfolding run tabulate checkSteps checkSums checkColumns _⊕_
+check-circuit = circuit-network checkSteps checkSums checkColumns tt

@@ -14,7 +14,7 @@ run (s ∷ steps) l = run steps ((getD l (s .0) 0 ⊕ getD l (s .1) 0) ∷ l)
 unfoldable pub circuit : List (ℕ × ℕ) → List ℕ → List ℕ → List ℕ
 circuit steps sums x = tabulate 16 (λ i. getD (run steps (tabulate 16 (λ j. getD x j 0))) (getD sums i 0) 0)
 
--- ---- the steps of the five networks, found by taking the pair that most sums have in common
+-- ---- the steps of the six networks, found by taking the pair that most sums have in common
 
 unfoldable pub backSteps : List (ℕ × ℕ)
 backSteps =
@@ -62,3 +62,13 @@ up16Steps =
 
 unfoldable pub up16Sums : List ℕ
 up16Sums = 8 ∷ 24 ∷ 18 ∷ 5 ∷ 1 ∷ 19 ∷ 4 ∷ 0 ∷ 36 ∷ 17 ∷ 7 ∷ 14 ∷ 2 ∷ 3 ∷ 11 ∷ 9 ∷ []
+
+unfoldable pub checkSteps : List (ℕ × ℕ)
+checkSteps =
+    (1, 11) ∷ (1, 9) ∷ (4, 1) ∷ (17, 0) ∷ (11, 14) ∷ (17, 18) ∷ (9, 2) ∷ (12, 22) ∷ (14, 2) ∷ (15, 7) ∷ (9, 0) ∷ (26, 4) ∷ (21, 7) ∷
+    (20, 25) ∷ (27, 3) ∷ (10, 7) ∷ (20, 8) ∷ (11, 4) ∷ (16, 11) ∷ (23, 28) ∷ (18, 16) ∷ (27, 5) ∷ (17, 3) ∷ (28, 5) ∷ (28, 30) ∷ (29, 6) ∷
+    (33, 14) ∷ (13, 2) ∷ (16, 15) ∷ (15, 8) ∷ (39, 15) ∷ (22, 19) ∷ (32, 42) ∷ (44, 5) ∷ (32, 18) ∷ (14, 11) ∷ (49, 9) ∷ (49, 8) ∷
+    (23, 21) ∷ (31, 21) ∷ (50, 29) ∷ (44, 1) ∷ (56, 7) ∷ (23, 6) ∷ (35, 27) ∷ (36, 22) ∷ (14, 13) ∷ (27, 6) ∷ []
+
+unfoldable pub checkSums : List ℕ
+checkSums = 2 ∷ 39 ∷ 18 ∷ 17 ∷ 5 ∷ 14 ∷ 1 ∷ 12 ∷ 0 ∷ 10 ∷ 26 ∷ 3 ∷ 22 ∷ 6 ∷ 9 ∷ 4 ∷ []

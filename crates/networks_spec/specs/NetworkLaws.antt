@@ -32,7 +32,7 @@ low-digit n v k l =
 pub record Shows (n : ℕ) (a : List ℕ) (w v : ℕ) : Type 0 where
   pub bits : (i : ℕ) → i < 16 → bitOf n (getD a i 0) w ≡ v / 2 ^ i % 2
 
-digit-linear : (i : ℕ) → Linear (λ x. x / 2 ^ i % 2)
+pub digit-linear : (i : ℕ) → Linear (λ x. x / 2 ^ i % 2)
 digit-linear i = additive (λ x. x / 2 ^ i % 2) (λ x y. ap (λ u. u % 2) (⊕-shr x y i) ∙ ⊕-mod (x / 2 ^ i) (y / 2 ^ i))
 
 taken-bit : (n t a v r : ℕ) → t < 2 → bitOf n (taken t a v) r ≡ bitOf n a r ⊕ bitOf n v r * t
@@ -78,7 +78,7 @@ added-shows n a b r u v p q =
 halved : (x j : ℕ) → x / 2 / 2 ^ j ≡ x / 2 ^ suc j
 halved x j = shr-shr x 1 j ∙ ap (λ k. x / 2 ^ k) (omega arith)
 
-lin-sum : (cs : List ℕ) (x : ℕ) → lin cs x ≡ xorSum (length cs) (λ j. x / 2 ^ j % 2 * getD cs j 0)
+pub lin-sum : (cs : List ℕ) (x : ℕ) → lin cs x ≡ xorSum (length cs) (λ j. x / 2 ^ j % 2 * getD cs j 0)
 unfolding lin xorSum
 lin-sum [] x = refl
 lin-sum (c ∷ cs) x =

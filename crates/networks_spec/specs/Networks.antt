@@ -49,3 +49,10 @@ up32Columns = 157 ∷ 39 ∷ 78 ∷ 156 ∷ 37 ∷ 74 ∷ 148 ∷ 53 ∷ 55552 �
 
 unfoldable pub up16Columns : List ℕ
 up16Columns = 76 ∷ 152 ∷ 45 ∷ 90 ∷ 180 ∷ 117 ∷ 234 ∷ 201 ∷ 17920 ∷ 35840 ∷ 1280 ∷ 2560 ∷ 5120 ∷ 10240 ∷ 20480 ∷ 40960 ∷ []
+
+-- ---- the check bits from S1 and S3
+
+-- Sum i is one of the remainder's sixteen digits, in the order in which the code puts them into the last block of a word, its bytes
+-- exchanged: those of bits 248 to 254, that of bit 239 in the place of bit 255, and those of bits 240 to 247.
+unfoldable pub checkColumns : List ℕ
+checkColumns = 20957 ∷ 54221 ∷ 37573 ∷ 45633 ∷ 55584 ∷ 27792 ∷ 19819 ∷ 42677 ∷ 20893 ∷ 41864 ∷ 10193 ∷ 54253 ∷ 10983 ∷ 59595 ∷ 37589 ∷ 61008 ∷ []

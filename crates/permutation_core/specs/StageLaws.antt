@@ -18,7 +18,7 @@ use Rattle.bits.specs.Xor.{_⊕_}
 use Rattle.blocks.specs.Block.{bitAt, rowWord, block}
 use Rattle.blocks.specs.Moves.{pick, chosen, movedWord, moved, transposed}
 use Rattle.blocks.specs.MoveLaws.{Moves, moves-same, moves-then, block-moved, bitOf-xor, bitOf-and, choose-bit}
-use Rattle.permutation_core.specs.Stages.{own, other, rowsStage, columnsColumn, columnsStage, crossedFirst, crossedSecond, crossRow, crossColumn, crossWord, crossStage, eightTransposed}
+use Rattle.permutation_core.specs.Stages.{own, other, rowsStage, columnsColumn, columnsStage, crossedFirst, crossedSecond, crossRow, crossColumn, crossWord, crossStage, eightTransposed, twoTransposed}
 use Rattle.blocks.specs.Exchanges.{rowsExchanged, columnsExchanged}
 
 -- ---- numbers shifted, over their width w
@@ -113,6 +113,22 @@ eight2 = mask-of 64 3689348814741910323 2 tt
 pub eight1 : Mask 64 6148914691236517205 1
 unfolding bitOf
 eight1 = mask-of 64 6148914691236517205 1 tt
+
+pub two8 : Mask 32 16711935 8
+unfolding bitOf
+two8 = mask-of 32 16711935 8 tt
+
+pub two4 : Mask 32 252645135 4
+unfolding bitOf
+two4 = mask-of 32 252645135 4 tt
+
+pub two2 : Mask 32 858993459 2
+unfolding bitOf
+two2 = mask-of 32 858993459 2 tt
+
+pub two1 : Mask 32 1431655765 1
+unfolding bitOf
+two1 = mask-of 32 1431655765 1 tt
 
 -- By the digit of a mask.
 by-mask : {A : Type 0} (w m c : ℕ) → (bitOf w m c ≡ 1 → A) → (bitOf w m c ≡ 0 → A) → A
@@ -308,4 +324,11 @@ eight-transposed b u v r p q s =
     moves-same (λ i c. c % 8) (λ i c. c / 8 * 8 + i)
     (stages-then (stages-then (cross-moves 4 64 1085102592571150095 4 b u p) (cross-moves 4 64 3689348814741910323 2 u v q) tt tt) (cross-moves 4 64 6148914691236517205 1 v r s) tt tt) tt tt
 
-pub ruleset permuting = (mask8, mask4, mask2, mask1, eight4, eight2, eight1, rows-exchanged, columns-exchanged, block-transposed, eight-transposed)
+pub two-transposed : (b t u v r : List ℕ) → t ≡ crossStage 8 32 16711935 8 b → u ≡ crossStage 8 32 252645135 4 t
+    → v ≡ crossStage 8 32 858993459 2 u → r ≡ crossStage 8 32 1431655765 1 v → r ≡ twoTransposed b
+unfolding twoTransposed crossRow crossColumn pick bitOf
+two-transposed b t u v r p q s w =
+    moves-same (λ i c. c % 16) (λ i c. c / 16 * 16 + i)
+    (stages-then (stages-then (stages-then (cross-moves 8 32 16711935 8 b t p) (cross-moves 8 32 252645135 4 t u q) tt tt) (cross-moves 8 32 858993459 2 u v s) tt tt) (cross-moves 8 32 1431655765 1 v r w) tt tt) tt tt
+
+pub ruleset permuting = (mask8, mask4, mask2, mask1, eight4, eight2, eight1, two8, two4, two2, two1, rows-exchanged, columns-exchanged, block-transposed, eight-transposed, two-transposed)

@@ -48,3 +48,7 @@ crossStage R w m n b = movedIn (2 * R) w (crossRow R w m) (crossColumn w m n) b
 -- Eight blocks of 8 by 8 bits side by side in eight numbers of 64, bit row i of block B being byte B of number i: each by columns.
 unfoldable pub eightTransposed : List ℕ → List ℕ
 eightTransposed = movedIn 8 64 (λ i c. c % 8) (λ i c. c / 8 * 8 + i)
+
+-- Two blocks of 16 by 16 bits side by side in sixteen numbers of 32, bit row i of block B being half B of number i: each by columns.
+unfoldable pub twoTransposed : List ℕ → List ℕ
+twoTransposed = movedIn 16 32 (λ i c. c % 16) (λ i c. c / 16 * 16 + i)

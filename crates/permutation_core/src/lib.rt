@@ -7,7 +7,7 @@ ghost use lib.ListN.{getD};
 ghost use Rattle.blocks.specs.Block.{block};
 ghost use Rattle.blocks.specs.Moves.{transposed};
 ghost use Rattle.blocks.specs.Exchanges.{rowsExchanged, columnsExchanged};
-ghost use Rattle.permutation_core.specs.Stages.{rowsStage, columnsStage, crossedFirst, crossedSecond, crossStage, eightTransposed};
+ghost use Rattle.permutation_core.specs.Stages.{rowsStage, columnsStage, crossedFirst, crossedSecond, crossStage, eightTransposed, twoTransposed};
 ghost use Rattle.permutation_core.specs.StageLaws.{Mask};
 
 // Two bit rows exchange the columns of m.
@@ -50,10 +50,15 @@ fn columns_stage(b: [u16; 16], m: u16, n: usize) -> [u16; 16]
     out
 }
 
-// Two rows, and two numbers of 64 bits.
+// Two rows, two numbers of 32 bits, and two of 64.
 struct Rows {
     first: u16,
     second: u16,
+}
+
+struct TwoRows {
+    first: u32,
+    second: u32,
 }
 
 struct EightRows {
@@ -68,6 +73,17 @@ fn crossed(x: u16, y: u16, m: u16, n: usize) -> Rows
 {
     let d = (x ^ (y >> n)) & m;
     Rows {
+        first: x ^ d,
+        second: y ^ (d << n),
+    }
+}
+
+fn crossed_two(x: u32, y: u32, m: u32, n: usize) -> TwoRows
+    requires { ⌜ Mask 32 m n × (n < 32) ⌝ }
+    ensures { λ r. ⌜ (r .first ≡ crossedFirst 32 m n x y) × (r .second ≡ crossedSecond 32 m n x y) ⌝ }
+{
+    let d = (x ^ (y >> n)) & m;
+    TwoRows {
         first: x ^ d,
         second: y ^ (d << n),
     }
@@ -96,6 +112,24 @@ fn cross_stage(b: [u16; 16], m: u16, n: usize) -> [u16; 16]
         let x = b[k];
         let y = b[8 + k];
         let r = crossed(x, y, m, n);
+        out[i] = r.first;
+        out[j] = r.second;
+    }
+    out
+}
+
+// The same of two blocks side by side.
+fn cross_stage_two(b: [u32; 16], m: u32, n: usize) -> [u32; 16]
+    requires { ⌜ Mask 32 m n × (n < 32) ⌝ }
+    ensures { λ r. ⌜ r ≡ crossStage 8 32 m n b ⌝ }
+{
+    let mut out = [0u32; 16];
+    for k in 0..8 {
+        let i = 2 * k;
+        let j = i + 1;
+        let x = b[k];
+        let y = b[8 + k];
+        let r = crossed_two(x, y, m, n);
         out[i] = r.first;
         out[j] = r.second;
     }
@@ -148,6 +182,16 @@ pub fn transpose(b: [u16; 16]) -> [u16; 16]
     let u = cross_stage(t, 0x0F0F, 4);
     let v = cross_stage(u, 0x3333, 2);
     cross_stage(v, 0x5555, 1)
+}
+
+// Two blocks side by side, each transposed.
+pub fn transpose_two(b: [u32; 16]) -> [u32; 16]
+    ensures { λ r. ⌜ r ≡ twoTransposed b ⌝ }
+{
+    let t = cross_stage_two(b, 0x00FF00FF, 8);
+    let u = cross_stage_two(t, 0x0F0F0F0F, 4);
+    let v = cross_stage_two(u, 0x33333333, 2);
+    cross_stage_two(v, 0x55555555, 1)
 }
 
 // Eight blocks of 8 by 8 bits side by side, each transposed.

@@ -94,7 +94,7 @@ bit-sum zero (suc (suc y)) hx hy = absurd (omega arith)
 bit-sum (suc zero) (suc (suc y)) hx hy = absurd (omega arith)
 bit-sum (suc (suc x)) y hx hy = absurd (omega arith)
 
-parity-sum : (n : ℕ) (w : Word) → BitsTo n w → count n w % 2 ≡ xorSum n w
+pub parity-sum : (n : ℕ) (w : Word) → BitsTo n w → count n w % 2 ≡ xorSum n w
 unfolding count xorSum
 parity-sum zero w b = refl
 parity-sum (suc n) w b =

@@ -24,11 +24,11 @@ use Rattle.word_spec.specs.Checks.{tail}
 
 -- ---- the definitions, place by place
 
-first-low : (w : Word) (k : ℕ) → k < 239 → firstBits w k ≡ w k
+pub first-low : (w : Word) (k : ℕ) → k < 239 → firstBits w k ≡ w k
 unfolding firstBits
 first-low w k h = simp (lt-ltb k 239 h)
 
-first-high : (w : Word) (k : ℕ) → 239 ≤ k → firstBits w k ≡ 0
+pub first-high : (w : Word) (k : ℕ) → 239 ≤ k → firstBits w k ≡ 0
 unfolding firstBits
 first-high w k h = simp (le-ltb k 239 h)
 
@@ -36,11 +36,11 @@ with-low : (w : Word) (k : ℕ) → k < 239 → withRemainder w k ≡ w k
 unfolding withRemainder
 with-low w k h = simp (lt-ltb k 239 h)
 
-with-high : (w : Word) (k : ℕ) → 239 ≤ k → withRemainder w k ≡ remainder 255 (firstBits w) / 2 ^ (254 - k) % 2
+pub with-high : (w : Word) (k : ℕ) → 239 ≤ k → withRemainder w k ≡ remainder 255 (firstBits w) / 2 ^ (254 - k) % 2
 unfolding withRemainder
 with-high w k h = simp (le-ltb k 239 h)
 
-completed-low : (w : Word) (k : ℕ) → k < 255 → completed w k ≡ withRemainder w k
+pub completed-low : (w : Word) (k : ℕ) → k < 255 → completed w k ≡ withRemainder w k
 unfolding completed
 completed-low w k h = simp (lt-ltb k 255 h)
 
@@ -117,7 +117,7 @@ tail-remainder v h =
 -- ---- the completion is a code word
 
 module _ (w : Word) (b : (k : ℕ) → k < 239 → w k < 2) where
-  first-bits : (k : ℕ) → firstBits w k < 2
+  pub first-bits : (k : ℕ) → firstBits w k < 2
   first-bits k = go (decLt k 239)
     where
       go : Dec (k < 239) → firstBits w k < 2

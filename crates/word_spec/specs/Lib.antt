@@ -21,3 +21,4 @@ pub mod ResultLaws
 pub mod BenchValues
 pub mod Tight
 pub mod CheckLaws
+pub mod CheckBitLaws

@@ -15,7 +15,7 @@ use Rattle.gf256.specs.Tables.{powers}
 use Rattle.gf256.specs.PowerLaws.{powers-first, powers-next}
 use Rattle.word_spec.specs.CodeWord.{Word, remainder, parity, CodeWord}
 use Rattle.word_spec.specs.RemainderLaws.{BitsTo, registerShift, shift-columns, evaluated, remainder-lt}
-use Rattle.word_spec.specs.Syndromes.{locator, S1, S3}
+use Rattle.word_spec.specs.Syndromes.{locator, S1, S3, S1Checks, S3Checks}
 
 -- ---- the remainder at a and at a^3
 
@@ -107,16 +107,14 @@ S3-is w b =
 
 -- ---- the remainder from its values
 
-back-columns : List ℕ
-back-columns = 50525 ∷ 58841 ∷ 42193 ∷ 9921 ∷ 19842 ∷ 39684 ∷ 22891 ∷ 45782 ∷ []
-
-back3-columns : List ℕ
-back3-columns = 50524 ∷ 57992 ∷ 62021 ∷ 58843 ∷ 43635 ∷ 35817 ∷ 42197 ∷ 15237 ∷ []
-
-back : (s : ℕ) → s < 65536 → lin back-columns (at-a s) ⊕ lin back3-columns (at-a3 s) ≡ s
-unfolding at-a at-a-columns at-a3 at-a3-columns back-columns back3-columns units lin _⊕_
+back : (s : ℕ) → s < 65536 → lin S1Checks (at-a s) ⊕ lin S3Checks (at-a3 s) ≡ s
+unfolding at-a at-a-columns at-a3 at-a3-columns S1Checks S3Checks units lin _⊕_
 back s h =
-    linear-agree (plus (then at-a-linear (lin-linear back-columns)) (then at-a3-linear (lin-linear back3-columns))) same 16 refl s h
+    linear-agree (plus (then at-a-linear (lin-linear S1Checks)) (then at-a3-linear (lin-linear S3Checks))) same 16 refl s h
+
+pub remainder-syndromes : (w : Word) → BitsTo 255 w → remainder 255 w ≡ lin S1Checks (S1 w) ⊕ lin S3Checks (S3 w)
+remainder-syndromes w b =
+    sym (back (remainder 255 w) (remainder-lt 255 w b)) ∙ ap₂ (λ (x y : ℕ). lin S1Checks x ⊕ lin S3Checks y) (sym (S1-is w b)) (sym (S3-is w b))
 
 -- ---- code words
 
@@ -131,11 +129,7 @@ pub zero-code : (w : Word) → BitsTo 256 w → S1 w ≡ 0 → S3 w ≡ 0 → pa
 zero-code w b e1 e3 p =
     record {
       bits = b;
-      divisible = sym (back (remainder 255 w) (remainder-lt 255 w low))
-          ∙ ap₂ (λ (x y : ℕ). lin back-columns x ⊕ lin back3-columns y) (sym (S1-is w low) ∙ e1) (sym (S3-is w low) ∙ e3)
-          ∙ ap₂ _⊕_ (lin-zero back-columns) (lin-zero back3-columns) ∙ zero-⊕ 0;
+      divisible = remainder-syndromes w (λ k l. b k (omega arith)) ∙ ap₂ (λ (x y : ℕ). lin S1Checks x ⊕ lin S3Checks y) e1 e3
+          ∙ ap₂ _⊕_ (lin-zero S1Checks) (lin-zero S3Checks) ∙ zero-⊕ 0;
       even = p;
     }
-  where
-    low : BitsTo 255 w
-    low k l = b k (omega arith)

@@ -2,6 +2,7 @@
 -- 256 places are the 256 elements of the field.
 -- Assumes nothing.
 use mathlib.Core.Bool.{cond}
+use mathlib.Core.List.{List, [], _∷_}
 use Prim.Native.Nat.{ℕ, _-_, _*_}
 use lib.Dec.{ltb}
 use lib.ListN.{getD}
@@ -26,3 +27,11 @@ S3 w = xorSum 256 (λ k. w k * cube (locator k))
 -- The two syndromes and the parity of a word.
 unfoldable pub syndromesOf : Word → Syndromes
 syndromesOf w = record { s1 = S1 w; s3 = S3 w; parity = parity w }
+
+-- The remainder of a word from them, by columns (lin, in gf256): entry i is what digit i of S1, or of S3, adds to it. That it is the
+-- remainder is a law (SyndromeLaws.antt).
+unfoldable pub S1Checks : List ℕ
+S1Checks = 50525 ∷ 58841 ∷ 42193 ∷ 9921 ∷ 19842 ∷ 39684 ∷ 22891 ∷ 45782 ∷ []
+
+unfoldable pub S3Checks : List ℕ
+S3Checks = 50524 ∷ 57992 ∷ 62021 ∷ 58843 ∷ 43635 ∷ 35817 ∷ 42197 ∷ 15237 ∷ []
