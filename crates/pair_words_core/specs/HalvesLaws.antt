@@ -19,10 +19,10 @@ pub halves-bit : (words : ℕ → Word) → OfBits words → (s : List ℕ) → 
 unfolding halvesBit wordHalves wordHalf backHalves
 halves-bit words bits s e m l =
     let d : m / 16 / 8 ≡ m / 128 = omega arith in
-    let c : 16 * (m / 16 % 8) + m % 16 ≡ m % 128 = omega arith in
-    ap (λ t. bitOf 16 (getD t (m / 16) 0) (m % 16)) e
-    ∙ ap (λ x. bitOf 16 x (m % 16)) (getD-tabulate 256 (wordHalf words) (m / 16) 0 (omega arith))
-    ∙ bitOf-fromBits 16 (λ k. words (m / 16 / 8) (128 + (16 * (m / 16 % 8) + k))) (m % 16) (omega arith)
+    let c : 16 * (m / 16 % 8) + ((m + 8) % 16 + 8) % 16 ≡ m % 128 = omega arith in
+    ap (λ t. bitOf 16 (getD t (m / 16) 0) ((m + 8) % 16)) e
+    ∙ ap (λ x. bitOf 16 x ((m + 8) % 16)) (getD-tabulate 256 (wordHalf words) (m / 16) 0 (omega arith))
+    ∙ bitOf-fromBits 16 (λ k. words (m / 16 / 8) (128 + (16 * (m / 16 % 8) + (k + 8) % 16))) ((m + 8) % 16) (omega arith)
     ∙ rw (d, c) (back-bits words bits m l)
 
 module _ (n : ℕ) (h : List ℕ) (P : ℕ) (p s : List ℕ) (e : s ≡ wordHalves (repairedWord n h P p)) where
