@@ -4,5 +4,6 @@ pub mod SumLaws
 pub mod ParityLaws
 pub mod Dirty
 pub mod Collecting
+pub mod CheckSums
 pub mod Gathering
 pub mod GatheringLaws

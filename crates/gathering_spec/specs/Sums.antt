@@ -70,3 +70,8 @@ pub record Gathered (words : ℕ → Word) (s : List ℕ) : Type 0 where
 -- And p their parities.
 pub record Parities (words : ℕ → Word) (p : ℕ) : Type 0 where
   pub parity-of : (w : ℕ) → w < 32 → bitOf 32 p w ≡ parity (words w)
+
+-- The places of the check bits in the order in which sums of S1 and S3 give them (checkColumns, in `networks_spec`): bits 248 to 254, 239,
+-- and 240 to 247.
+unfoldable pub checkPlace : ℕ → ℕ
+checkPlace i = cond (ltb i 7) (248 + i) (cond (ltb i 8) 239 (232 + i))

@@ -1,0 +1,3 @@
+pub mod Completing
+pub mod CompletingLaws
+pub mod CompletedLaws
