@@ -27,6 +27,10 @@ laidIn row C b = tabulate 128 (laidAt row C b)
 unfoldable pub readWord : List ℕ → ℕ → ℕ
 readWord s j = fromBits 16 (λ c. bit s (8 * j + (c + 8) % 16))
 
+-- Block C of a row, as it stands.
+unfoldable pub rowBlock : List ℕ → ℕ → List ℕ
+rowBlock row C = tabulate 16 (λ r. getD row (8 * r + C) 0)
+
 -- Block C of words whose bytes stand the other way round, which turning by 8 columns exchanges.
 unfoldable pub wordsBlock : List ℕ → ℕ → List ℕ
 wordsBlock words C = tabulate 16 (λ r. turned (getD words (8 * r + C) 0) 8)

@@ -5,7 +5,7 @@ ghost use Prim.Native.Nat.{_+_, _<_};
 ghost use lib.ListN.{length, getD};
 ghost use Rattle.bits.specs.Lists.{tabulate};
 ghost use Rattle.blocks.specs.Moves.{chosen, turned};
-ghost use Rattle.blocks.specs.SideBySide.{laidIn, readWord, wordsBlock, rowByte, wordByte};
+ghost use Rattle.blocks.specs.SideBySide.{laidIn, readWord, rowBlock, wordsBlock, rowByte, wordByte};
 
 // A byte as a number of sixteen bits.
 fn byte(x: u8) -> u16
@@ -35,6 +35,18 @@ pub fn choose(m: u16, x: u16, y: u16) -> u16
     ensures { λ r. ⌜ r ≡ chosen m x y ⌝ }
 {
     y ^ ((x ^ y) & m)
+}
+
+// Block C of a row.
+pub fn block_of(row: &[u16; 128], block: usize) -> [u16; 16]
+    requires { ⌜ block < 8 ⌝ }
+    ensures { λ b. ⌜ b ≡ rowBlock (now (row .entry)) block ⌝ }
+{
+    let mut b = [0u16; 16];
+    for r in 0..16 {
+        b[r] = row[8 * r + block];
+    }
+    b
 }
 
 // Block C of words whose bytes stand the other way round: they are exchanged.

@@ -69,31 +69,35 @@ module _ (h p : List ℕ) (P : ℕ) (size : length h ≡ 512 * depth) where
       let d : (128 + m - 128) / 16 ≡ m / 16 = omega arith in
       held-back depth h p P w size lw (128 + m) ((m % 16) ⊕ (w % 16)) _ (omega arith) (omega arith) (rw r refl) (ap (bit p) (rw d (omega arith)))
 
-  pub halves-held : (s : List ℕ) → s ≡ codedHalves p → s ≡ wordHalves (heldWord depth h P p)
-  unfolding codedHalves codedHalf wordHalves wordHalf
-  halves-held s e =
-      e ∙ tabulate-ext 256 (codedHalf p) (wordHalf (heldWord depth h P p))
-      (λ n l. fromBits-ext 16 (λ c. bit p (16 * n + (c ⊕ (n / 8 % 16)))) (λ c. heldWord depth h P p (n / 8) (128 + (16 * (n % 8) + c)))
-      (λ c lc.
+  half-at : (n c : ℕ) → n < 256 → c < 16 → bit p (16 * n + (c ⊕ (n / 8 % 16))) ≡ heldWord depth h P p (n / 8) (128 + (16 * (n % 8) + c))
+  half-at n c l lc =
       let q : (16 * (n % 8) + c) / 16 ≡ n % 8 = omega arith in
       let m : (16 * (n % 8) + c) % 16 ≡ c = omega arith in
       let i : 8 * (n / 8) + n % 8 ≡ n = omega arith in
       let t : bit p (16 * (8 * (n / 8) + n % 8) + (c ⊕ (n / 8 % 16))) ≡ heldWord depth h P p (n / 8) (128 + (16 * (n % 8) + c)) =
       rw (q, m) at (half-bit (n / 8) (16 * (n % 8) + c) (omega arith) (omega arith)) in
-      ap (λ u. u % 2) (rw i at t)))
+      rw i at t
+
+  pub halves-held : (s : List ℕ) → s ≡ codedHalves p → s ≡ wordHalves (heldWord depth h P p)
+  unfolding codedHalves codedHalf wordHalves wordHalf
+  halves-held s e =
+      e ∙ tabulate-ext 256 (codedHalf p) (wordHalf (heldWord depth h P p))
+      (λ n l. fromBits-ext 16 (λ c. bit p (16 * n + (((c + 8) % 16) ⊕ (n / 8 % 16)))) (λ c. heldWord depth h P p (n / 8) (128 + (16 * (n % 8) + (c + 8) % 16)))
+      (λ c lc. ap (λ u. u % 2) (half-at n ((c + 8) % 16) l (omega arith))))
 
   module _ (s : List ℕ) (e : s ≡ codedHalves p) where
     stored : (w m : ℕ) → w < 32 → m < 128 → halvesBit s (128 * w + m) ≡ heldWord depth h P p w (128 + m)
     unfolding halvesBit codedHalves codedHalf
     stored w m lw lm =
         let q : (128 * w + m) / 16 ≡ 8 * w + m / 16 = omega arith in
-        let r : (128 * w + m) % 16 ≡ m % 16 = omega arith in
+        let r : (128 * w + m + 8) % 16 ≡ (m + 8) % 16 = omega arith in
         let d : (8 * w + m / 16) / 8 ≡ w = omega arith in
+        let c : ((m + 8) % 16 + 8) % 16 ≡ m % 16 = omega arith in
         rw (q, r)
-        (ap (λ t. bitOf 16 (getD t (8 * w + m / 16) 0) (m % 16)) e
-        ∙ ap (λ u. bitOf 16 u (m % 16)) (getD-tabulate 256 (codedHalf p) (8 * w + m / 16) 0 (omega arith))
-        ∙ bitOf-fromBits 16 (λ c. bit p (16 * (8 * w + m / 16) + (c ⊕ ((8 * w + m / 16) / 8 % 16)))) (m % 16) (omega arith)
-        ∙ rw d (omega (arith, bit-lt p (16 * (8 * w + m / 16) + ((m % 16) ⊕ (w % 16))))) ∙ half-bit w m lw lm)
+        (ap (λ t. bitOf 16 (getD t (8 * w + m / 16) 0) ((m + 8) % 16)) e
+        ∙ ap (λ u. bitOf 16 u ((m + 8) % 16)) (getD-tabulate 256 (codedHalf p) (8 * w + m / 16) 0 (omega arith))
+        ∙ bitOf-fromBits 16 (λ c. bit p (16 * (8 * w + m / 16) + (((c + 8) % 16) ⊕ ((8 * w + m / 16) / 8 % 16)))) ((m + 8) % 16) (omega arith)
+        ∙ rw (d, c) (omega (arith, bit-lt p (16 * (8 * w + m / 16) + ((m % 16) ⊕ (w % 16))))) ∙ half-bit w m lw lm)
 
     coded-word : (w k : ℕ) → w < 32 → k < 256 → halvesWord h P s w k ≡ heldWord depth h P p w k
     unfolding halvesWord

@@ -11,15 +11,17 @@ use Rattle.bits.specs.Lists.{tabulate}
 use Rattle.bits.specs.ListLaws.{length-tabulate, getD-tabulate, tabulate-ext}
 use Rattle.bits.specs.Xor.{_⊕_}
 use Rattle.bits.specs.XorLaws.{⊕-lt}
+use Rattle.bits.specs.Tests.{grid}
 use Rattle.blocks.specs.Block.{bitAt, rowWord, block}
 use Rattle.blocks.specs.BlockLaws.{bitAt-lt, bitAt-block-of}
 use Rattle.blocks.specs.Exchanges.{rowsExchanged, columnsExchanged}
 use Rattle.blocks.specs.Laying.{Laid, laid-bit, words-block}
 use Rattle.blocks.specs.Moves.{moved, transposed}
-use Rattle.blocks.specs.SideBySide.{laidWord, laid, readWord, wordsBlock}
+use Rattle.blocks.specs.MoveLaws.{transposed-bit}
+use Rattle.blocks.specs.SideBySide.{laidWord, laid, readWord, rowBlock, wordsBlock}
 use Rattle.pair_words_core.specs.Halves.{halvesBit}
 use Rattle.rows_core.specs.RowWords.{rowWords, frontBlock, frontWords, frontsBlock, frontsIn, backsBlock, backsIn}
-use Rattle.rows_core.specs.RowWords.{codedHalf, halfBlock, columnsBlock, columnsOf}
+use Rattle.rows_core.specs.RowWords.{codedHalf, halfBlock, turnedRows, columnsBlock, columnsOf}
 
 -- ---- as code reads them
 
@@ -39,13 +41,14 @@ pub fronts-block : (words : List ℕ) (C : ℕ) (b r : List ℕ) → b ≡ words
 unfolding frontsBlock
 fronts-block words C b r p q = q ∙ ap rowsExchanged p
 
-pub backs-block : (words : List ℕ) (C : ℕ) (b r : List ℕ) → b ≡ wordsBlock words C → r ≡ columnsExchanged b → r ≡ backsBlock words C
+pub backs-block : (words : List ℕ) (C : ℕ) (b r : List ℕ) → b ≡ rowBlock words C → r ≡ columnsExchanged b → r ≡ backsBlock words C
 unfolding backsBlock
 backs-block words C b r p q = q ∙ ap columnsExchanged p
 
-pub columns-block : (halves : List ℕ) (s C : ℕ) (b r : List ℕ) → b ≡ halfBlock halves s C → r ≡ transposed b → r ≡ columnsBlock halves s C
+pub columns-block : (halves : List ℕ) (s C : ℕ) (b t r : List ℕ) → b ≡ halfBlock halves s C → t ≡ transposed b → r ≡ turnedRows t
+    → r ≡ columnsBlock halves s C
 unfolding columnsBlock
-columns-block halves s C b r p q = q ∙ ap transposed p
+columns-block halves s C b t r p q e = e ∙ ap turnedRows (q ∙ ap transposed p)
 
 pub ruleset row-blocks = (fronts-block, backs-block, columns-block)
 
@@ -55,10 +58,10 @@ pub ruleset row-blocks = (fronts-block, backs-block, columns-block)
 unfoldable pub blockAt : List ℕ → (ℕ → ℕ → ℕ) → List ℕ
 blockAt s f = block (λ r c. bit s (f r c))
 
-row-block : (s : List ℕ) (from C : ℕ) → C < 8 → wordsBlock (rowWords s from) C ≡ blockAt s (λ r c. 8 * (from + 2 * (8 * r + C)) + c)
-unfolding blockAt rowWords readWord
+row-block : (s : List ℕ) (from C : ℕ) → C < 8 → rowBlock (rowWords s from) C ≡ blockAt s (λ r c. 8 * (from + 2 * (8 * r + C)) + (c + 8) % 16)
+unfolding blockAt block rowWord rowBlock rowWords readWord
 row-block s from C lC =
-    words-block (rowWords s from) (λ r c. bit s (8 * (from + 2 * (8 * r + C)) + c)) C
+    tabulate-ext 16 (λ r. getD (rowWords s from) (8 * r + C) 0) (λ r. readWord s (from + 2 * (8 * r + C)))
     (λ r lr. getD-tabulate 128 (λ x. readWord s (from + 2 * x)) (8 * r + C) 0 (omega arith))
 
 front-block : (h : List ℕ) (from C : ℕ) → C < 8 → wordsBlock (frontWords h from) C ≡ blockAt h (λ r c. 8 * (514 * C + 16 * r + from) + c)
@@ -92,6 +95,11 @@ fronts-bit h from a e j C r lj lC lr =
 
 -- ---- back halves in order
 
+-- Turning a row by eight columns and exchanging them by ^r commute.
+turned-exchanged : (r c : ℕ) → r < 16 → c < 16 → ((c ⊕ r) + 8) % 16 ≡ ((c + 8) % 16) ⊕ r
+unfolding _⊕_
+turned-exchanged = grid 16 16 (λ r c. ((c ⊕ r) + 8) % 16) (λ r c. ((c + 8) % 16) ⊕ r) tt
+
 exchanged-row : (s : List ℕ) (f : ℕ → ℕ → ℕ) (r : ℕ) → r < 16 → getD (columnsExchanged (blockAt s f)) r 0 ≡ fromBits 16 (λ c. bit s (f r (c ⊕ r)))
 unfolding columnsExchanged moved block rowWord
 exchanged-row s f r l =
@@ -110,9 +118,10 @@ halves-row p s words row e q =
         let d : (s * 128 + i) / 8 ≡ s * 16 + i / 8 = omega arith in
         let m : (s * 16 + i / 8) % 16 ≡ i / 8 = omega arith in
         ap (λ b. getD (columnsExchanged b) (i / 8) 0) (row-block p (256 * s) (i % 8) (omega arith))
-        ∙ exchanged-row p (λ r c. 8 * (256 * s + 2 * (8 * r + i % 8)) + c) (i / 8) (omega arith)
-        ∙ rw (d, m) (fromBits-ext 16 (λ c. bit p (8 * (256 * s + 2 * (8 * (i / 8) + i % 8)) + (c ⊕ (i / 8)))) (λ c. bit p (16 * (s * 128 + i) + (c ⊕ (i / 8))))
-        (λ c lc. ap (λ k. bit p (k + (c ⊕ (i / 8))) % 2) (omega arith)))
+        ∙ exchanged-row p (λ r c. 8 * (256 * s + 2 * (8 * r + i % 8)) + (c + 8) % 16) (i / 8) (omega arith)
+        ∙ rw (d, m) (fromBits-ext 16 (λ c. bit p (8 * (256 * s + 2 * (8 * (i / 8) + i % 8)) + ((c ⊕ (i / 8)) + 8) % 16))
+        (λ c. bit p (16 * (s * 128 + i) + (((c + 8) % 16) ⊕ (i / 8))))
+        (λ c lc. ap (λ k. bit p k % 2) (omega (arith, turned-exchanged (i / 8) c (omega arith) lc))))
 
 pub half-copied : (p : List ℕ) (s i : ℕ) (from : List ℕ) → from ≡ tabulate 128 (λ i. codedHalf p (s * 128 + i)) → i < 128
     → getD from i 0 ≡ codedHalf p (s * 128 + i)
@@ -122,11 +131,12 @@ half-copied p s i from e l = ap (λ u. getD u i 0) e ∙ getD-tabulate 128 (λ i
 
 pub columns-bit : (halves : List ℕ) (s : ℕ) (a : List ℕ) → a ≡ columnsOf halves s → (j C r : ℕ) → j < 16 → C < 8 → r < 16
     → bitOf 16 (getD a (8 * j + C) 0) r ≡ halvesBit halves (128 * (16 * s + r) + (16 * C + j))
-unfolding columnsOf columnsBlock transposed halfBlock halvesBit bitAt
+unfolding columnsOf columnsBlock turnedRows transposed halfBlock halvesBit bitAt
 columns-bit halves s a e j C r lj lC lr =
     let d : (128 * (16 * s + r) + (16 * C + j)) / 16 ≡ 128 * s + 8 * r + C = omega arith in
-    let m : (128 * (16 * s + r) + (16 * C + j)) % 16 ≡ j = omega arith in
+    let m : (128 * (16 * s + r) + (16 * C + j) + 8) % 16 ≡ (j + 8) % 16 = omega arith in
     ap (λ x. bitOf 16 (getD x (8 * j + C) 0) r) e ∙ laid-bit (columnsBlock halves s) C j r lC lj
-    ∙ moved-bit (λ i c. c) (λ i c. i) (halfBlock halves s C) j r lj lr
-    ∙ ap (λ u. bitOf 16 u j) (getD-tabulate 16 (λ r. getD halves (128 * s + 8 * r + C) 0) r 0 lr)
+    ∙ ap (λ u. bitOf 16 u r) (getD-tabulate 16 (λ i. getD (transposed (halfBlock halves s C)) ((i + 8) % 16) 0) j 0 lj)
+    ∙ transposed-bit (halfBlock halves s C) r ((j + 8) % 16) lr (omega arith)
+    ∙ ap (λ u. bitOf 16 u ((j + 8) % 16)) (getD-tabulate 16 (λ r. getD halves (128 * s + 8 * r + C) 0) r 0 lr)
     ∙ rw (d, m)

@@ -1,5 +1,6 @@
 // Rows as words of sixteen bits, eight blocks side by side: read in byte order, and with the words of a pair put in order.
 use blocks::block_in;
+use blocks::block_of;
 use blocks::lay;
 use blocks::read_word;
 use permutation_core::exchange_columns;
@@ -12,7 +13,7 @@ ghost use Rattle.bits.specs.Lists.{tabulate};
 ghost use Rattle.blocks.specs.SideBySide.{readWord};
 ghost use Rattle.pair_spec.specs.History.{depth};
 ghost use Rattle.rows_core.specs.Held.{Fronts, Backs};
-ghost use Rattle.rows_core.specs.RowWords.{rowWords, frontBlock, frontWords, frontsIn, backsIn, codedHalf, codedHalves, halfBlock, columnsOf};
+ghost use Rattle.rows_core.specs.RowWords.{rowWords, frontBlock, frontWords, frontsIn, backsIn, codedHalf, codedHalves, halfBlock, turnedRows, columnsOf};
 
 // The eight words of bit row i of the row that starts at a byte.
 fn put_words(s: &[u8], from: usize, i: usize, out: &mut [u16])
@@ -74,13 +75,13 @@ fn fronts_in(words: &[u16; 128]) -> [u16; 128]
     row
 }
 
-// The columns of each block exchanged: number 8r+C holds bits 16C to 16C+15 of the back half of word r.
+// The columns of each block exchanged: number 8r+C holds bits 16C to 16C+15 of the back half of word r, as two bytes lie in memory.
 fn backs_in(words: &[u16; 128]) -> [u16; 128]
     ensures { λ r. ⌜ r ≡ backsIn (now (words .entry)) ⌝ }
 {
     let mut row = [0u16; 128];
     for block in 0..8 {
-        lay(&mut row, block, exchange_columns(block_in(words, block)));
+        lay(&mut row, block, exchange_columns(block_of(words, block)));
     }
     row
 }
@@ -128,14 +129,26 @@ fn half_block(halves: &[u16; 256], s: usize, block: usize) -> [u16; 16]
     b
 }
 
-// The columns of row s of the halves: bit r of number 8j+C is bit 16C+j of the back half of word 16s+r.
+// The rows of a block turned by eight.
+fn turned_rows(b: [u16; 16]) -> [u16; 16]
+    ensures { λ r. ⌜ r ≡ turnedRows b ⌝ }
+{
+    let mut y = [0u16; 16];
+    for i in 0..16 {
+        y[i] = b[(i + 8) % 16];
+    }
+    y
+}
+
+// The columns of row s of the halves, which turns them back: bit r of number 8j+C is bit 16C+j of the back half of word 16s+r.
 fn columns_of(halves: &[u16; 256], s: usize) -> [u16; 128]
     requires { ⌜ s < 2 ⌝ }
     ensures { λ r. ⌜ r ≡ columnsOf (now (halves .entry)) s ⌝ }
 {
     let mut row = [0u16; 128];
     for block in 0..8 {
-        lay(&mut row, block, transpose(half_block(halves, s, block)));
+        let columns = transpose(half_block(halves, s, block));
+        lay(&mut row, block, turned_rows(columns));
     }
     row
 }

@@ -25,7 +25,7 @@ backs-in-spec =
     μ-loop
     (λ c. search kit)  -- loop-holds
     (λ c. search kit)  -- slice-aggregate-lay
-    (λ c κs. search kit)  -- block-in-requires
+    (λ c κs. search kit)  -- block-of-requires
     (λ c κs. search kit)  -- exchange-columns-requires
     (λ c κs. search kit)  -- lay-requires
     (λ c. search kit)  -- add-block

@@ -24,9 +24,10 @@ columns-of-spec =
     Inv-loop
     μ-loop
     (λ c. search kit)  -- loop-holds
-    (λ c. search kit)  -- slice-aggregate-lay
     (λ c κs. search kit)  -- half-block-requires
     (λ c κs. search kit)  -- transpose-requires
+    (λ c. search kit)  -- slice-aggregate-lay
+    (λ c κs. search kit)  -- turned-rows-requires
     (λ c κs. search kit)  -- lay-requires
     (λ c. search kit)  -- add-block
     (λ c. search kit)  -- loop-less
