@@ -84,7 +84,7 @@ module _ (h p : List ℕ) (P w : ℕ) (size : length h ≡ 512 * depth) (lw : w 
 unfoldable pub ownBit : List ℕ → ℕ → ℕ → ℕ
 ownBit y w k = cond (ltb k 224) (bit y (w * 16 + (k - 128) / 16 * 512 + k % 16)) (cond (ltb k 239) (bit y (w * 15 + k + 2848)) 0)
 
-own-low : (y : List ℕ) (w k : ℕ) → k < 224 → ownBit y w k ≡ bit y (w * 16 + (k - 128) / 16 * 512 + k % 16)
+pub own-low : (y : List ℕ) (w k : ℕ) → k < 224 → ownBit y w k ≡ bit y (w * 16 + (k - 128) / 16 * 512 + k % 16)
 unfolding ownBit
 own-low y w k l = simp (lt-ltb k 224 l)
 

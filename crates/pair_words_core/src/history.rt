@@ -1,16 +1,16 @@
 // The history: ten pairs of 512 bytes, oldest first.
 ghost use mathlib.Core.Path.{_≡_};
-ghost use Prim.Native.Nat.{_-_, _≤_};
-ghost use lib.ListN.{length, take, drop};
+ghost use Prim.Native.Nat.{_+_, _≤_};
+ghost use lib.ListN.{length};
 ghost use Rattle.pair_spec.specs.History.{shift};
+ghost use Rattle.pair_words_core.specs.Shifting.{Moving};
 
-// Moves every pair but the oldest one place down; the last 512 bytes are left to be written.
-fn move_down(history: &mut [u8])
-    requires { ⌜ 512 ≤ length (now history) ⌝ }
-    ensures { λ _. ⌜ take (length (now (history .entry)) - 512) (now (history .exit)) ≡ drop 512 (now (history .entry)) ⌝ }
+// Brings each of the bytes of a part 512 bytes down to its place, from the pair behind; the others stand.
+pub fn move_part(history: &mut [u8], from: usize, to: usize)
+    requires { ⌜ (from ≤ to) × (to + 512 ≤ length (now history)) ⌝ }
+    ensures { λ _. ⌜ Moving 512 (now (history .entry)) from to to (now (history .exit)) ⌝ }
 {
-    let n = history.len() - 512;
-    for i in 0..n {
+    for i in from..to {
         history[i] = history[i + 512];
     }
 }
@@ -30,7 +30,7 @@ pub fn shift_in(history: &mut [u8], newest: &[u8])
     requires { ⌜ (512 ≤ length (now history)) × (length (now newest) ≡ 512) ⌝ }
     ensures { λ _. ⌜ now (history .exit) ≡ shift (now (history .entry)) (now (newest .entry)) ⌝ }
 {
-    move_down(history);
     let n = history.len() - 512;
+    move_part(history, 0, n);
     copy(newest, &mut history[n..]);
 }

@@ -31,29 +31,14 @@ use Rattle.pair_spec.specs.ReceivingLaws.{held-bits}
 use Rattle.pair_words_core.specs.Halves.{wordHalves, payloadIn}
 use Rattle.pair_words_core.specs.HalvesLaws.{payload-of-halves}
 use Rattle.pair_words_core.specs.WordBits.{held-back}
-use Rattle.gathering_spec.specs.Sums.{joinedRows, Gathered, Parities}
-use Rattle.gathering_spec.specs.SumLaws.{gathered}
-use Rattle.gathering_spec.specs.ParityLaws.{parities}
+use Rattle.gathering_spec.specs.Sums.{Gathered, Parities}
 use Rattle.gathering_spec.specs.Dirty.{Dirty, Joining, dirty-of, zero-digit}
 use Rattle.rows_core.specs.RowWords.{codedHalves}
 use Rattle.rows_core.specs.Held.{halvesWord}
-use Rattle.rows_core.specs.HeldLaws.{halves-held, gathered-held, parities-held, gathered-joined, parities-joined}
-use Rattle.gathering_core.specs.Lanes.{Levelled}
+use Rattle.rows_core.specs.HeldLaws.{halves-held, gathered-held, parities-held}
 use Rattle.mending_core.specs.Mending.{Holding, repairedBy, HandledAll}
 use Rattle.mending_core.specs.MendingLaws.{sound, stays, halves-same, coded-same, holding-same}
-use Rattle.receiving_core.specs.Receiving.{RowChecked, Repaired}
-
--- Of both rows, that is gathered of the words of the pair.
-module _ (h : List ℕ) (P : ℕ) (halves a b : List ℕ) (p q : ℕ) (m : RowChecked h P halves 0 a p) (n : RowChecked h P halves 1 b q) where
-  pub gathered-levels : (s : List ℕ) → Levelled a b s → Gathered (halvesWord h P halves) s
-  gathered-levels s l =
-      gathered-joined h P halves (m .x) (m .y) (n .x) (n .y) (m .fronts) (m .backs) (n .fronts) (n .backs) s
-      (gathered (m .x) (m .y) (n .x) (n .y) a b (joinedRows a b) (l .four) s (m .sums) (n .sums) refl (l .of-eight) (l .of-four))
-
-  pub parities-levels : (r : ℕ) → r ≡ p * 65536 + q % 65536 → Parities (halvesWord h P halves) r
-  parities-levels r e =
-      parities-joined h P halves (m .x) (m .y) (n .x) (n .y) (m .fronts) (m .backs) (n .fronts) (n .backs) r
-      (parities (m .x) (m .y) (n .x) (n .y) p q r (m .parity) (n .parity) e)
+use Rattle.receiving_core.specs.Receiving.{Repaired}
 
 -- ---- the words of a pair
 

@@ -1,0 +1,3 @@
+pub mod PayloadRows
+pub mod TwoFronts
+pub mod PayloadRowLaws

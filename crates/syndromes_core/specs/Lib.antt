@@ -1,0 +1,2 @@
+pub mod RowChecks
+pub mod RowCheckLaws
