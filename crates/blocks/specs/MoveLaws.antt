@@ -104,6 +104,10 @@ turn-is x n lx ln =
     ap (bitOr (x * 2 ^ n % 2 ^ 16)) (shr-shr x 1 (15 - n) ∙ ap (λ k. x / 2 ^ k) (omega arith))
     ∙ turn-parts x n (16 - n) lx (omega arith)
 
+pub turned-bit : (x n c : ℕ) → c < 16 → bitOf 16 (turned x n) c ≡ bitOf 16 x ((c + n) % 16)
+unfolding turned
+turned-bit x n c l = bitOf-fromBits 16 (λ c. bitOf 16 x ((c + n) % 16)) c l ∙ omega (arith, bitOf-lt 16 x ((c + n) % 16))
+
 -- ---- moves one after the other
 
 module _ (n w : ℕ) where

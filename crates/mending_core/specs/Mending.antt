@@ -34,7 +34,7 @@ bufferFlippedIf b i s = cond (eqb b 0) s (pack (length s) (flipped i (bit s)))
 
 -- The halves with bit k of word w flipped, if it is one of the back half.
 unfoldable pub flippedBack : ℕ → ℕ → List ℕ → List ℕ
-flippedBack w k s = cond (ltb k 128) s (set s (8 * w + (k - 128) / 16) (flippedNumber (getD s (8 * w + (k - 128) / 16) 0) (k % 16)))
+flippedBack w k s = cond (ltb k 128) s (set s (8 * w + (k - 128) / 16) (flippedNumber (getD s (8 * w + (k - 128) / 16) 0) ((k + 8) % 16)))
 
 -- Where that bit stands in a coded pair, "V(R, (k−128) div 16, r, (k mod 16)^r)", and the coded pair with it flipped.
 unfoldable pub codedBit : ℕ → ℕ → ℕ

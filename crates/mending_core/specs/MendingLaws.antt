@@ -71,20 +71,20 @@ flip-number-if v j (suc zero) lv lj lb = flip-number v j lv lj
 flip-number-if v j (suc (suc b)) lv lj lb = absurd (omega arith)
 
 -- As code finds the number.
-pub flipped-set : (w k n v u b : ℕ) (s : List ℕ) → k < 256 → n ≡ 8 * w + k % 128 / 16 → v ≡ getD s n 0 → b ≡ k / 128 % 2 → u ≡ flippedIf b v (k % 16)
+pub flipped-set : (w k n v u b : ℕ) (s : List ℕ) → k < 256 → n ≡ 8 * w + k % 128 / 16 → v ≡ getD s n 0 → b ≡ k / 128 % 2 → u ≡ flippedIf b v ((k + 8) % 16)
     → set s n u ≡ flippedBack w k s
 unfolding flippedBack flippedIf
 flipped-set w k n v u b s lk en ev eb eu = go (decLt k 128)
   where
-    go : Dec (k < 128) → set s n u ≡ cond (ltb k 128) s (set s (8 * w + (k - 128) / 16) (flippedNumber (getD s (8 * w + (k - 128) / 16) 0) (k % 16)))
+    go : Dec (k < 128) → set s n u ≡ cond (ltb k 128) s (set s (8 * w + (k - 128) / 16) (flippedNumber (getD s (8 * w + (k - 128) / 16) 0) ((k + 8) % 16)))
     go (yes l) =
         let z : b ≡ 0 = omega arith in
-        let same : cond (eqb b 0) v (flippedNumber v (k % 16)) ≡ v = simp (eq-eqb b 0 z) in
+        let same : cond (eqb b 0) v (flippedNumber v ((k + 8) % 16)) ≡ v = simp (eq-eqb b 0 z) in
         ap (set s n) (eu ∙ same ∙ ev) ∙ set-getD s n 0 ∙ sym (simp (lt-ltb k 128 l))
     go (no l) =
         let z : b ≢ 0 = λ e. omega arith in
         let i : n ≡ 8 * w + (k - 128) / 16 = omega arith in
-        let turned : cond (eqb b 0) v (flippedNumber v (k % 16)) ≡ flippedNumber v (k % 16) = simp (ne-eqb b 0 z) in
+        let turned : cond (eqb b 0) v (flippedNumber v ((k + 8) % 16)) ≡ flippedNumber v ((k + 8) % 16) = simp (ne-eqb b 0 z) in
         ap (set s n) (eu ∙ turned) ∙ sym (simp (le-ltb k 128 (omega arith)) (rw (← i, ← ev) refl))
 
 -- The same of a coded pair.
@@ -128,8 +128,8 @@ pub halves-same : (f g : ℕ → Word) → ((u k : ℕ) → u < 32 → 128 ≤ k
 unfolding wordHalves wordHalf
 halves-same f g same =
     tabulate-ext 256 (wordHalf f) (wordHalf g)
-    (λ n l. fromBits-ext 16 (λ c. f (n / 8) (128 + (16 * (n % 8) + c))) (λ c. g (n / 8) (128 + (16 * (n % 8) + c)))
-    (λ c lc. ap (λ u. u % 2) (same (n / 8) (128 + (16 * (n % 8) + c)) (omega arith) (omega arith) (omega arith))))
+    (λ n l. fromBits-ext 16 (λ c. f (n / 8) (128 + (16 * (n % 8) + (c + 8) % 16))) (λ c. g (n / 8) (128 + (16 * (n % 8) + (c + 8) % 16)))
+    (λ c lc. ap (λ u. u % 2) (same (n / 8) (128 + (16 * (n % 8) + (c + 8) % 16)) (omega arith) (omega arith) (omega arith))))
 
 updated-at : (w : ℕ) (v : Word) (f : ℕ → Word) (u : ℕ) → u ≡ w → updated w v f u ≡ v
 unfolding updated
@@ -148,16 +148,16 @@ updated-same w v f g here there u k lu l m = go (ℕ-discrete u w)
     go (yes e) = ap (λ (x : Word). x k) (updated-at w v f u e) ∙ here k l m ∙ ap (λ i. g i k) (sym e)
     go (no n) = ap (λ (x : Word). x k) (updated-off w v f u n) ∙ there u k lu n
 
-half-bit : (f : ℕ → Word) (n c : ℕ) → ((u : ℕ) → Bits (f u)) → n < 256 → c < 16 → bitOf 16 (wordHalf f n) c ≡ f (n / 8) (128 + (16 * (n % 8) + c))
+half-bit : (f : ℕ → Word) (n c : ℕ) → ((u : ℕ) → Bits (f u)) → n < 256 → c < 16 → bitOf 16 (wordHalf f n) c ≡ f (n / 8) (128 + (16 * (n % 8) + (c + 8) % 16))
 unfolding wordHalf
 half-bit f n c bits ln lc =
-    bitOf-fromBits 16 (λ c. f (n / 8) (128 + (16 * (n % 8) + c))) c lc ∙ omega (arith, bits (n / 8) (128 + (16 * (n % 8) + c)) (omega arith))
+    bitOf-fromBits 16 (λ c. f (n / 8) (128 + (16 * (n % 8) + (c + 8) % 16))) c lc ∙ omega (arith, bits (n / 8) (128 + (16 * (n % 8) + (c + 8) % 16)) (omega arith))
 
 number-same : (f g : ℕ → ℕ) → ((c : ℕ) → c < 16 → f c ≡ g c) → fromBits 16 f ≡ fromBits 16 g
 number-same f g same = fromBits-ext 16 f g (λ c l. ap (λ u. u % 2) (same c l))
 
 back-placed : (f : ℕ → Word) → ((u : ℕ) → Bits (f u)) → (w k : ℕ) (s : List ℕ) → w < 32 → k < 256 → s ≡ wordHalves f → 128 ≤ k
-    → set s (8 * w + (k - 128) / 16) (fromBits 16 (flipped (k % 16) (bitOf 16 (getD s (8 * w + (k - 128) / 16) 0)))) ≡ wordHalves (updated w (flipped k (f w)) f)
+    → set s (8 * w + (k - 128) / 16) (fromBits 16 (flipped ((k + 8) % 16) (bitOf 16 (getD s (8 * w + (k - 128) / 16) 0)))) ≡ wordHalves (updated w (flipped k (f w)) f)
 unfolding wordHalves wordHalf
 back-placed f bits w k s lw lk e m =
     is-tabulate 0 (set s n v) 256 (wordHalf g) (length-set s n v ∙ long) (λ i li. here i li (ℕ-discrete i n))
@@ -166,7 +166,7 @@ back-placed f bits w k s lw lk e m =
     n = 8 * w + (k - 128) / 16
 
     v : ℕ
-    v = fromBits 16 (flipped (k % 16) (bitOf 16 (getD s n 0)))
+    v = fromBits 16 (flipped ((k + 8) % 16) (bitOf 16 (getD s n 0)))
 
     g : ℕ → Word
     g = updated w (flipped k (f w)) f
@@ -183,23 +183,23 @@ back-placed f bits w k s lw lk e m =
     block : n % 8 ≡ (k - 128) / 16
     block = omega arith
 
-    place : 128 + (16 * ((k - 128) / 16) + k % 16) ≡ k
+    place : 128 + (16 * ((k - 128) / 16) + ((k + 8) % 16 + 8) % 16) ≡ k
     place = omega arith
 
     apart : (i c : ℕ) → i / 8 ≡ w → c < 16 → i ≢ n → 128 + (16 * (i % 8) + c) ≢ k
     apart i c d lc ne q = ne (omega arith)
 
-    turned : (c : ℕ) → c < 16 → Dec (c ≡ k % 16) → flipped (k % 16) (bitOf 16 (getD s n 0)) c ≡ flipped k (f w) (128 + (16 * (n % 8) + c))
+    turned : (c : ℕ) → c < 16 → Dec (c ≡ (k + 8) % 16) → flipped ((k + 8) % 16) (bitOf 16 (getD s n 0)) c ≡ flipped k (f w) (128 + (16 * (n % 8) + (c + 8) % 16))
     turned c lc (yes q) =
-        let t : 128 + (16 * (n % 8) + c) ≡ k = rw (block, q) place in
-        ap (flipped (k % 16) (bitOf 16 (getD s n 0))) q ∙ flipped-at (k % 16) (bitOf 16 (getD s n 0))
+        let t : 128 + (16 * (n % 8) + (c + 8) % 16) ≡ k = rw (block, q) place in
+        ap (flipped ((k + 8) % 16) (bitOf 16 (getD s n 0))) q ∙ flipped-at ((k + 8) % 16) (bitOf 16 (getD s n 0))
         ∙ ap (λ x. 1 - x)
-        (ap (λ x. bitOf 16 x (k % 16)) (stands n (omega arith)) ∙ half-bit f n (k % 16) bits (omega arith) (omega arith) ∙ rw (own, block, place) refl)
+        (ap (λ x. bitOf 16 x ((k + 8) % 16)) (stands n (omega arith)) ∙ half-bit f n ((k + 8) % 16) bits (omega arith) (omega arith) ∙ rw (own, block, place) refl)
         ∙ sym (flipped-at k (f w)) ∙ ap (flipped k (f w)) (sym t)
     turned c lc (no ne) =
-        let t : 128 + (16 * (n % 8) + c) ≢ k = λ z. ne (omega (arith, block)) in
-        flipped-off (k % 16) (bitOf 16 (getD s n 0)) c ne ∙ ap (λ x. bitOf 16 x c) (stands n (omega arith)) ∙ half-bit f n c bits (omega arith) lc
-        ∙ ap (λ u. f u (128 + (16 * (n % 8) + c))) own ∙ sym (flipped-off k (f w) (128 + (16 * (n % 8) + c)) t)
+        let t : 128 + (16 * (n % 8) + (c + 8) % 16) ≢ k = λ z. ne (omega (arith, block)) in
+        flipped-off ((k + 8) % 16) (bitOf 16 (getD s n 0)) c ne ∙ ap (λ x. bitOf 16 x c) (stands n (omega arith)) ∙ half-bit f n c bits (omega arith) lc
+        ∙ ap (λ u. f u (128 + (16 * (n % 8) + (c + 8) % 16))) own ∙ sym (flipped-off k (f w) (128 + (16 * (n % 8) + (c + 8) % 16)) t)
 
     kept : (i c : ℕ) → i < 256 → c < 16 → i ≢ n → Dec (i / 8 ≡ w) → f (i / 8) (128 + (16 * (i % 8) + c)) ≡ g (i / 8) (128 + (16 * (i % 8) + c))
     kept i c li lc ne (yes d) =
@@ -211,12 +211,12 @@ back-placed f bits w k s lw lk e m =
     here i li (yes q) =
         rw q
         (getD-set-same s n v 0 (omega (arith, long))
-        ∙ number-same (flipped (k % 16) (bitOf 16 (getD s n 0))) (λ c. g (n / 8) (128 + (16 * (n % 8) + c)))
-        (λ c lc. turned c lc (ℕ-discrete c (k % 16)) ∙ sym (ap (λ (x : Word). x (128 + (16 * (n % 8) + c))) (updated-at w (flipped k (f w)) f (n / 8) own))))
+        ∙ number-same (flipped ((k + 8) % 16) (bitOf 16 (getD s n 0))) (λ c. g (n / 8) (128 + (16 * (n % 8) + (c + 8) % 16)))
+        (λ c lc. turned c lc (ℕ-discrete c ((k + 8) % 16)) ∙ sym (ap (λ (x : Word). x (128 + (16 * (n % 8) + (c + 8) % 16))) (updated-at w (flipped k (f w)) f (n / 8) own))))
     here i li (no ne) =
         getD-set-other s n i v 0 ne ∙ stands i li
-        ∙ number-same (λ c. f (i / 8) (128 + (16 * (i % 8) + c))) (λ c. g (i / 8) (128 + (16 * (i % 8) + c)))
-        (λ c lc. kept i c li lc ne (ℕ-discrete (i / 8) w))
+        ∙ number-same (λ c. f (i / 8) (128 + (16 * (i % 8) + (c + 8) % 16))) (λ c. g (i / 8) (128 + (16 * (i % 8) + (c + 8) % 16)))
+        (λ c lc. kept i ((c + 8) % 16) li (omega arith) ne (ℕ-discrete (i / 8) w))
 
 flipped-back : (f : ℕ → Word) → ((u : ℕ) → Bits (f u)) → (w k : ℕ) (s : List ℕ) → w < 32 → k < 256 → s ≡ wordHalves f
     → flippedBack w k s ≡ wordHalves (updated w (flipped k (f w)) f)
@@ -229,13 +229,13 @@ flipped-back f bits w k s lw lk e = go (decLt k 128)
     g : ℕ → Word
     g = updated w (flipped k (f w)) f
 
-    go : Dec (k < 128) → cond (ltb k 128) s (set s n (fromBits 16 (flipped (k % 16) (bitOf 16 (getD s n 0))))) ≡ wordHalves g
+    go : Dec (k < 128) → cond (ltb k 128) s (set s n (fromBits 16 (flipped ((k + 8) % 16) (bitOf 16 (getD s n 0))))) ≡ wordHalves g
     go (yes l) =
         simp (lt-ltb k 128 l)
         (e ∙ sym (halves-same g f (updated-same w (flipped k (f w)) f f (λ i li mi. flipped-off k (f w) i (omega arith)) (λ u i lu ne. refl))))
     go (no l) = simp (le-ltb k 128 (omega arith)) (placed (omega arith))
       where
-        placed : 128 ≤ k → set s n (fromBits 16 (flipped (k % 16) (bitOf 16 (getD s n 0)))) ≡ wordHalves g
+        placed : 128 ≤ k → set s n (fromBits 16 (flipped ((k + 8) % 16) (bitOf 16 (getD s n 0)))) ≡ wordHalves g
         placed m = back-placed f bits w k s lw lk e m
 
 -- ---- coded pairs of words

@@ -19,14 +19,14 @@ fn flipped_number(v: u16, j: usize, b: u16) -> u16
     v ^ (b << (15 - j))
 }
 
-// Flips bit k of word w, if it is one of the back half. A branch on where the bit falls would go either way as often.
+// Flips bit k of word w, if it is one of the back half: it stands eight columns further on. A branch on where the bit falls would go either way as often.
 fn flip_back(halves: &mut [u16; 256], w: usize, k: usize)
     requires { ⌜ (w < 32) × (k < 256) ⌝ }
     ensures { λ _. ⌜ now (halves .exit) ≡ flippedBack w k (now (halves .entry)) ⌝ }
 {
     let n = 8 * w + k % 128 / 16;
     let v = halves[n];
-    halves[n] = flipped_number(v, k % 16, (k / 128 % 2) as u16);
+    halves[n] = flipped_number(v, (k + 8) % 16, (k / 128 % 2) as u16);
 }
 
 // Flips bit i of a buffer where b is 1.

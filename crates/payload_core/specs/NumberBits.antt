@@ -2,17 +2,17 @@
 -- Assumes nothing.
 use mathlib.Core.Path.{_≡_, refl, sym, ap, ap₂, _∙_}
 use mathlib.Core.List.{List}
-use Prim.Native.Nat.{ℕ, _+_, _*_, _/_, _%_, _^_, _<_, _≤_}
+use Prim.Native.Nat.{ℕ, zero, suc, _+_, _*_, _/_, _%_, _^_, _<_, _≤_}
 use native.Mathlib.Nat.{zero-mul, one-mul, add-mul, mul-le-mul-right}
 use native.Mathlib.Omega.{arith}
 use borrow.Rule.Slice.PartMut.{putMid}
 use lib.Dec.{T, leb, leb→le}
 use lib.ListN.{length}
-use lib.Pow.{high, low, pow-mono}
+use lib.Pow.{high, low, pow-mono, mod-pow-add}
 use mir.Syntax.{Width}
 use mir.Val.{Fits, bits}
 use Rattle.bits.specs.Bits.{bitOf, byteOf, fromBits, pack}
-use Rattle.bits.specs.BitLaws.{fromBits-lt, fromBits-ext, fromBits-bitOf, bitOf-fromBits}
+use Rattle.bits.specs.BitLaws.{fromBits-lt, fromBits-ext, fromBits-bitOf, bitOf-fromBits, bitOf-half, bitOf-last}
 use Rattle.bits.specs.Filling.{fill-none, fill-ext, fill-part, fill-done}
 use Rattle.bits.specs.Lists.{tabulate}
 use Rattle.bits.specs.ListLaws.{tabulate-ext}
@@ -38,6 +38,15 @@ bits-amid a n r f =
     ap (λ x. x / 2 ^ r % 2 ^ n) (behind-split (a + n) r f)
     ∙ ap (λ x. x % 2 ^ n) (high (fromBits (a + n) f) r (fromBits-lt r (behind (a + n) f)) ∙ behind-split a n f)
     ∙ low (fromBits a f) n (fromBits-lt n (behind a f))
+
+-- The last w bits of a number.
+pub number-low : (w x : ℕ) → fromBits w (bitOf w x) ≡ x % 2 ^ w
+unfolding fromBits
+number-low zero x = omega arith
+number-low (suc w) x =
+    let e : fromBits w (bitOf (suc w) x) ≡ fromBits w (bitOf w (x / 2)) = fromBits-ext w _ _ (λ i l. ap (λ k. k % 2) (bitOf-half w x i l)) in
+    let n : w + 1 ≡ suc w = omega arith in
+    omega (arith, e, number-low w (x / 2), bitOf-last w x, sym (mod-pow-add x w 1) ∙ ap (λ m. x % 2 ^ m) n)
 
 -- Byte j of a number of w bits, with r bits behind it.
 pub byte-of-number : (w x j r : ℕ) → x < 2 ^ w → j * 8 + 8 + r ≡ w → x / 2 ^ r % 256 ≡ byteOf (bitOf w x) j

@@ -3,17 +3,21 @@
 -- Assumes nothing.
 use mathlib.Core.Path.{_≡_, refl, sym, ap, ap₂, _∙_}
 use mathlib.Core.List.{List}
-use Prim.Native.Nat.{ℕ, _+_, _-_, _*_, _/_, _%_, _^_, _<_}
+use Prim.Native.Nat.{ℕ, zero, suc, _+_, _-_, _*_, _/_, _%_, _^_, _<_}
 use native.Mathlib.Omega.{arith}
 use borrow.Rule.Slice.PartMut.{putMid}
 use lib.ListN.{length, getD}
+use lib.Pow.{shr-shr}
 use Rattle.bits.specs.Bits.{bitOf, byteOf, fromBits, pack}
 use Rattle.bits.specs.BitLaws.{fromBits-lt, fromBits-ext, fromBits-bitOf}
 use Rattle.bits.specs.Lists.{tabulate}
 use Rattle.bits.specs.ListLaws.{tabulate-ext}
+use Rattle.bits.specs.Tests.{grid}
+use Rattle.blocks.specs.Moves.{turned}
+use Rattle.blocks.specs.MoveLaws.{turned-bit}
 use Rattle.pair_words_core.specs.BackHalves.{payloadSource, payload-low, payload-last}
 use Rattle.pair_words_core.specs.Halves.{halvesBit, payloadIn}
-use Rattle.payload_core.specs.NumberBits.{behind, behind-both, behind-split, bits-amid}
+use Rattle.payload_core.specs.NumberBits.{behind, behind-both, behind-split, bits-amid, number-low}
 use Rattle.payload_core.specs.NumberBits.{byte-of-number, pack-number, pack-part, two-lent}
 use Rattle.payload_core.specs.Riffles.{byBlocks, halfByte, blockByte, blocksByte, row-byte}
 
@@ -24,22 +28,39 @@ firstBit halves i = halvesBit halves (i % 512 / 16 * 128 + i / 512 * 16 + i % 16
 unfoldable pub lastBit : List ℕ → ℕ → ℕ
 lastBit halves i = halvesBit halves (i / 15 * 128 + 96 + i % 15)
 
--- Bit k of number n.
-number-bit : (s : List ℕ) (n k i : ℕ) → k < 16 → i ≡ n * 16 + k → halvesBit s i ≡ bitOf 16 (getD s n 0) k
+-- Bit k of number n, which stands eight columns further on,
+number-bit : (s : List ℕ) (n k i : ℕ) → k < 16 → i ≡ n * 16 + k → halvesBit s i ≡ bitOf 16 (getD s n 0) ((k + 8) % 16)
 unfolding halvesBit
 number-bit s n k i l e =
     let d : i / 16 ≡ n = omega arith in
-    let m : i % 16 ≡ k = omega arith in
+    let m : (i + 8) % 16 ≡ (k + 8) % 16 = omega arith in
     rw (d, m)
+
+-- so that byte 0 is the lower.
+byte-bits : (x h : ℕ) → h < 2 → x / 256 ^ h % 256 ≡ fromBits 8 (λ k. bitOf 16 x ((h * 8 + k + 8) % 16))
+unfolding bitOf
+byte-bits x h l =
+    ap (λ d. x / d % 256) (power h l) ∙ sym (number-low 8 (x / 2 ^ (8 * h)))
+    ∙ fromBits-ext 8 (bitOf 8 (x / 2 ^ (8 * h))) (λ k. bitOf 16 x ((h * 8 + k + 8) % 16))
+    (λ k lk. ap (λ u. u % 2 % 2) (shr-shr x (8 * h) (8 - 1 - k) ∙ ap (λ i. x / 2 ^ i) (place h k l lk)))
+  where
+    power : (h : ℕ) → h < 2 → 256 ^ h ≡ 2 ^ (8 * h)
+    power zero l = refl
+    power (suc zero) l = refl
+    power (suc (suc h)) l = absurd (omega arith)
+
+    place : (h k : ℕ) → h < 2 → k < 8 → 8 * h + (8 - 1 - k) ≡ 16 - 1 - (h * 8 + k + 8) % 16
+    place = grid 2 8 (λ h k. 8 * h + (8 - 1 - k)) (λ h k. 16 - 1 - (h * 8 + k + 8) % 16) tt
 
 -- ---- six blocks
 
 -- Byte h of block C of word w is among the bytes of six blocks.
 number-byte : (s : List ℕ) (c w h j : ℕ) → w < 32 → h < 2 → j ≡ c * 64 + 2 * w + h
-    → byteOf (bitOf 16 (getD s (8 * w + c) 0)) h ≡ byteOf (firstBit s) j
+    → getD s (8 * w + c) 0 / 256 ^ h % 256 ≡ byteOf (firstBit s) j
 unfolding byteOf firstBit
 number-byte s c w h j lw lh e =
-    fromBits-ext 8 (λ k. bitOf 16 (getD s (8 * w + c) 0) (h * 8 + k)) (λ k. firstBit s (j * 8 + k))
+    byte-bits (getD s (8 * w + c) 0) h lh
+    ∙ fromBits-ext 8 (λ k. bitOf 16 (getD s (8 * w + c) 0) ((h * 8 + k + 8) % 16)) (λ k. firstBit s (j * 8 + k))
     (λ k lk.
     let a : (j * 8 + k) % 512 / 16 ≡ w = omega arith in
     let b : (j * 8 + k) / 512 ≡ c = omega arith in
@@ -50,7 +71,7 @@ number-byte s c w h j lw lh e =
 blocks-byte : (s : List ℕ) (j : ℕ) → j < 384 → blocksByte (byBlocks s 0) (byBlocks s 1) j ≡ byteOf (firstBit s) j
 unfolding blocksByte blockByte halfByte
 blocks-byte s j l =
-    row-byte s (j / 64) (j % 64 / 32) (j % 64 % 32 / 2) (j % 64 % 32 % 2) (omega arith) (omega arith) (omega arith) (omega arith)
+    row-byte s (j / 64) (j % 64 / 32) (j % 64 % 32 / 2) (j % 64 % 32 % 2) (omega arith) (omega arith) (omega arith)
     ∙ number-byte s (j / 64) (16 * (j % 64 / 32) + j % 64 % 32 / 2) (j % 64 % 32 % 2) j (omega arith) (omega arith) (omega arith)
 
 -- and all together.
@@ -62,17 +83,18 @@ blocks-are s x y ys p q e =
 
 -- ---- block 6
 
-pub fifteen-is : (s : List ℕ) (w x r : ℕ) → r ≡ x / 2 → x ≡ getD s (8 * w + 6) 0 → r < 2 ^ 15
+pub fifteen-is : (s : List ℕ) (w v x r : ℕ) → r ≡ x / 2 → x ≡ turned v 8 → v ≡ getD s (8 * w + 6) 0 → r < 2 ^ 15
     → r ≡ fromBits 15 (behind (w * 15) (lastBit s))
 unfolding behind lastBit
-fifteen-is s w x r h e l =
+fifteen-is s w v x r h t e l =
     omega (arith, bits-amid 0 15 1 (bitOf 16 x), fromBits-bitOf 16 x (omega arith))
     ∙ fromBits-ext 15 (λ k. bitOf 16 x (0 + k)) (λ k. lastBit s (w * 15 + k))
     (λ k lk.
     let d : (w * 15 + k) / 15 ≡ w = omega arith in
     let m : (w * 15 + k) % 15 ≡ k = omega arith in
     let z : 0 + k ≡ k = omega arith in
-    ap (λ b. b % 2) (rw (d, m, z, e) (sym (number-bit s (8 * w + 6) k _ (omega arith) (omega arith)))))
+    ap (λ b. b % 2)
+    (rw (d, m, z, t, e) (turned-bit (getD s (8 * w + 6) 0) 8 k (omega arith) ∙ sym (number-bit s (8 * w + 6) k _ (omega arith) (omega arith)))))
 
 -- The bits of one of four words.
 pub fifteen-of : (f : ℕ → ℕ) (w i x : ℕ) → x ≡ fromBits 15 (behind ((w + i) * 15) f) → x ≡ fromBits 15 (behind (i * 15) (behind (w * 15) f))

@@ -1,26 +1,18 @@
--- The numbers of a row in order by blocks: each is turned, so that its two bytes are exchanged, and four riffles, as of a pack of cards,
--- bring number 8r+C to place 16C+r.
+-- The numbers of a row in order by blocks: four riffles, as of a pack of cards, bring number 8r+C to place 16C+r.
 -- Assumes nothing.
-use mathlib.Core.Path.{_≡_, refl, ap, ap₂, _∙_}
+use mathlib.Core.Path.{_≡_, refl, ap, _∙_}
 use mathlib.Core.List.{List}
 use Prim.Native.Nat.{ℕ, zero, suc, _+_, _*_, _/_, _%_, _^_, _<_}
 use native.Mathlib.Omega.{arith}
 use borrow.Rule.Slice.PartMut.{putMid}
 use lib.ListN.{length, getD}
-use Rattle.bits.specs.Bits.{bitOf, byteOf}
-use Rattle.bits.specs.BitLaws.{byteOf-lt, fromBits-ext}
 use Rattle.bits.specs.Lists.{tabulate}
 use Rattle.bits.specs.ListLaws.{getD-tabulate, tabulate-ext}
-use Rattle.blocks.specs.Moves.{turned}
-use Rattle.payload_core.specs.NumberBits.{behind, behind-split, two-lent}
+use Rattle.payload_core.specs.NumberBits.{two-lent}
 
--- Number n of the 128 of row s, eight for each of its sixteen words, turned by eight columns, so that its two bytes are exchanged.
-unfoldable pub turnedNumber : List ℕ → ℕ → ℕ → ℕ
-turnedNumber halves s n = turned (getD halves (128 * s + n) 0) 8
-
--- All of them.
-unfoldable pub turnedRow : List ℕ → ℕ → List ℕ
-turnedRow halves s = tabulate 128 (turnedNumber halves s)
+-- The 128 numbers of row s, eight for each of its sixteen words.
+unfoldable pub rowOfHalves : List ℕ → ℕ → List ℕ
+rowOfHalves halves s = tabulate 128 (λ n. getD halves (128 * s + n) 0)
 
 -- The two halves of a row shuffled into each other: places 2n and 2n+1 take number n of the first half and number n of the second.
 unfoldable pub riffledNumber : List ℕ → ℕ → ℕ
@@ -32,7 +24,7 @@ riffled x = tabulate 128 (riffledNumber x)
 
 -- Row s by blocks: number 16C+r is of block C of its word r.
 unfoldable pub byBlocks : List ℕ → ℕ → List ℕ
-byBlocks halves s = riffled (riffled (riffled (riffled (turnedRow halves s))))
+byBlocks halves s = riffled (riffled (riffled (riffled (rowOfHalves halves s))))
 
 -- Byte j of the 32 that block C of a row by blocks gives: of each number the lower byte, then the upper.
 unfoldable pub halfByte : List ℕ → ℕ → ℕ → ℕ
@@ -53,12 +45,7 @@ blocksByte first second j = blockByte first second (j / 64) (j % 64)
 
 -- ---- what code makes
 
--- A number of a row,
-pub turned-is : (halves : List ℕ) (s n x v : ℕ) → v ≡ turned x 8 → x ≡ getD halves (128 * s + n) 0 → v ≡ turnedNumber halves s n
-unfolding turnedNumber
-turned-is halves s n x v e p = e ∙ ap (λ y. turned y 8) p
-
--- two numbers of a riffle,
+-- Two numbers of a riffle,
 pub riffle-even : (x : List ℕ) (n v : ℕ) → v ≡ getD x n 0 → v ≡ riffledNumber x (2 * n)
 unfolding riffledNumber
 riffle-even x n v e = e ∙ ap (λ k. getD x k 0) (omega arith)
@@ -69,11 +56,11 @@ riffle-odd x n v e = e ∙ ap (λ k. getD x k 0) (omega arith)
 
 -- and four riffles.
 pub four-riffles : (halves : List ℕ) (s : ℕ) (x a b c d : List ℕ) → d ≡ riffled c → c ≡ riffled b → b ≡ riffled a → a ≡ riffled x
-    → x ≡ turnedRow halves s → d ≡ byBlocks halves s
+    → x ≡ rowOfHalves halves s → d ≡ byBlocks halves s
 unfolding byBlocks
 four-riffles halves s x a b c d ed ec eb ea ex = ed ∙ ap riffled (ec ∙ ap riffled (eb ∙ ap riffled (ea ∙ ap riffled ex)))
 
-pub ruleset riffling = (turned-is, riffle-even, riffle-odd, four-riffles)
+pub ruleset riffling = (riffle-even, riffle-odd, four-riffles)
 
 -- The two bytes of a number,
 module _ (row : List ℕ) (c r x : ℕ) (e : x ≡ getD row (16 * c + r) 0) where
@@ -138,28 +125,14 @@ riffled-four x m l =
 
 -- so that place 16C+r of a row by blocks takes number 8r+C of the row.
 byBlocks-at : (halves : List ℕ) (s c r : ℕ) → c < 8 → r < 16
-    → getD (byBlocks halves s) (16 * c + r) 0 ≡ turned (getD halves (8 * (16 * s + r) + c) 0) 8
-unfolding byBlocks turnedRow turnedNumber
+    → getD (byBlocks halves s) (16 * c + r) 0 ≡ getD halves (8 * (16 * s + r) + c) 0
+unfolding byBlocks rowOfHalves
 byBlocks-at halves s c r lc lr =
     let p : (16 * c + r) / 16 + 8 * ((16 * c + r) % 16) ≡ 8 * r + c = omega arith in
-    riffled-four (turnedRow halves s) (16 * c + r) (omega arith)
-    ∙ ap (λ i. getD (turnedRow halves s) i 0) p
-    ∙ getD-tabulate 128 (turnedNumber halves s) (8 * r + c) 0 (omega arith)
-    ∙ ap (λ i. turned (getD halves i 0) 8) (omega arith)
-
--- Turned by eight columns, a number has its first byte below and its second above.
-turned-bytes : (x : ℕ) → turned x 8 ≡ byteOf (bitOf 16 x) 1 * 256 + byteOf (bitOf 16 x) 0
-unfolding turned byteOf behind
-turned-bytes x =
-    behind-split 8 8 (λ c. bitOf 16 x ((c + 8) % 16))
-    ∙ ap₂ (λ a b. a * 256 + b)
-    (fromBits-ext 8 (λ c. bitOf 16 x ((c + 8) % 16)) (λ k. bitOf 16 x (1 * 8 + k)) (λ k l. ap (λ i. bitOf 16 x i % 2) (omega arith)))
-    (fromBits-ext 8 (λ k. bitOf 16 x ((8 + k + 8) % 16)) (λ k. bitOf 16 x (0 * 8 + k)) (λ k l. ap (λ i. bitOf 16 x i % 2) (omega arith)))
-
-turned-byte : (x h : ℕ) → h < 2 → turned x 8 / 256 ^ h % 256 ≡ byteOf (bitOf 16 x) h
-turned-byte x zero l = omega (arith, turned-bytes x, byteOf-lt (bitOf 16 x) 0)
-turned-byte x (suc zero) l = omega (arith, turned-bytes x, byteOf-lt (bitOf 16 x) 0, byteOf-lt (bitOf 16 x) 1)
-turned-byte x (suc (suc h)) l = absurd (omega arith)
+    riffled-four (rowOfHalves halves s) (16 * c + r) (omega arith)
+    ∙ ap (λ i. getD (rowOfHalves halves s) i 0) p
+    ∙ getD-tabulate 128 (λ n. getD halves (128 * s + n) 0) (8 * r + c) 0 (omega arith)
+    ∙ ap (λ i. getD halves i 0) (omega arith)
 
 -- The rows are given by their number.
 rowOf-is : (f : ℕ → List ℕ) (s : ℕ) → s < 2 → rowOf (f 0) (f 1) s ≡ f s
@@ -168,10 +141,10 @@ rowOf-is f zero l = refl
 rowOf-is f (suc zero) l = refl
 rowOf-is f (suc (suc s)) l = absurd (omega arith)
 
--- Byte h that number 16C+r of row s gives is byte h of block C of word 16s+r.
-pub row-byte : (halves : List ℕ) (c s r h : ℕ) → c < 8 → s < 2 → r < 16 → h < 2
+-- Byte h that number 16C+r of row s gives is that of block C of word 16s+r.
+pub row-byte : (halves : List ℕ) (c s r h : ℕ) → c < 8 → s < 2 → r < 16
     → getD (rowOf (byBlocks halves 0) (byBlocks halves 1) s) (16 * c + r) 0 / 256 ^ h % 256
-    ≡ byteOf (bitOf 16 (getD halves (8 * (16 * s + r) + c) 0)) h
-row-byte halves c s r h lc ls lr lh =
+    ≡ getD halves (8 * (16 * s + r) + c) 0 / 256 ^ h % 256
+row-byte halves c s r h lc ls lr =
     ap (λ row. getD row (16 * c + r) 0 / 256 ^ h % 256) (rowOf-is (byBlocks halves) s ls)
-    ∙ ap (λ x. x / 256 ^ h % 256) (byBlocks-at halves s c r lc lr) ∙ turned-byte (getD halves (8 * (16 * s + r) + c) 0) h lh
+    ∙ ap (λ x. x / 256 ^ h % 256) (byBlocks-at halves s c r lc lr)

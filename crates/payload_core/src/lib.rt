@@ -9,7 +9,7 @@ ghost use Rattle.bits.specs.Lists.{tabulate};
 ghost use Rattle.pair_words_core.specs.Halves.{payloadIn};
 ghost use Rattle.payload_core.specs.NumberBits.{behind};
 ghost use Rattle.payload_core.specs.PayloadParts.{lastBit};
-ghost use Rattle.payload_core.specs.Riffles.{turnedRow, riffled, byBlocks, halfByte, blockByte, blocksByte};
+ghost use Rattle.payload_core.specs.Riffles.{rowOfHalves, riffled, byBlocks, halfByte, blockByte, blocksByte};
 
 // A number.
 fn number(halves: &[u16; 256], n: usize) -> u16
@@ -19,14 +19,14 @@ fn number(halves: &[u16; 256], n: usize) -> u16
     halves[n]
 }
 
-// The numbers of a row's sixteen words, turned by eight columns: so their two bytes are exchanged.
-fn turned_row(halves: &[u16; 256], s: usize) -> [u16; 128]
+// The numbers of a row's sixteen words.
+fn row_of_halves(halves: &[u16; 256], s: usize) -> [u16; 128]
     requires { ⌜ s < 2 ⌝ }
-    ensures { λ r. ⌜ r ≡ turnedRow (now (halves .entry)) s ⌝ }
+    ensures { λ r. ⌜ r ≡ rowOfHalves (now (halves .entry)) s ⌝ }
 {
     let mut x = [0u16; 128];
     for n in 0..128 {
-        x[n] = turn(number(halves, 128 * s + n), 8);
+        x[n] = halves[128 * s + n];
     }
     x
 }
@@ -50,7 +50,7 @@ fn by_blocks(halves: &[u16; 256], s: usize) -> [u16; 128]
     requires { ⌜ s < 2 ⌝ }
     ensures { λ r. ⌜ r ≡ byBlocks (now (halves .entry)) s ⌝ }
 {
-    let x = turned_row(halves, s);
+    let x = row_of_halves(halves, s);
     riffle(riffle(riffle(riffle(x))))
 }
 
@@ -62,7 +62,7 @@ fn in_row(row: &[u16; 128], n: usize) -> u16
     row[n]
 }
 
-// Block C of a row by blocks, two bytes a number, the lower byte first, since the bytes were exchanged.
+// Block C of a row by blocks, two bytes a number, the lower byte first, as they lie in memory.
 fn put_half(row: &[u16; 128], block: usize, out: &mut [u8])
     requires { ⌜ (length (now out) ≡ 32) × (block < 6) ⌝ }
     ensures { λ _. ⌜ now (out .exit) ≡ tabulate 32 (halfByte (now (row .entry)) block) ⌝ }
@@ -104,12 +104,12 @@ fn upper_fifteen(x: u16) -> u64
     (x / 2) as u64
 }
 
-// The last fifteen payload bits of a word: block 6 without its last bit.
+// The last fifteen payload bits of a word: block 6 without its last bit, after its two bytes were exchanged.
 fn last_fifteen(halves: &[u16; 256], w: usize) -> u64
     requires { ⌜ w < 32 ⌝ }
     ensures { λ r. ⌜ (r ≡ fromBits 15 (behind (w * 15) (lastBit (now (halves .entry))))) × (r < 2 ^ 15) ⌝ }
 {
-    upper_fifteen(number(halves, 8 * w + 6))
+    upper_fifteen(turn(number(halves, 8 * w + 6), 8))
 }
 
 // Those of four words, from word w on.

@@ -11,7 +11,7 @@ pub by-blocks-spec : {M : Type 1} → statement M
 by-blocks-spec =
     tie.close
     (tie.spec
-    (λ c κs. search kit)  -- turned-row-requires
+    (λ c κs. search kit)  -- row-of-halves-requires
     (λ c κs. search kit)  -- riffle-requires
     (λ c κs. search kit)  -- riffle-requires-2
     (λ c κs. search kit)  -- riffle-requires-3

@@ -14,5 +14,6 @@ last-fifteen-spec =
     (λ c. search kit)  -- mul-number
     (λ c. search kit)  -- add-number
     (λ c κs. search kit)  -- number-requires
+    (λ c κs. search kit)  -- turn-requires
     (λ c κs. search kit)  -- upper-fifteen-requires
     (λ c. search kit))  -- returns

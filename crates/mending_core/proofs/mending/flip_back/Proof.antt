@@ -15,6 +15,7 @@ flip-back-spec =
     (λ c. search kit)  -- add-n
     (λ c. search kit)  -- mul-v
     (λ c. search kit)  -- element-copy-out-v
+    (λ c. search kit)  -- add-flipped-number
     (λ c. search kit)  -- cast-flipped-number
     (λ c κs. search kit)  -- flipped-number-requires
     (λ c. search kit)  -- mul-halves
