@@ -1,3 +1,3 @@
 pub mod NumberBits
-pub mod Riffles
+pub mod RowBytes
 pub mod PayloadParts

@@ -19,7 +19,7 @@ use Rattle.pair_words_core.specs.BackHalves.{payloadSource, payload-low, payloa
 use Rattle.pair_words_core.specs.Halves.{halvesBit, payloadIn}
 use Rattle.payload_core.specs.NumberBits.{behind, behind-both, behind-split, bits-amid, number-low}
 use Rattle.payload_core.specs.NumberBits.{byte-of-number, pack-number, pack-part, two-lent}
-use Rattle.payload_core.specs.Riffles.{byBlocks, halfByte, blockByte, blocksByte, row-byte}
+use Rattle.payload_core.specs.RowBytes.{rowByBlocks, halfByte, blockByte, blocksByte, row-byte}
 
 -- Bit i of what six blocks of the words give, and of what block 6 gives.
 unfoldable pub firstBit : List ℕ → ℕ → ℕ
@@ -68,18 +68,18 @@ number-byte s c w h j lw lh e =
     ap (λ b. b % 2) (rw (a, b, d) (sym (number-bit s (8 * w + c) (h * 8 + k) _ (omega arith) (omega arith)))))
 
 -- What both rows by blocks give are these bytes, one by one
-blocks-byte : (s : List ℕ) (j : ℕ) → j < 384 → blocksByte (byBlocks s 0) (byBlocks s 1) j ≡ byteOf (firstBit s) j
+blocks-byte : (s : List ℕ) (j : ℕ) → j < 384 → blocksByte (rowByBlocks s 0) (rowByBlocks s 1) j ≡ byteOf (firstBit s) j
 unfolding blocksByte blockByte halfByte
 blocks-byte s j l =
     row-byte s (j / 64) (j % 64 / 32) (j % 64 % 32 / 2) (j % 64 % 32 % 2) (omega arith) (omega arith) (omega arith)
     ∙ number-byte s (j / 64) (16 * (j % 64 / 32) + j % 64 % 32 / 2) (j % 64 % 32 % 2) j (omega arith) (omega arith) (omega arith)
 
 -- and all together.
-blocks-are : (s x y ys : List ℕ) → x ≡ byBlocks s 0 → y ≡ byBlocks s 1 → ys ≡ tabulate 384 (blocksByte x y) → ys ≡ pack 384 (firstBit s)
+blocks-are : (s x y ys : List ℕ) → x ≡ rowByBlocks s 0 → y ≡ rowByBlocks s 1 → ys ≡ tabulate 384 (blocksByte x y) → ys ≡ pack 384 (firstBit s)
 unfolding pack
 blocks-are s x y ys p q e =
     e ∙ ap₂ (λ a b. tabulate 384 (blocksByte a b)) p q
-    ∙ tabulate-ext 384 (blocksByte (byBlocks s 0) (byBlocks s 1)) (byteOf (firstBit s)) (blocks-byte s)
+    ∙ tabulate-ext 384 (blocksByte (rowByBlocks s 0) (rowByBlocks s 1)) (byteOf (firstBit s)) (blocks-byte s)
 
 -- ---- block 6
 
@@ -141,7 +141,7 @@ pub ruleset lastwise = (fifteen-is, fifteen-of, byte-of-64, eight-words, eight-p
 
 -- ---- both
 
-pub payload-parts : (s x y d ys zs : List ℕ) → length d ≡ 444 → x ≡ byBlocks s 0 → y ≡ byBlocks s 1 → ys ≡ tabulate 384 (blocksByte x y)
+pub payload-parts : (s x y d ys zs : List ℕ) → length d ≡ 444 → x ≡ rowByBlocks s 0 → y ≡ rowByBlocks s 1 → ys ≡ tabulate 384 (blocksByte x y)
     → zs ≡ pack 60 (lastBit s) → putMid 384 60 (putMid 0 384 d ys) zs ≡ payloadIn s
 unfolding payloadIn pack firstBit lastBit
 payload-parts s x y d ys zs long ex ey eb ez =

@@ -1,6 +1,7 @@
 // Workers: from the back halves of a pair's 32 words in numbers of sixteen bits, number 8w+C of block C of word w, to its payload. Over
-// `pair_words_core`, below `receiving_core`.
+// `pair_words_core` and `riffle_core`, below `receiving_core`.
 use blocks::turn;
+use riffle_core::by_blocks;
 ghost use mathlib.Core.Path.{_≡_};
 ghost use Prim.Native.Nat.{_+_, _*_, _/_, _^_, _<_, _≤_};
 ghost use lib.ListN.{length, getD};
@@ -9,7 +10,7 @@ ghost use Rattle.bits.specs.Lists.{tabulate};
 ghost use Rattle.pair_words_core.specs.Halves.{payloadIn};
 ghost use Rattle.payload_core.specs.NumberBits.{behind};
 ghost use Rattle.payload_core.specs.PayloadParts.{lastBit};
-ghost use Rattle.payload_core.specs.Riffles.{rowOfHalves, riffled, byBlocks, halfByte, blockByte, blocksByte};
+ghost use Rattle.payload_core.specs.RowBytes.{rowOfHalves, rowByBlocks, halfByte, blockByte, blocksByte};
 
 // A number.
 fn number(halves: &[u16; 256], n: usize) -> u16
@@ -31,27 +32,12 @@ fn row_of_halves(halves: &[u16; 256], s: usize) -> [u16; 128]
     x
 }
 
-// The two halves of a row shuffled into each other.
-fn riffle(x: [u16; 128]) -> [u16; 128]
-    ensures { λ r. ⌜ r ≡ riffled x ⌝ }
-{
-    let mut y = [0u16; 128];
-    for n in 0..64 {
-        let i = 2 * n;
-        let j = i + 1;
-        y[i] = x[n];
-        y[j] = x[64 + n];
-    }
-    y
-}
-
 // These in order by blocks: number 16C+r is of block C of the row's word r.
-fn by_blocks(halves: &[u16; 256], s: usize) -> [u16; 128]
+fn row_by_blocks(halves: &[u16; 256], s: usize) -> [u16; 128]
     requires { ⌜ s < 2 ⌝ }
-    ensures { λ r. ⌜ r ≡ byBlocks (now (halves .entry)) s ⌝ }
+    ensures { λ r. ⌜ r ≡ rowByBlocks (now (halves .entry)) s ⌝ }
 {
-    let x = row_of_halves(halves, s);
-    riffle(riffle(riffle(riffle(x))))
+    by_blocks(row_of_halves(halves, s))
 }
 
 // A number of a row.
@@ -163,8 +149,8 @@ pub fn put_payload(halves: &[u16; 256], payload: &mut [u8])
     requires { ⌜ length (now payload) ≡ 444 ⌝ }
     ensures { λ _. ⌜ now (payload .exit) ≡ payloadIn (now (halves .entry)) ⌝ }
 {
-    let first = by_blocks(halves, 0);
-    let second = by_blocks(halves, 1);
+    let first = row_by_blocks(halves, 0);
+    let second = row_by_blocks(halves, 1);
     put_blocks(&first, &second, &mut payload[0..384]);
     put_last(halves, &mut payload[384..444]);
 }

@@ -19,7 +19,8 @@ use Rattle.blocks.specs.Moves.{turned}
 use Rattle.blocks.specs.SideBySide.{readWord}
 use Rattle.pair_words_core.specs.WordBytes.{ownBit, own-low, own-high, own-none}
 use Rattle.payload_core.specs.NumberBits.{behind, bits-amid}
-use Rattle.payload_core.specs.Riffles.{byWords, by-words-at}
+use Rattle.riffle_core.specs.Riffles.{byWords}
+use Rattle.riffle_core.specs.RiffleLaws.{by-words-at}
 use Rattle.payload_rows_core.specs.PayloadRows.{openNumber, rowNumber, eightBytes, fifteenOf, eightNumber, lastNumber}
 
 -- ---- six blocks

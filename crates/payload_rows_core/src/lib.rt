@@ -1,8 +1,9 @@
 // Workers: from the payload of a pair to the back halves of its 32 words before their completion, in numbers of sixteen bits, number 8w+C
-// of block C of word w, their bytes exchanged, with zeros where the check bits will be. Over `payload_core`.
+// of block C of word w, their bytes exchanged, with zeros where the check bits will be. Over `riffle_core` and
+// `payload_core`.
 use blocks::read_word;
 use blocks::turn;
-use payload_core::by_words;
+use riffle_core::by_words;
 ghost use mathlib.Core.Path.{_≡_};
 ghost use Prim.Native.Nat.{_+_, _*_, _<_, _≤_};
 ghost use lib.ListN.{length};

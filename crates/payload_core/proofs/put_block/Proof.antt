@@ -1,6 +1,6 @@
 -- `payload_core::put_block` meets its contract: both rows.
 -- Assumes nothing.
-use Rattle.payload_core.specs.Riffles.{blockwise}
+use Rattle.payload_core.specs.RowBytes.{blockwise}
 use borrow.Author.Needs.{needs}
 use Rattle.payload_core.proofs.put_block.Statement.{statement}
 use Rattle.payload_core.proofs.put_block.Tie as tie

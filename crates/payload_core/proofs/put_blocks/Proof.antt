@@ -3,7 +3,7 @@
 use Prim.Native.Nat.{_-_}
 use Rattle.bits.specs.Filling.{Blocks, by-blocks}
 use Rattle.bits.specs.PartLaws.{part-long}
-use Rattle.payload_core.specs.Riffles.{blocksByte, blockwise}
+use Rattle.payload_core.specs.RowBytes.{blocksByte, blockwise}
 use borrow.Author.Needs.{needs}
 use Rattle.payload_core.proofs.put_blocks.Statement.{statement}
 use Rattle.payload_core.proofs.put_blocks.Tie as tie

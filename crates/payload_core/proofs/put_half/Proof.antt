@@ -2,7 +2,7 @@
 -- Assumes nothing.
 use Prim.Native.Nat.{_-_}
 use Rattle.blocks.specs.Twos.{Twos, twos}
-use Rattle.payload_core.specs.Riffles.{halfByte, blockwise}
+use Rattle.payload_core.specs.RowBytes.{halfByte, blockwise}
 use borrow.Author.Needs.{needs}
 use Rattle.payload_core.proofs.put_half.Statement.{statement}
 use Rattle.payload_core.proofs.put_half.Tie as tie

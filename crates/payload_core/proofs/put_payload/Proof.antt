@@ -11,8 +11,8 @@ pub put-payload-spec : {M : Type 1} → statement M
 put-payload-spec =
     tie.close
     (tie.spec
-    (λ c κs. search kit)  -- by-blocks-requires
-    (λ c κs. search kit)  -- by-blocks-requires-2
+    (λ c κs. search kit)  -- row-by-blocks-requires
+    (λ c κs. search kit)  -- row-by-blocks-requires-2
     (λ c. search kit)  -- sub-put-blocks
     (λ c. search kit)  -- part-put-blocks-start
     (λ c. search kit)  -- part-put-blocks-end

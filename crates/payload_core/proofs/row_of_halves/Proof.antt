@@ -3,7 +3,7 @@
 use Prim.Native.Nat.{_+_, _-_, _*_}
 use lib.ListN.{getD}
 use Rattle.bits.specs.Filling.{Filling, fill}
-use Rattle.payload_core.specs.Riffles.{rowOfHalves}
+use Rattle.payload_core.specs.RowBytes.{rowOfHalves}
 use borrow.Author.Needs.{needs}
 use Rattle.payload_core.proofs.row_of_halves.Statement.{statement}
 use Rattle.payload_core.proofs.row_of_halves.Tie as tie

@@ -1,4 +1,4 @@
--- The numbers of a row in order by blocks: four riffles, as of a pack of cards, bring number 8r+C to place 16C+r.
+-- The numbers of a row of halves in order by blocks, and the bytes that they give.
 -- Assumes nothing.
 use mathlib.Core.Path.{_≡_, refl, ap, _∙_}
 use mathlib.Core.List.{List}
@@ -8,23 +8,17 @@ use borrow.Rule.Slice.PartMut.{putMid}
 use lib.ListN.{length, getD}
 use Rattle.bits.specs.Lists.{tabulate}
 use Rattle.bits.specs.ListLaws.{getD-tabulate, tabulate-ext}
+use Rattle.riffle_core.specs.Riffles.{byBlocks}
+use Rattle.riffle_core.specs.RiffleLaws.{by-blocks-at}
 use Rattle.payload_core.specs.NumberBits.{two-lent}
 
 -- The 128 numbers of row s, eight for each of its sixteen words.
 unfoldable pub rowOfHalves : List ℕ → ℕ → List ℕ
 rowOfHalves halves s = tabulate 128 (λ n. getD halves (128 * s + n) 0)
 
--- The two halves of a row shuffled into each other: places 2n and 2n+1 take number n of the first half and number n of the second.
-unfoldable pub riffledNumber : List ℕ → ℕ → ℕ
-riffledNumber x m = getD x (m / 2 + 64 * (m % 2)) 0
-
--- The row after a riffle.
-unfoldable pub riffled : List ℕ → List ℕ
-riffled x = tabulate 128 (riffledNumber x)
-
 -- Row s by blocks: number 16C+r is of block C of its word r.
-unfoldable pub byBlocks : List ℕ → ℕ → List ℕ
-byBlocks halves s = riffled (riffled (riffled (riffled (rowOfHalves halves s))))
+unfoldable pub rowByBlocks : List ℕ → ℕ → List ℕ
+rowByBlocks halves s = byBlocks (rowOfHalves halves s)
 
 -- Byte j of the 32 that block C of a row by blocks gives: of each number the lower byte, then the upper.
 unfoldable pub halfByte : List ℕ → ℕ → ℕ → ℕ
@@ -45,24 +39,12 @@ blocksByte first second j = blockByte first second (j / 64) (j % 64)
 
 -- ---- what code makes
 
--- Two numbers of a riffle,
-pub riffle-even : (x : List ℕ) (n v : ℕ) → v ≡ getD x n 0 → v ≡ riffledNumber x (2 * n)
-unfolding riffledNumber
-riffle-even x n v e = e ∙ ap (λ k. getD x k 0) (omega arith)
+-- Row s by blocks,
+pub by-blocks-made : (halves : List ℕ) (s : ℕ) (x r : List ℕ) → r ≡ byBlocks x → x ≡ rowOfHalves halves s → r ≡ rowByBlocks halves s
+unfolding rowByBlocks
+by-blocks-made halves s x r e p = e ∙ ap byBlocks p
 
-pub riffle-odd : (x : List ℕ) (n v : ℕ) → v ≡ getD x (64 + n) 0 → v ≡ riffledNumber x (2 * n + 1)
-unfolding riffledNumber
-riffle-odd x n v e = e ∙ ap (λ k. getD x k 0) (omega arith)
-
--- and four riffles.
-pub four-riffles : (halves : List ℕ) (s : ℕ) (x a b c d : List ℕ) → d ≡ riffled c → c ≡ riffled b → b ≡ riffled a → a ≡ riffled x
-    → x ≡ rowOfHalves halves s → d ≡ byBlocks halves s
-unfolding byBlocks
-four-riffles halves s x a b c d ed ec eb ea ex = ed ∙ ap riffled (ec ∙ ap riffled (eb ∙ ap riffled (ea ∙ ap riffled ex)))
-
-pub ruleset riffling = (riffle-even, riffle-odd, four-riffles)
-
--- The two bytes of a number,
+-- the two bytes of a number,
 module _ (row : List ℕ) (c r x : ℕ) (e : x ≡ getD row (16 * c + r) 0) where
   pub half-lower : x % 256 ≡ halfByte row c (2 * r)
   unfolding halfByte
@@ -110,27 +92,11 @@ pub ruleset blockwise = (half-lower, half-upper, both-halves, block-part)
 
 -- ---- where a number comes from
 
--- A place of a riffled row takes its number from the place that has the lowest of its seven bits as the highest,
-riffled-at : (x : List ℕ) (m k : ℕ) → m < 128 → m / 2 + 64 * (m % 2) ≡ k → getD (riffled x) m 0 ≡ getD x k 0
-unfolding riffled riffledNumber
-riffled-at x m k l e = getD-tabulate 128 (riffledNumber x) m 0 l ∙ ap (λ i. getD x i 0) e
-
--- of a row riffled four times, from the place that has the lowest four as the highest,
-riffled-four : (x : List ℕ) (m : ℕ) → m < 128 → getD (riffled (riffled (riffled (riffled x)))) m 0 ≡ getD x (m / 16 + 8 * (m % 16)) 0
-riffled-four x m l =
-    riffled-at (riffled (riffled (riffled x))) m (m / 2 + 64 * (m % 2)) l refl
-    ∙ riffled-at (riffled (riffled x)) (m / 2 + 64 * (m % 2)) (m / 4 + 32 * (m % 4)) (omega arith) (omega arith)
-    ∙ riffled-at (riffled x) (m / 4 + 32 * (m % 4)) (m / 8 + 16 * (m % 8)) (omega arith) (omega arith)
-    ∙ riffled-at x (m / 8 + 16 * (m % 8)) (m / 16 + 8 * (m % 16)) (omega arith) (omega arith)
-
--- so that place 16C+r of a row by blocks takes number 8r+C of the row.
-byBlocks-at : (halves : List ℕ) (s c r : ℕ) → c < 8 → r < 16
-    → getD (byBlocks halves s) (16 * c + r) 0 ≡ getD halves (8 * (16 * s + r) + c) 0
-unfolding byBlocks rowOfHalves
-byBlocks-at halves s c r lc lr =
-    let p : (16 * c + r) / 16 + 8 * ((16 * c + r) % 16) ≡ 8 * r + c = omega arith in
-    riffled-four (rowOfHalves halves s) (16 * c + r) (omega arith)
-    ∙ ap (λ i. getD (rowOfHalves halves s) i 0) p
+-- Place 16C+r of row s by blocks takes block C of word 16s+r.
+by-blocks-row : (halves : List ℕ) (s c r : ℕ) → c < 8 → r < 16 → getD (rowByBlocks halves s) (16 * c + r) 0 ≡ getD halves (8 * (16 * s + r) + c) 0
+unfolding rowByBlocks rowOfHalves
+by-blocks-row halves s c r lc lr =
+    by-blocks-at (rowOfHalves halves s) r c lr lc
     ∙ getD-tabulate 128 (λ n. getD halves (128 * s + n) 0) (8 * r + c) 0 (omega arith)
     ∙ ap (λ i. getD halves i 0) (omega arith)
 
@@ -143,8 +109,8 @@ rowOf-is f (suc (suc s)) l = absurd (omega arith)
 
 -- Byte h that number 16C+r of row s gives is that of block C of word 16s+r.
 pub row-byte : (halves : List ℕ) (c s r h : ℕ) → c < 8 → s < 2 → r < 16
-    → getD (rowOf (byBlocks halves 0) (byBlocks halves 1) s) (16 * c + r) 0 / 256 ^ h % 256
+    → getD (rowOf (rowByBlocks halves 0) (rowByBlocks halves 1) s) (16 * c + r) 0 / 256 ^ h % 256
     ≡ getD halves (8 * (16 * s + r) + c) 0 / 256 ^ h % 256
 row-byte halves c s r h lc ls lr =
-    ap (λ row. getD row (16 * c + r) 0 / 256 ^ h % 256) (rowOf-is (byBlocks halves) s ls)
-    ∙ ap (λ x. x / 256 ^ h % 256) (byBlocks-at halves s c r lc lr)
+    ap (λ row. getD row (16 * c + r) 0 / 256 ^ h % 256) (rowOf-is (rowByBlocks halves) s ls)
+    ∙ ap (λ x. x / 256 ^ h % 256) (by-blocks-row halves s c r lc lr)
