@@ -109,7 +109,7 @@ module _ (h y : List ℕ) (P w : ℕ) (lw : w < 32) where
       fill-ext 16 f (omega arith)
       (λ j l. byteOf-ext (frontHeld depth h P w) (firstBits (openWord depth h P y w)) j (λ k lk. open-front-bit depth h y P w lw (j * 8 + k) _ (omega arith) refl))
 
-  own-is : (k : ℕ) → 128 ≤ k → k < 256 → ownBit y w k ≡ firstBits (openWord depth h P y w) k
+  pub own-is : (k : ℕ) → 128 ≤ k → k < 256 → ownBit y w k ≡ firstBits (openWord depth h P y w) k
   own-is k l m = go (decLt k 224) (decLt k 239)
     where
       go : Dec (k < 224) → Dec (k < 239) → ownBit y w k ≡ firstBits (openWord depth h P y w) k

@@ -96,7 +96,7 @@ fronts-bit h from a e j C r lj lC lr =
 -- ---- back halves in order
 
 -- Turning a row by eight columns and exchanging them by ^r commute.
-turned-exchanged : (r c : ℕ) → r < 16 → c < 16 → ((c ⊕ r) + 8) % 16 ≡ ((c + 8) % 16) ⊕ r
+pub turned-exchanged : (r c : ℕ) → r < 16 → c < 16 → ((c ⊕ r) + 8) % 16 ≡ ((c + 8) % 16) ⊕ r
 unfolding _⊕_
 turned-exchanged = grid 16 16 (λ r c. ((c ⊕ r) + 8) % 16) (λ r c. ((c + 8) % 16) ⊕ r) tt
 
@@ -105,6 +105,15 @@ unfolding columnsExchanged moved block rowWord
 exchanged-row s f r l =
     getD-tabulate 16 (rowWord (λ i c. bitAt (blockAt s f) i (c ⊕ i))) r 0 l
     ∙ fromBits-ext 16 (λ c. bitAt (blockAt s f) r (c ⊕ r)) (λ c. bit s (f r (c ⊕ r))) (λ c lc. ap (λ u. u % 2) (at-bit s f r (c ⊕ r) l (⊕-lt 4 c r lc l)))
+
+-- A number of a row whose columns were exchanged.
+pub exchanged-bit : (row : List ℕ) (r C c : ℕ) → r < 16 → C < 8 → c < 16
+    → bitOf 16 (getD (backsIn row) (8 * r + C) 0) c ≡ bitOf 16 (getD row (8 * r + C) 0) (c ⊕ r)
+unfolding backsIn backsBlock columnsExchanged rowBlock bitAt
+exchanged-bit row r C c lr lC lc =
+    laid-bit (backsBlock row) C r c lC lr
+    ∙ moved-bit (λ i c. i) (λ i c. c ⊕ i) (rowBlock row C) r c lr lc
+    ∙ ap (λ u. bitOf 16 u (c ⊕ r)) (getD-tabulate 16 (λ r. getD row (8 * r + C) 0) r 0 lr)
 
 pub halves-row : (p : List ℕ) (s : ℕ) (words row : List ℕ) → words ≡ rowWords p (256 * s) → row ≡ backsIn words
     → row ≡ tabulate 128 (λ i. codedHalf p (s * 128 + i))

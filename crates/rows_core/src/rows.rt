@@ -75,8 +75,9 @@ fn fronts_in(words: &[u16; 128]) -> [u16; 128]
     row
 }
 
-// The columns of each block exchanged: number 8r+C holds bits 16C to 16C+15 of the back half of word r, as two bytes lie in memory.
-fn backs_in(words: &[u16; 128]) -> [u16; 128]
+// The columns of each block exchanged: of words that were read, number 8r+C then holds bits 16C to 16C+15 of the back half of word r, as two
+// bytes lie in memory; of these it is the word to be written.
+pub fn backs_in(words: &[u16; 128]) -> [u16; 128]
     ensures { λ r. ⌜ r ≡ backsIn (now (words .entry)) ⌝ }
 {
     let mut row = [0u16; 128];

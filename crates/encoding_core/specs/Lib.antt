@@ -1,0 +1,3 @@
+pub mod CodedRows
+pub mod CodedRowLaws
+pub mod EncodingLaws
