@@ -19,7 +19,8 @@ fn flipped_number(v: u16, j: usize, b: u16) -> u16
     v ^ (b << (15 - j))
 }
 
-// Flips bit k of word w, if it is one of the back half: it stands eight columns further on. A branch on where the bit falls would go either way as often.
+// Flips bit k of word w, if it is one of the back half: it stands eight columns further on. A branch on where the bit falls would go either
+// way as often.
 fn flip_back(halves: &mut [u16; 256], w: usize, k: usize)
     requires { ⌜ (w < 32) × (k < 256) ⌝ }
     ensures { λ _. ⌜ now (halves .exit) ≡ flippedBack w k (now (halves .entry)) ⌝ }

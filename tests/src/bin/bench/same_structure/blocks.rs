@@ -15,6 +15,15 @@ pub fn choose(m: u16, x: u16, y: u16) -> u16 {
     y ^ ((x ^ y) & m)
 }
 
+/// Block C of a row.
+pub fn block_of(row: &BlockRow, block: usize) -> Block {
+    let mut b = [0; 16];
+    for r in 0..16 {
+        b[r] = row[8 * r + block];
+    }
+    b
+}
+
 /// Block C of words whose bytes stand the other way round.
 pub fn block_in(words: &BlockRow, block: usize) -> Block {
     let mut b = [0; 16];

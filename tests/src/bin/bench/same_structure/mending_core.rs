@@ -11,10 +11,10 @@ fn flipped_number(v: u16, j: usize, b: u16) -> u16 {
     v ^ (b << (15 - j))
 }
 
-/// Flips bit k of word w, if it is one of the back half.
+/// Flips bit k of word w, if it is one of the back half: it stands eight columns further on.
 fn flip_back(halves: &mut [u16; 256], w: usize, k: usize) {
     let n = 8 * w + k % 128 / 16;
-    halves[n] = flipped_number(halves[n], k % 16, (k / 128 % 2) as u16);
+    halves[n] = flipped_number(halves[n], (k + 8) % 16, (k / 128 % 2) as u16);
 }
 
 /// Flips bit i of a buffer where b is 1.

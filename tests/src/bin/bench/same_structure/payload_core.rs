@@ -6,11 +6,11 @@ fn number(halves: &[u16; 256], n: usize) -> u16 {
     halves[n]
 }
 
-/// The numbers of a row's sixteen words, turned by eight columns: so their two bytes are exchanged.
-fn turned_row(halves: &[u16; 256], s: usize) -> [u16; 128] {
+/// The numbers of a row's sixteen words.
+fn row_of_halves(halves: &[u16; 256], s: usize) -> [u16; 128] {
     let mut x = [0; 128];
     for n in 0..128 {
-        x[n] = turn(number(halves, 128 * s + n), 8);
+        x[n] = halves[128 * s + n];
     }
     x
 }
@@ -27,7 +27,7 @@ fn riffle(x: [u16; 128]) -> [u16; 128] {
 
 /// These in order by blocks: number 16C+r is of block C of the row's word r.
 fn by_blocks(halves: &[u16; 256], s: usize) -> [u16; 128] {
-    let x = turned_row(halves, s);
+    let x = row_of_halves(halves, s);
     riffle(riffle(riffle(riffle(x))))
 }
 
@@ -63,7 +63,7 @@ fn upper_fifteen(x: u16) -> u64 {
 
 /// The last fifteen payload bits of a word.
 fn last_fifteen(halves: &[u16; 256], w: usize) -> u64 {
-    upper_fifteen(number(halves, 8 * w + 6))
+    upper_fifteen(turn(number(halves, 8 * w + 6), 8))
 }
 
 /// Those of four words, from word w on.

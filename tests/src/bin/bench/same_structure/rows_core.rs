@@ -1,6 +1,6 @@
 //! crates/rows_core: rows as words of sixteen bits, eight blocks side by side: read in byte order, and with the words of a pair put in order.
 
-use super::blocks::{block_in, lay, Block, BlockRow};
+use super::blocks::{block_in, block_of, lay, Block, BlockRow};
 use super::permutation_core::{exchange_columns, exchange_rows, transpose};
 
 /// Bytes j and j+1, the second the upper.
@@ -51,11 +51,11 @@ fn fronts_in(words: &BlockRow) -> BlockRow {
     row
 }
 
-/// The columns of each block exchanged: number 8r+C holds bits 16C to 16C+15 of the back half of word r.
+/// The columns of each block exchanged: number 8r+C holds bits 16C to 16C+15 of the back half of word r, as two bytes lie in memory.
 fn backs_in(words: &BlockRow) -> BlockRow {
     let mut row = [0; 128];
     for block in 0..8 {
-        lay(&mut row, block, exchange_columns(block_in(words, block)));
+        lay(&mut row, block, exchange_columns(block_of(words, block)));
     }
     row
 }
@@ -89,11 +89,21 @@ fn half_block(halves: &[u16; 256], s: usize, block: usize) -> Block {
     b
 }
 
-/// The columns of row s of the halves: bit r of number 8j+C is bit 16C+j of the back half of word 16s+r.
+/// The rows of a block turned by eight.
+fn turned_rows(b: Block) -> Block {
+    let mut y = [0; 16];
+    for i in 0..16 {
+        y[i] = b[(i + 8) % 16];
+    }
+    y
+}
+
+/// The columns of row s of the halves, which turns them back: bit r of number 8j+C is bit 16C+j of the back half of word 16s+r.
 fn columns_of(halves: &[u16; 256], s: usize) -> BlockRow {
     let mut row = [0; 128];
     for block in 0..8 {
-        lay(&mut row, block, transpose(half_block(halves, s, block)));
+        let columns = transpose(half_block(halves, s, block));
+        lay(&mut row, block, turned_rows(columns));
     }
     row
 }
