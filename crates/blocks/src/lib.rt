@@ -38,8 +38,8 @@ pub fn choose(m: u16, x: u16, y: u16) -> u16
 }
 
 // Block C of a row.
-pub fn block_of(row: &[u16; 128], block: usize) -> [u16; 16]
-    requires { ⌜ block < 8 ⌝ }
+pub fn block_of(row: &[u16], block: usize) -> [u16; 16]
+    requires { ⌜ (length (now row) ≡ 128) × (block < 8) ⌝ }
     ensures { λ b. ⌜ b ≡ rowBlock (now (row .entry)) block ⌝ }
 {
     let mut b = [0u16; 16];

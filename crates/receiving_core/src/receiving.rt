@@ -6,7 +6,6 @@ use mending_core::mending::repair_words;
 use pair_words_core::history::shift_in;
 use payload_core::put_payload;
 use rows_core::rows;
-use syndromes_core::gather;
 ghost use mathlib.Core.Path.{_≡_};
 ghost use Prim.Native.Nat.{_*_};
 ghost use lib.ListN.{length};
@@ -73,7 +72,7 @@ pub fn receive_into(
 {
     let mut halves = [0u16; 256];
     rows::put_halves(coded, &mut halves);
-    let c = gather(history, &halves, pair);
+    let c = checks::gather(history, &halves, pair);
     let sums = c.sums;
     let odd = c.odd;
     let dirty = checks::dirty(&sums, odd);

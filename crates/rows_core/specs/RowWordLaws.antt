@@ -1,27 +1,32 @@
 -- Laws of rows as words: as code reads them, and where each bit stands.
 -- Assumes nothing.
-use mathlib.Core.Path.{_≡_, sym, ap, _∙_}
+use mathlib.Core.Path.{_≡_, refl, sym, ap, _∙_}
 use mathlib.Core.List.{List}
-use Prim.Native.Nat.{ℕ, _+_, _*_, _/_, _%_, _<_}
+use Prim.Native.Nat.{ℕ, _+_, _-_, _*_, _/_, _%_, _<_, _≤_}
+use native.Mathlib.Decide.{ℕ-discrete}
 use native.Mathlib.Omega.{arith}
+use borrow.Author.Tests.{eq-eqb, ne-eqb}
+use borrow.Rule.Slice.PartMut.{putMid}
 use lib.ListN.{length, getD}
 use Rattle.bits.specs.Bits.{bit, bitOf, fromBits}
-use Rattle.bits.specs.BitLaws.{bit-lt, fromBits-ext}
+use Rattle.bits.specs.BitLaws.{bit-lt, bitOf-fromBits, fromBits-ext}
 use Rattle.bits.specs.Lists.{tabulate}
-use Rattle.bits.specs.ListLaws.{length-tabulate, getD-tabulate, tabulate-ext}
+use Rattle.bits.specs.ListLaws.{length-tabulate, getD-tabulate, is-tabulate, tabulate-ext}
+use Rattle.bits.specs.Parts.{part}
 use Rattle.bits.specs.Xor.{_⊕_}
 use Rattle.bits.specs.XorLaws.{⊕-lt}
 use Rattle.bits.specs.Tests.{grid}
 use Rattle.blocks.specs.Block.{bitAt, rowWord, block}
 use Rattle.blocks.specs.BlockLaws.{bitAt-lt, bitAt-block-of}
 use Rattle.blocks.specs.Exchanges.{rowsExchanged, columnsExchanged}
+use Rattle.blocks.specs.InPlace.{InPlace, place-part, place-next}
 use Rattle.blocks.specs.Laying.{Laid, laid-bit, words-block}
 use Rattle.blocks.specs.Moves.{moved, transposed}
 use Rattle.blocks.specs.MoveLaws.{transposed-bit}
-use Rattle.blocks.specs.SideBySide.{laidWord, laid, readWord, rowBlock, wordsBlock}
+use Rattle.blocks.specs.SideBySide.{laidWord, laid, laidAt, laidIn, readWord, rowBlock, wordsBlock}
 use Rattle.pair_words_core.specs.Halves.{halvesBit}
-use Rattle.rows_core.specs.RowWords.{rowWords, frontBlock, frontWords, frontsBlock, frontsIn, backsBlock, backsIn}
-use Rattle.rows_core.specs.RowWords.{codedHalf, halfBlock, turnedRows, columnsBlock, columnsOf}
+use Rattle.rows_core.specs.RowWords.{rowWords, frontBlock, frontWords, frontsBlock, frontsIn, exchangedNumber, exchanged}
+use Rattle.rows_core.specs.RowWords.{codedHalf, codedHalves, halfBlock, turnedRows, columnsBlock, columnsOf}
 
 -- ---- as code reads them
 
@@ -41,28 +46,18 @@ pub fronts-block : (words : List ℕ) (C : ℕ) (b r : List ℕ) → b ≡ words
 unfolding frontsBlock
 fronts-block words C b r p q = q ∙ ap rowsExchanged p
 
-pub backs-block : (words : List ℕ) (C : ℕ) (b r : List ℕ) → b ≡ rowBlock words C → r ≡ columnsExchanged b → r ≡ backsBlock words C
-unfolding backsBlock
-backs-block words C b r p q = q ∙ ap columnsExchanged p
-
 pub columns-block : (halves : List ℕ) (s C : ℕ) (b t r : List ℕ) → b ≡ halfBlock halves s C → t ≡ transposed b → r ≡ turnedRows t
     → r ≡ columnsBlock halves s C
 unfolding columnsBlock
 columns-block halves s C b t r p q e = e ∙ ap turnedRows (q ∙ ap transposed p)
 
-pub ruleset row-blocks = (fronts-block, backs-block, columns-block)
+pub ruleset row-blocks = (fronts-block, columns-block)
 
 -- ---- blocks of bits that stand somewhere in a buffer
 
 -- The block whose bit at (r, c) is bit f r c of a buffer; and its words as they are read.
 unfoldable pub blockAt : List ℕ → (ℕ → ℕ → ℕ) → List ℕ
 blockAt s f = block (λ r c. bit s (f r c))
-
-row-block : (s : List ℕ) (from C : ℕ) → C < 8 → rowBlock (rowWords s from) C ≡ blockAt s (λ r c. 8 * (from + 2 * (8 * r + C)) + (c + 8) % 16)
-unfolding blockAt block rowWord rowBlock rowWords readWord
-row-block s from C lC =
-    tabulate-ext 16 (λ r. getD (rowWords s from) (8 * r + C) 0) (λ r. readWord s (from + 2 * (8 * r + C)))
-    (λ r lr. getD-tabulate 128 (λ x. readWord s (from + 2 * x)) (8 * r + C) 0 (omega arith))
 
 front-block : (h : List ℕ) (from C : ℕ) → C < 8 → wordsBlock (frontWords h from) C ≡ blockAt h (λ r c. 8 * (514 * C + 16 * r + from) + c)
 unfolding blockAt frontWords laid laidWord frontBlock readWord
@@ -100,41 +95,82 @@ pub turned-exchanged : (r c : ℕ) → r < 16 → c < 16 → ((c ⊕ r) + 8) % 1
 unfolding _⊕_
 turned-exchanged = grid 16 16 (λ r c. ((c ⊕ r) + 8) % 16) (λ r c. ((c + 8) % 16) ⊕ r) tt
 
-exchanged-row : (s : List ℕ) (f : ℕ → ℕ → ℕ) (r : ℕ) → r < 16 → getD (columnsExchanged (blockAt s f)) r 0 ≡ fromBits 16 (λ c. bit s (f r (c ⊕ r)))
-unfolding columnsExchanged moved block rowWord
-exchanged-row s f r l =
-    getD-tabulate 16 (rowWord (λ i c. bitAt (blockAt s f) i (c ⊕ i))) r 0 l
-    ∙ fromBits-ext 16 (λ c. bitAt (blockAt s f) r (c ⊕ r)) (λ c. bit s (f r (c ⊕ r))) (λ c lc. ap (λ u. u % 2) (at-bit s f r (c ⊕ r) l (⊕-lt 4 c r lc l)))
+-- A row whose first C blocks were exchanged; the others stand: none / more / done.
+pub record Exchanging (row₀ : List ℕ) (C : ℕ) (row : List ℕ) : Type 0 where
+  pub upto : C ≤ 8
+  pub long : length row ≡ 128
+  pub new : (x : ℕ) → x < 128 → x % 8 < C → getD row x 0 ≡ exchangedNumber row₀ x
+  pub old : (x : ℕ) → x < 128 → C ≤ x % 8 → getD row x 0 ≡ getD row₀ x 0
 
--- A number of a row whose columns were exchanged.
-pub exchanged-bit : (row : List ℕ) (r C c : ℕ) → r < 16 → C < 8 → c < 16
-    → bitOf 16 (getD (backsIn row) (8 * r + C) 0) c ≡ bitOf 16 (getD row (8 * r + C) 0) (c ⊕ r)
-unfolding backsIn backsBlock columnsExchanged rowBlock bitAt
-exchanged-bit row r C c lr lC lc =
-    laid-bit (backsBlock row) C r c lC lr
-    ∙ moved-bit (λ i c. i) (λ i c. c ⊕ i) (rowBlock row C) r c lr lc
-    ∙ ap (λ u. bitOf 16 u (c ⊕ r)) (getD-tabulate 16 (λ r. getD row (8 * r + C) 0) r 0 lr)
+pub exchange-none : (row : List ℕ) → length row ≡ 128 → Exchanging row 0 row
+exchange-none row e = record { upto = omega arith; long = e; new = λ x l p. absurd (omega arith); old = λ x l p. refl }
 
-pub halves-row : (p : List ℕ) (s : ℕ) (words row : List ℕ) → words ≡ rowWords p (256 * s) → row ≡ backsIn words
-    → row ≡ tabulate 128 (λ i. codedHalf p (s * 128 + i))
-unfolding backsIn backsBlock laid laidWord codedHalf
-halves-row p s words row e q =
-    q ∙ ap (λ u. laid (backsBlock u)) e
-    ∙ tabulate-ext 128 (laidWord (backsBlock (rowWords p (256 * s)))) (λ i. codedHalf p (s * 128 + i)) here
+pub exchange-long : {row₀ : List ℕ} {C : ℕ} {row : List ℕ} → Exchanging row₀ C row → length row ≡ 128
+exchange-long h = h .long
+
+pub exchange-more : {row₀ : List ℕ} {C : ℕ} {row : List ℕ} (b t next : List ℕ) → Exchanging row₀ C row → C < 8 → b ≡ rowBlock row C
+    → t ≡ columnsExchanged b → next ≡ laidIn row C t → Exchanging row₀ (C + 1) next
+unfolding laidIn laidAt exchangedNumber columnsExchanged moved block rowWord bitAt rowBlock
+exchange-more {row₀} {C} {row} b t next h l eb et en =
+    record {
+      upto = omega arith;
+      long = ap length en ∙ length-tabulate 128 (laidAt row C t);
+      new = λ x lx p. stands x lx ∙ here x lx p (ℕ-discrete (x % 8) C);
+      old = λ x lx p. stands x lx ∙ simp (ne-eqb (x % 8) C (λ q. omega arith)) (h .old x lx (omega arith));
+    }
   where
-    here : (i : ℕ) → i < 128 → laidWord (backsBlock (rowWords p (256 * s))) i ≡ codedHalf p (s * 128 + i)
-    here i l =
-        let d : (s * 128 + i) / 8 ≡ s * 16 + i / 8 = omega arith in
-        let m : (s * 16 + i / 8) % 16 ≡ i / 8 = omega arith in
-        ap (λ b. getD (columnsExchanged b) (i / 8) 0) (row-block p (256 * s) (i % 8) (omega arith))
-        ∙ exchanged-row p (λ r c. 8 * (256 * s + 2 * (8 * r + i % 8)) + (c + 8) % 16) (i / 8) (omega arith)
-        ∙ rw (d, m) (fromBits-ext 16 (λ c. bit p (8 * (256 * s + 2 * (8 * (i / 8) + i % 8)) + ((c ⊕ (i / 8)) + 8) % 16))
-        (λ c. bit p (16 * (s * 128 + i) + (((c + 8) % 16) ⊕ (i / 8))))
-        (λ c lc. ap (λ k. bit p k % 2) (omega (arith, turned-exchanged (i / 8) c (omega arith) lc))))
+    stands : (x : ℕ) → x < 128 → getD next x 0 ≡ laidAt row C t x
+    stands x lx = ap (λ u. getD u x 0) en ∙ getD-tabulate 128 (laidAt row C t) x 0 lx
 
-pub half-copied : (p : List ℕ) (s i : ℕ) (from : List ℕ) → from ≡ tabulate 128 (λ i. codedHalf p (s * 128 + i)) → i < 128
-    → getD from i 0 ≡ codedHalf p (s * 128 + i)
-half-copied p s i from e l = ap (λ u. getD u i 0) e ∙ getD-tabulate 128 (λ i. codedHalf p (s * 128 + i)) i 0 l
+    own : (x : ℕ) → x < 128 → x % 8 ≡ C → getD t (x / 8) 0 ≡ exchangedNumber row₀ x
+    own x lx q =
+        let m : x / 8 % 16 ≡ x / 8 = omega arith in
+        ap (λ u. getD u (x / 8) 0) (et ∙ ap columnsExchanged eb)
+        ∙ getD-tabulate 16 (rowWord (λ i c. bitAt (rowBlock row C) i (c ⊕ i))) (x / 8) 0 (omega arith)
+        ∙ rw m (ap (λ v. fromBits 16 (λ c. bitOf 16 v (c ⊕ (x / 8)))) (getD-tabulate 16 (λ r. getD row (8 * r + C) 0) (x / 8) 0 (omega arith)
+        ∙ ap (λ n. getD row n 0) (omega arith) ∙ h .old x lx (omega arith)))
+
+    here : (x : ℕ) → x < 128 → x % 8 < C + 1 → Dec (x % 8 ≡ C) → laidAt row C t x ≡ exchangedNumber row₀ x
+    here x lx p (yes q) = simp (eq-eqb (x % 8) C q) (own x lx q)
+    here x lx p (no q) = simp (ne-eqb (x % 8) C q) (h .new x lx (omega arith))
+
+pub exchange-done : {row₀ : List ℕ} {C : ℕ} {row : List ℕ} → Exchanging row₀ C row → 8 ≤ C → row ≡ tabulate 128 (exchangedNumber row₀)
+exchange-done {row₀} {C} {row} h l = is-tabulate 0 row 128 (exchangedNumber row₀) (h .long) (λ x lx. h .new x lx (omega arith))
+
+pub ruleset exchanging = (exchange-none, exchange-long, exchange-more, exchange-done)
+
+-- A row of two, lent by itself.
+exchange-row : (halves x ys : List ℕ) (s : ℕ) → s < 2 → ((i : ℕ) → i < 128 → getD x i 0 ≡ getD halves (s * 128 + i) 0)
+    → ys ≡ tabulate 128 (exchangedNumber x) → ys ≡ tabulate 128 (λ i. exchangedNumber halves (s * 128 + i))
+unfolding exchangedNumber
+exchange-row halves x ys s ls same e =
+    e ∙ tabulate-ext 128 (exchangedNumber x) (λ i. exchangedNumber halves (s * 128 + i))
+    (λ i l.
+    let d : (s * 128 + i) / 8 ≡ 16 * s + i / 8 = omega arith in
+    let m : (16 * s + i / 8) % 16 ≡ i / 8 = omega arith in
+    let n : i / 8 % 16 ≡ i / 8 = omega arith in
+    rw (d, m, n) (ap (λ v. fromBits 16 (λ c. bitOf 16 v (c ⊕ (i / 8)))) (same i l)))
+
+pub exchange-next : {halves : List ℕ} {s : ℕ} {d : List ℕ} (a e : ℕ) (ys : List ℕ) → InPlace (exchangedNumber halves) halves s d → s < 2 → a ≡ s * 128 → e ≡ a + 128
+    → ys ≡ tabulate 128 (exchangedNumber (part a (e - a) d)) → InPlace (exchangedNumber halves) halves (s + 1) (putMid a (e - a) d ys)
+exchange-next {halves} {s} {d} a e ys h l p q t = place-next a e h l p q ys (exchange-row halves (part a (e - a) d) ys s l (place-part a e h l p q) t)
+
+-- Of the words of a coded pair.
+pub halves-made : (p w r : List ℕ) → w ≡ tabulate 256 (λ n. readWord p (2 * n)) → r ≡ exchanged w → r ≡ codedHalves p
+unfolding exchanged exchangedNumber codedHalves codedHalf readWord
+halves-made p w r ew er =
+    er ∙ tabulate-ext 256 (exchangedNumber w) (codedHalf p)
+    (λ n l. fromBits-ext 16 (λ c. bitOf 16 (getD w n 0) (c ⊕ (n / 8 % 16))) (λ c. bit p (16 * n + (((c + 8) % 16) ⊕ (n / 8 % 16))))
+    (λ c lc.
+    let x : c ⊕ (n / 8 % 16) < 16 = ⊕-lt 4 c (n / 8 % 16) lc (omega arith) in
+    let i : 8 * (2 * n) + ((c ⊕ (n / 8 % 16)) + 8) % 16 ≡ 16 * n + (((c + 8) % 16) ⊕ (n / 8 % 16)) =
+    omega (arith, turned-exchanged (n / 8 % 16) c (omega arith) lc) in
+    let b : bit p (8 * (2 * n) + ((c ⊕ (n / 8 % 16)) + 8) % 16) % 2 ≡ bit p (8 * (2 * n) + ((c ⊕ (n / 8 % 16)) + 8) % 16) =
+    omega (arith, bit-lt p (8 * (2 * n) + ((c ⊕ (n / 8 % 16)) + 8) % 16)) in
+    ap (λ u. u % 2)
+    (ap (λ u. bitOf 16 (getD u n 0) (c ⊕ (n / 8 % 16))) ew ∙ ap (λ u. bitOf 16 u (c ⊕ (n / 8 % 16))) (getD-tabulate 256 (λ n. readWord p (2 * n)) n 0 l)
+    ∙ bitOf-fromBits 16 (λ c. bit p (8 * (2 * n) + (c + 8) % 16)) (c ⊕ (n / 8 % 16)) x
+    ∙ b ∙ ap (bit p) i)))
 
 -- ---- back halves by columns
 

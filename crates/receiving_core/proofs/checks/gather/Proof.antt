@@ -1,9 +1,9 @@
--- `syndromes_core::gather` meets its contract.
+-- `receiving_core::checks::gather` meets its contract.
 -- Assumes nothing.
 use Rattle.syndromes_core.specs.RowCheckLaws.{gathered-levels, parities-levels}
 use borrow.Author.Needs.{needs}
-use Rattle.syndromes_core.proofs.gather.Statement.{statement}
-use Rattle.syndromes_core.proofs.gather.Tie as tie
+use Rattle.receiving_core.proofs.checks.gather.Statement.{statement}
+use Rattle.receiving_core.proofs.checks.gather.Tie as tie
 
 ruleset kit = (needs, gathered-levels, parities-levels)
 
