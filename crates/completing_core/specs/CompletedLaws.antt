@@ -35,7 +35,7 @@ use Rattle.permutation_core.specs.StageLaws.{cut-bit}
 use Rattle.riffle_core.specs.Riffles.{byWords}
 use Rattle.riffle_core.specs.RiffleLaws.{by-words-at}
 use Rattle.pair_words_core.specs.Halves.{wordHalf, wordHalves}
-use Rattle.completing_core.specs.Completing.{halfOf, checkNumbers, ownNumber, lastNumber, checkNumber, checkRow, completedNumber, completedRow}
+use Rattle.completing_core.specs.Completing.{halfOf, checkNumbers, ownNumber, lastNumber, checkNumber, checkRow, completedNumber, completedHalves}
 use Rattle.completing_core.specs.CompletingLaws.{number-none, number-own, number-last}
 
 -- ---- bits
@@ -175,21 +175,25 @@ module _ (words : ℕ → Word) (bits : (w k : ℕ) → k < 239 → words w k < 
       half-of f c lc b =
           bitOf-fromBits 16 (λ c. f (n / 8) (128 + (16 * (n % 8) + (c + 8) % 16))) c lc ∙ rw (here, block) (omega (arith, b))
 
-      stood : getD halves (128 * s + (8 * r + C)) 0 ≡ wordHalf (λ u. firstBits (words u)) n
+      stood : getD halves n 0 ≡ wordHalf (λ u. firstBits (words u)) n
       unfolding wordHalves
-      stood =
-          ap (λ u. getD u (128 * s + (8 * r + C)) 0) eh ∙ getD-tabulate 256 (wordHalf (λ u. firstBits (words u))) (128 * s + (8 * r + C)) 0 (omega arith)
-          ∙ ap (wordHalf (λ u. firstBits (words u))) (omega arith)
+      stood = ap (λ u. getD u n 0) eh ∙ getD-tabulate 256 (wordHalf (λ u. firstBits (words u))) n 0 (omega arith)
 
-      added : getD (byWords (checkRow last own s)) (8 * r + C) 0 ≡ checkNumber last own s (16 * C + r)
+      in-row : getD (byWords (checkRow last own s)) (8 * r + C) 0 ≡ checkNumber last own s (16 * C + r)
       unfolding checkRow
-      added = by-words-at (checkRow last own s) r C lr lC ∙ getD-tabulate 128 (checkNumber last own s) (16 * C + r) 0 (omega arith)
+      in-row = by-words-at (checkRow last own s) r C lr lC ∙ getD-tabulate 128 (checkNumber last own s) (16 * C + r) 0 (omega arith)
+
+      added : getD (byWords (checkRow last own (n / 128))) (n % 128) 0 ≡ checkNumber last own s (16 * C + r)
+      added =
+          let d : n / 128 ≡ s = omega arith in
+          let m : n % 128 ≡ 8 * r + C = omega arith in
+          rw (d, m) in-row
 
       half-lt : (f : ℕ → Word) → wordHalf f n < 2 ^ 16
       unfolding wordHalf
       half-lt f = fromBits-lt 16 _
 
-      number-completed : completedNumber halves last own s (8 * r + C) ≡ wordHalf (λ u. completed (words u)) n
+      number-completed : completedNumber last own halves n ≡ wordHalf (λ u. completed (words u)) n
       unfolding completedNumber put
       number-completed =
           ap₂ _⊕_ stood added
@@ -202,10 +206,13 @@ module _ (words : ℕ → Word) (bits : (w k : ℕ) → k < 239 → words w k < 
           ∙ bit-completed C c lC lc
           ∙ sym (half-of (λ u. completed (words u)) c lc (completed-code (words w) (bits w) .bits (place C c) (omega arith))))
 
-  pub row-completed : (row : List ℕ) → row ≡ completedRow halves last own s → row ≡ tabulate 128 (λ n. wordHalf (λ u. completed (words u)) (s * 128 + n))
-  unfolding completedRow
-  row-completed row e =
-      e ∙ tabulate-ext 128 (completedNumber halves last own s) (λ n. wordHalf (λ u. completed (words u)) (s * 128 + n))
-      (λ n l.
-      let i : 8 * (n / 8) + n % 8 ≡ n = omega arith in
-      rw i at (number-completed (n / 8) (omega arith) (n % 8) (omega arith)))
+pub halves-completed : (words : ℕ → Word) → ((w k : ℕ) → k < 239 → words w k < 2) → (t : List ℕ) (q : ℕ) → Gathered (λ w. firstBits (words w)) t
+    → Parities (λ w. firstBits (words w)) q → (halves last : List ℕ) (own : ℕ) → halves ≡ wordHalves (λ w. firstBits (words w))
+    → last ≡ twoTransposed (checkNumbers t q) → own ≡ getD (network checkColumns t) 7 0
+    → completedHalves last own halves ≡ wordHalves (λ u. completed (words u))
+unfolding completedHalves wordHalves
+halves-completed words bits t q g o halves last own eh el eo =
+    tabulate-ext 256 (completedNumber last own halves) (wordHalf (λ u. completed (words u)))
+    (λ n l.
+    let i : n / 128 * 128 + (8 * (n % 128 / 8) + n % 8) ≡ n = omega arith in
+    rw i at (number-completed words bits t q g o halves last own eh el eo (n / 128) (omega arith) (n % 128 / 8) (omega arith) (n % 8) (omega arith)))

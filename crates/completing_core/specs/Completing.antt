@@ -33,9 +33,13 @@ checkNumber last own s n = cond (ltb n 96) 0 (cond (ltb n 112) (ownNumber (halfO
 unfoldable pub checkRow : List ℕ → ℕ → ℕ → List ℕ
 checkRow last own s = tabulate 128 (checkNumber last own s)
 
--- Row s of the halves with these bits.
-unfoldable pub completedNumber : List ℕ → List ℕ → ℕ → ℕ → ℕ → ℕ
-completedNumber halves last own s n = getD halves (128 * s + n) 0 ⊕ getD (byWords (checkRow last own s)) n 0
+-- Two numbers of rows summed.
+unfoldable pub addedNumber : List ℕ → List ℕ → ℕ → ℕ
+addedNumber z row n = getD row n 0 ⊕ getD z n 0
 
-unfoldable pub completedRow : List ℕ → List ℕ → ℕ → ℕ → List ℕ
-completedRow halves last own s = tabulate 128 (completedNumber halves last own s)
+-- The halves with these bits.
+unfoldable pub completedNumber : List ℕ → ℕ → List ℕ → ℕ → ℕ
+completedNumber last own halves n = getD halves n 0 ⊕ getD (byWords (checkRow last own (n / 128))) (n % 128) 0
+
+unfoldable pub completedHalves : List ℕ → ℕ → List ℕ → List ℕ
+completedHalves last own halves = tabulate 256 (completedNumber last own halves)

@@ -11,7 +11,8 @@ ghost use Rattle.bits.specs.Lists.{tabulate};
 ghost use Rattle.bits.specs.Xor.{xorSum};
 ghost use Rattle.networks_spec.specs.Networks.{network, checkColumns};
 ghost use Rattle.permutation_core.specs.Stages.{twoTransposed};
-ghost use Rattle.completing_core.specs.Completing.{halfOf, checkNumbers, ownNumber, lastNumber, checkNumber, checkRow, completedRow};
+ghost use Rattle.riffle_core.specs.Riffles.{byWords};
+ghost use Rattle.completing_core.specs.Completing.{halfOf, checkNumbers, ownNumber, lastNumber, checkNumber, checkRow, addedNumber, completedHalves};
 
 // The check bits of the 32 words of a pair. The upper half of number r has block 7 of word r, its lower half that of word 16+r; bit w of
 // `own` is bit 239 of word w, the last of block 6.
@@ -91,15 +92,32 @@ fn check_row(last: &[u32; 16], own: u32, s: usize) -> [u16; 128]
     x
 }
 
-// The words of row s with their check bits put in, where they had zeros.
-pub fn completed_row(halves: &[u16; 256], last: &[u32; 16], own: u32, s: usize) -> [u16; 128]
-    requires { ⌜ s < 2 ⌝ }
-    ensures { λ r. ⌜ r ≡ completedRow (now (halves .entry)) (now (last .entry)) own s ⌝ }
+// Puts the check bits into the words of row s, where these have zeros.
+fn complete_row(last: &[u32; 16], own: u32, s: usize, row: &mut [u16])
+    requires { ⌜ (s < 2) × (length (now row) ≡ 128) ⌝ }
+    ensures { λ _. ⌜ now (row .exit) ≡ tabulate 128 (addedNumber (byWords (checkRow (now (last .entry)) own s)) (now (row .entry))) ⌝ }
 {
     let z = by_words(check_row(last, own, s));
-    let mut row = [0u16; 128];
     for n in 0..128 {
-        row[n] = halves[128 * s + n] ^ z[n];
+        row[n] = row[n] ^ z[n];
     }
-    row
+}
+
+// The same of both rows.
+fn complete_rows(last: &[u32; 16], own: u32, halves: &mut [u16])
+    requires { ⌜ length (now halves) ≡ 256 ⌝ }
+    ensures { λ _. ⌜ now (halves .exit) ≡ completedHalves (now (last .entry)) own (now (halves .entry)) ⌝ }
+{
+    for s in 0..2 {
+        let a = s * 128;
+        let e = a + 128;
+        complete_row(last, own, s, &mut halves[a..e]);
+    }
+}
+
+// Of the halves of a pair.
+pub fn complete(last: &[u32; 16], own: u32, halves: &mut [u16; 256])
+    ensures { λ _. ⌜ now (halves .exit) ≡ completedHalves (now (last .entry)) own (now (halves .entry)) ⌝ }
+{
+    complete_rows(last, own, halves);
 }

@@ -1,6 +1,6 @@
 -- What code makes of a pair is the pair encoded.
 -- Assumes nothing.
-use mathlib.Core.Path.{_≡_, refl, sym, ap, _∙_}
+use mathlib.Core.Path.{_≡_, refl, ap, _∙_}
 use mathlib.Core.Bool.{cond}
 use mathlib.Core.List.{List}
 use Prim.Native.Nat.{ℕ, _+_, _-_, _*_, _/_, _%_, _<_, _≤_}
@@ -14,12 +14,13 @@ use Rattle.bits.specs.Bits.{fromBits}
 use Rattle.bits.specs.BitLaws.{fromBits-ext}
 use Rattle.bits.specs.Lists.{tabulate}
 use Rattle.bits.specs.ListLaws.{tabulate-ext}
+use Rattle.blocks.specs.SideBySide.{wordByte}
 use Rattle.word_spec.specs.CodeWord.{Word}
-use Rattle.word_spec.specs.Completion.{firstBits, completed}
+use Rattle.word_spec.specs.Completion.{firstBits}
 use Rattle.word_spec.specs.CompletionLaws.{first-bits}
 use Rattle.networks_spec.specs.Networks.{network, checkColumns}
-use Rattle.gathering_spec.specs.Sums.{Gathered, Parities}
 use Rattle.gathering_spec.specs.Dirty.{gathered-same, parities-same}
+use Rattle.gathering_core.specs.Lanes.{Levelled}
 use Rattle.permutation_core.specs.Stages.{twoTransposed}
 use Rattle.pair_spec.specs.History.{depth, shift}
 use Rattle.pair_spec.specs.Encoding.{openWord, encodedWord, encoded}
@@ -34,18 +35,39 @@ use Rattle.pair_words_core.specs.WordBits.{frontHeld, open-front-bit}
 use Rattle.pair_words_core.specs.WordBytes.{ownBit, own-is}
 use Rattle.payload_rows_core.specs.PayloadRows.{openNumber}
 use Rattle.rows_core.specs.Held.{halvesWord}
-use Rattle.rows_core.specs.RowWords.{backsIn}
-use Rattle.completing_core.specs.Completing.{checkNumbers, completedRow}
-use Rattle.completing_core.specs.CompletedLaws.{row-completed}
-use Rattle.blocks.specs.SideBySide.{wordByte}
-use Rattle.encoding_core.specs.CodedRows.{codedRow, codedRows, Checked}
-use Rattle.encoding_core.specs.CodedRowLaws.{rows-made, rows-coded}
+use Rattle.rows_core.specs.RowWords.{exchanged}
+use Rattle.syndromes_core.specs.RowChecks.{RowChecked}
+use Rattle.syndromes_core.specs.RowCheckLaws.{gathered-levels, parities-levels}
+use Rattle.completing_core.specs.Completing.{checkNumbers, completedHalves}
+use Rattle.completing_core.specs.CompletedLaws.{halves-completed}
+use Rattle.encoding_core.specs.CodedPairs.{Checked}
+use Rattle.encoding_core.specs.CodedPairLaws.{pair-bytes}
 
--- As code makes a row.
-pub coded-row-made : (halves last : List ℕ) (own s : ℕ) (row words ys : List ℕ) → row ≡ completedRow halves last own s → words ≡ backsIn row
-    → ys ≡ tabulate 256 (wordByte words) → ys ≡ codedRow halves last own s
-unfolding codedRow
-coded-row-made halves last own s row words ys er ew ey = ey ∙ ap (λ u. tabulate 256 (wordByte u)) (ew ∙ ap backsIn er)
+-- ---- as code makes it
+
+pub words-checked : (h : List ℕ) (P : ℕ) (halves a b sums last : List ℕ) (p q odd own : ℕ) → RowChecked h P halves 0 a p → RowChecked h P halves 1 b q
+    → Levelled a b sums → odd ≡ p * 65536 + q % 65536 → last ≡ twoTransposed (checkNumbers sums odd) → own ≡ getD (network checkColumns sums) 7 0
+    → Checked h P halves last own
+words-checked h P halves a b sums last p q odd own m n l eo el ew =
+    record {
+      sums = sums;
+      odd = odd;
+      gathered = gathered-levels h P halves a b p q m n sums l;
+      parities = parities-levels h P halves a b p q m n odd eo;
+      last-is = el;
+      own-is = ew;
+    }
+
+-- In order.
+pub words-coded : (last : List ℕ) (own : ℕ) (halves c r : List ℕ) → r ≡ exchanged c → c ≡ completedHalves last own halves
+    → r ≡ exchanged (completedHalves last own halves)
+words-coded last own halves c r e p = e ∙ ap exchanged p
+
+-- The history, moved down in parts.
+pub parts-moved : (h a b c : List ℕ) → Moving 512 h 0 1536 1536 a → Moving 512 a 1536 3072 3072 b → Moving 512 b 3072 4608 4608 c → Moving 512 h 0 4608 4608 c
+parts-moved h a b c ma mb mc = move-on (move-on ma mb) mc
+
+-- ---- the pair encoded
 
 back-at : (words : ℕ → Word) (w k : ℕ) → w < 32 → 128 ≤ k → k < 256 → backHalves words (128 * w + (k - 128)) ≡ words w k
 unfolding backHalves
@@ -80,34 +102,20 @@ module _ (h : List ℕ) (P : ℕ) (y : List ℕ) where
             simp (le-ltb k 128 (omega arith))
             (halves-bit opened opened-bits halves halves-opened (128 * w + (k - 128)) (omega arith) ∙ back-at opened w k lw (omega arith) lk)
 
-    module _ (t : List ℕ) (q : ℕ) (g : Gathered (halvesWord h P halves) t) (o : Parities (halvesWord h P halves) q) (last : List ℕ) (own : ℕ)
-        (el : last ≡ twoTransposed (checkNumbers t q)) (eo : own ≡ getD (network checkColumns t) 7 0) where
-      row-encoded : (s : ℕ) → s < 2 → completedRow halves last own s ≡ tabulate 128 (λ n. wordHalf (encodedWord depth h P y) (s * 128 + n))
-      unfolding encodedWord
-      row-encoded s ls =
-          row-completed (openWord depth h P y) (λ w k l. open-bits depth h P y w k) t q (gathered-same word-opened g) (parities-same word-opened o) halves last own
-          halves-opened el eo s ls (completedRow halves last own s) refl
+    halves-encoded : (last : List ℕ) (own : ℕ) → Checked h P halves last own → completedHalves last own halves ≡ wordHalves (encodedWord depth h P y)
+    unfolding encodedWord
+    halves-encoded last own c =
+        halves-completed (openWord depth h P y) (λ w k l. open-bits depth h P y w k) (c .sums) (c .odd) (gathered-same word-opened (c .gathered))
+        (parities-same word-opened (c .parities)) halves last own halves-opened (c .last-is) (c .own-is)
 
-      coded-encoded : codedRows halves last own ≡ encoded depth h P y
-      unfolding encoded
-      coded-encoded = rows-coded halves last own (encodedWord depth h P y) (encoded-bits depth h P y) row-encoded
+pub encoded-made : (h : List ℕ) (P : ℕ) (y halves last r q d p : List ℕ) (own : ℕ) → length h ≡ 512 * depth → halves ≡ tabulate 256 (openNumber y)
+    → Checked h P halves last own → r ≡ exchanged (completedHalves last own halves) → Moving 512 h 0 4608 4608 d → q ≡ tabulate 512 (wordByte r) → p ≡ q
+    → encodeBuffers q (putMid 4608 512 d p) ≡ encodePair h P y
+unfolding encoded
+encoded-made h P y halves last r q d p own size eh c er m eq ep =
+    encode-written h y q (putMid 4608 512 d p) P
+    (pair-bytes (encodedWord depth h P y) (encoded-bits depth h P y) (completedHalves last own halves) (halves-encoded h P y halves eh last own c) q
+    (eq ∙ ap (λ u. tabulate 512 (wordByte u)) er))
+    (shift-is h d q p 4608 512 m (omega (arith, size)) refl ep)
 
-pub encoded-made : (h : List ℕ) (P : ℕ) (y halves last : List ℕ) (own : ℕ) (q g : List ℕ) → Checked h P y halves last own → q ≡ codedRows halves last own → g ≡ shift h q
-    → encodeBuffers q g ≡ encodePair h P y
-encoded-made h P y halves last own q g c eq eg =
-    encode-written h y q g P
-    (eq ∙ coded-encoded h P y halves (c .opened) (c .sums) (c .odd) (c .gathered) (c .parities) last own (c .last-is) (c .own-is)) eg
-
--- The history, moved down in parts.
-pub history-made : (h a b c q r : List ℕ) → length h ≡ 512 * depth → Moving 512 h 0 1536 1536 a → Moving 512 a 1536 3072 3072 b
-    → Moving 512 b 3072 4608 4608 c → r ≡ q → putMid 4608 512 c r ≡ shift h q
-history-made h a b c q r size ma mb mc er = shift-is h c q r 4608 512 (move-on (move-on ma mb) mc) (omega (arith, size)) refl er
-
--- What code has before the rows.
-pub words-checked : (h : List ℕ) (P : ℕ) (y halves sums last : List ℕ) (odd own : ℕ) → halves ≡ tabulate 256 (openNumber y)
-    → Gathered (halvesWord h P halves) sums → Parities (halvesWord h P halves) odd → last ≡ twoTransposed (checkNumbers sums odd)
-    → own ≡ getD (network checkColumns sums) 7 0 → Checked h P y halves last own
-words-checked h P y halves sums last odd own e g o el eo =
-    record { opened = e; sums = sums; odd = odd; gathered = g; parities = o; last-is = el; own-is = eo }
-
-pub ruleset encoding = (coded-row-made, rows-made, encoded-made, history-made, words-checked)
+pub ruleset encoding = (words-checked, words-coded, parts-moved, encoded-made)

@@ -1,3 +1,3 @@
-pub mod CodedRows
-pub mod CodedRowLaws
+pub mod CodedPairs
+pub mod CodedPairLaws
 pub mod EncodingLaws

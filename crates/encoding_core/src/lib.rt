@@ -2,88 +2,48 @@
 // bytes. Over `payload_rows_core`, `syndromes_core`, `completing_core` and `rows_core`; the call is in `encoder`.
 use blocks::write_words;
 use completing_core::CheckBits;
-use completing_core::completed_row;
+use completing_core::complete;
 use completing_core::from_sums;
+use gathering_core::lanes;
 use pair_words_core::history::copy;
 use pair_words_core::history::move_part;
 use payload_rows_core::put_rows;
-use rows_core::rows::backs_in;
-use syndromes_core::gather;
+use rows_core::rows::exchange;
+use syndromes_core::gather_row;
 ghost use mathlib.Core.Path.{_≡_};
-ghost use Prim.Native.Nat.{_+_, _*_, _<_, _≤_};
+ghost use Prim.Native.Nat.{_*_};
 ghost use lib.ListN.{length};
 ghost use Rattle.pair_spec.specs.Calls.{encodeBuffers, encodePair};
 ghost use Rattle.pair_spec.specs.History.{depth, shift};
 ghost use Rattle.pair_words_core.specs.Shifting.{Moving};
-ghost use Rattle.encoding_core.specs.CodedRows.{codedRow, codedRows, Checked};
+ghost use Rattle.completing_core.specs.Completing.{completedHalves};
+ghost use Rattle.rows_core.specs.RowWords.{exchanged};
+ghost use Rattle.encoding_core.specs.CodedPairs.{Checked};
 
-// Row s of a coded pair: its words with their check bits, columns exchanged.
-fn put_coded_row(halves: &[u16; 256], last: &[u32; 16], own: u32, s: usize, out: &mut [u8])
-    requires { ⌜ (s < 2) × (length (now out) ≡ 256) ⌝ }
-    ensures { λ _. ⌜ now (out .exit) ≡ codedRow (now (halves .entry)) (now (last .entry)) own s ⌝ }
+// What is gathered of the words of a pair before their completion, and from it their check bits.
+fn check_words(history: &[u8], halves: &[u16; 256], pair: u32) -> CheckBits
+    requires { ⌜ length (now history) ≡ 512 * depth ⌝ }
+    ensures { λ c. ⌜ Checked (now (history .entry)) pair (now (halves .entry)) (c .last) (c .own) ⌝ }
 {
-    let row = completed_row(halves, last, own, s);
-    let words = backs_in(&row);
-    write_words(&words, out);
+    let a = gather_row(history, halves, pair, 0);
+    let b = gather_row(history, halves, pair, 1);
+    let first = a.sums;
+    let second = b.sums;
+    let sums = lanes::levels(&first, &second);
+    from_sums(&sums, lanes::join(a.odd, b.odd))
 }
 
-// The same, and then a part of the history moves down.
-fn put_row_and_move(
-    halves: &[u16; 256],
-    last: &[u32; 16],
-    own: u32,
-    s: usize,
-    out: &mut [u8],
-    history: &mut [u8],
-    from: usize,
-    to: usize,
-)
-    requires { ⌜ (s < 2) × (length (now out) ≡ 256) × (from ≤ to) × (to + 512 ≤ length (now history)) ⌝ }
-    ensures { λ _. ⌜ (now (out .exit) ≡ codedRow (now (halves .entry)) (now (last .entry)) own s) × Moving 512 (now (history .entry)) from to to (now (history .exit)) ⌝ }
-{
-    put_coded_row(halves, last, own, s, out);
-    move_part(history, from, to);
-}
-
-// Both rows, which then enter the history. The history moves down in parts, between other steps: the processor stores each part while it
-// goes on with the next step.
-fn put_pair(halves: &[u16; 256], last: &[u32; 16], own: u32, coded: &mut [u8], history: &mut [u8])
-    requires { ⌜ (length (now coded) ≡ 512) × (length (now history) ≡ 512 * depth) ⌝ }
-    ensures { λ _. ⌜ (now (coded .exit) ≡ codedRows (now (halves .entry)) (now (last .entry)) own) × (now (history .exit) ≡ shift (now (history .entry)) (now (coded .exit))) ⌝ }
+// The words completed and put in order, while the history moves down in parts: the processor stores each part while it goes on with the
+// next step.
+fn code_words(last: &[u32; 16], own: u32, halves: &mut [u16; 256], history: &mut [u8])
+    requires { ⌜ length (now history) ≡ 512 * depth ⌝ }
+    ensures { λ _. ⌜ (now (halves .exit) ≡ exchanged (completedHalves (now (last .entry)) own (now (halves .entry)))) × Moving 512 (now (history .entry)) 0 4608 4608 (now (history .exit)) ⌝ }
 {
     move_part(history, 0, 1536);
-    put_row_and_move(
-        halves,
-        last,
-        own,
-        0,
-        &mut coded[0..256],
-        history,
-        1536,
-        3072,
-    );
-    put_row_and_move(
-        halves,
-        last,
-        own,
-        1,
-        &mut coded[256..512],
-        history,
-        3072,
-        4608,
-    );
-    copy(coded, &mut history[4608..5120]);
-}
-
-// The words of a pair before their completion, and their check bits.
-fn check_words(payload: &[u8], history: &[u8], pair: u32, halves: &mut [u16; 256]) -> CheckBits
-    requires { ⌜ (length (now payload) ≡ 444) × (length (now history) ≡ 512 * depth) ⌝ }
-    ensures { λ c. ⌜ Checked (now (history .entry)) pair (now (payload .entry)) (now (halves .exit)) (c .last) (c .own) ⌝ }
-{
-    put_rows(payload, halves);
-    let c = gather(history, halves, pair);
-    let sums = c.sums;
-    from_sums(&sums, c.odd)
+    complete(last, own, halves);
+    move_part(history, 1536, 3072);
+    exchange(halves);
+    move_part(history, 3072, 4608);
 }
 
 // The coded pair, and its history.
@@ -92,7 +52,10 @@ pub fn encode_into(payload: &[u8], coded: &mut [u8], history: &mut [u8], pair: u
     ensures { λ _. ⌜ encodeBuffers (now (coded .exit)) (now (history .exit)) ≡ encodePair (now (history .entry)) pair (now (payload .entry)) ⌝ }
 {
     let mut halves = [0u16; 256];
-    let b = check_words(payload, history, pair, &mut halves);
+    put_rows(payload, &mut halves);
+    let b = check_words(history, &halves, pair);
     let last = b.last;
-    put_pair(&halves, &last, b.own, coded, history);
+    code_words(&last, b.own, &mut halves, history);
+    write_words(&halves, coded);
+    copy(coded, &mut history[4608..5120]);
 }

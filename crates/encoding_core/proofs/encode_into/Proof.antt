@@ -11,8 +11,15 @@ pub encode-into-spec : {M : Type 1} → statement M
 encode-into-spec =
     tie.close
     (tie.spec
+    (λ c. search kit)  -- slice-aggregate-put-rows
+    (λ c κs. search kit)  -- put-rows-requires
     (λ c κs. search kit)  -- check-words-requires
-    (λ c κs. search kit)  -- put-pair-requires
+    (λ c κs. search kit)  -- code-words-requires
+    (λ c κs. search kit)  -- write-words-requires
+    (λ c. search kit)  -- sub-copy
+    (λ c. search kit)  -- part-copy-start
+    (λ c. search kit)  -- part-copy-end
+    (λ c κs. search kit)  -- copy-requires
     (λ c. search kit)  -- same-length
     (λ c. search kit)  -- same-length-2
     (λ c. search kit))  -- returns
