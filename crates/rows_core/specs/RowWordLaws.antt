@@ -25,8 +25,8 @@ use Rattle.blocks.specs.Moves.{moved, transposed}
 use Rattle.blocks.specs.MoveLaws.{transposed-bit}
 use Rattle.blocks.specs.SideBySide.{laidWord, laid, laidAt, laidIn, readWord, rowBlock, wordsBlock}
 use Rattle.pair_words_core.specs.Halves.{halvesBit}
-use Rattle.rows_core.specs.RowWords.{rowWords, frontBlock, frontWords, frontsBlock, frontsIn, exchangedNumber, exchanged}
-use Rattle.rows_core.specs.RowWords.{codedHalf, codedHalves, halfBlock, turnedRows, columnsBlock, columnsOf}
+use Rattle.rows_core.specs.RowWords.{rowWords, frontBlock, frontWords, frontsBlock, frontsIn, backsBlock, backsIn, exchangedNumber}
+use Rattle.rows_core.specs.RowWords.{codedHalf, halfBlock, turnedRows, columnsBlock, columnsOf}
 
 -- ---- as code reads them
 
@@ -46,18 +46,28 @@ pub fronts-block : (words : List ℕ) (C : ℕ) (b r : List ℕ) → b ≡ words
 unfolding frontsBlock
 fronts-block words C b r p q = q ∙ ap rowsExchanged p
 
+pub backs-block : (words : List ℕ) (C : ℕ) (b r : List ℕ) → b ≡ rowBlock words C → r ≡ columnsExchanged b → r ≡ backsBlock words C
+unfolding backsBlock
+backs-block words C b r p q = q ∙ ap columnsExchanged p
+
 pub columns-block : (halves : List ℕ) (s C : ℕ) (b t r : List ℕ) → b ≡ halfBlock halves s C → t ≡ transposed b → r ≡ turnedRows t
     → r ≡ columnsBlock halves s C
 unfolding columnsBlock
 columns-block halves s C b t r p q e = e ∙ ap turnedRows (q ∙ ap transposed p)
 
-pub ruleset row-blocks = (fronts-block, columns-block)
+pub ruleset row-blocks = (fronts-block, backs-block, columns-block)
 
 -- ---- blocks of bits that stand somewhere in a buffer
 
 -- The block whose bit at (r, c) is bit f r c of a buffer; and its words as they are read.
 unfoldable pub blockAt : List ℕ → (ℕ → ℕ → ℕ) → List ℕ
 blockAt s f = block (λ r c. bit s (f r c))
+
+row-block : (s : List ℕ) (from C : ℕ) → C < 8 → rowBlock (rowWords s from) C ≡ blockAt s (λ r c. 8 * (from + 2 * (8 * r + C)) + (c + 8) % 16)
+unfolding blockAt block rowWord rowBlock rowWords readWord
+row-block s from C lC =
+    tabulate-ext 16 (λ r. getD (rowWords s from) (8 * r + C) 0) (λ r. readWord s (from + 2 * (8 * r + C)))
+    (λ r lr. getD-tabulate 128 (λ x. readWord s (from + 2 * x)) (8 * r + C) 0 (omega arith))
 
 front-block : (h : List ℕ) (from C : ℕ) → C < 8 → wordsBlock (frontWords h from) C ≡ blockAt h (λ r c. 8 * (514 * C + 16 * r + from) + c)
 unfolding blockAt frontWords laid laidWord frontBlock readWord
@@ -94,6 +104,35 @@ fronts-bit h from a e j C r lj lC lr =
 pub turned-exchanged : (r c : ℕ) → r < 16 → c < 16 → ((c ⊕ r) + 8) % 16 ≡ ((c + 8) % 16) ⊕ r
 unfolding _⊕_
 turned-exchanged = grid 16 16 (λ r c. ((c ⊕ r) + 8) % 16) (λ r c. ((c + 8) % 16) ⊕ r) tt
+
+exchanged-row : (s : List ℕ) (f : ℕ → ℕ → ℕ) (r : ℕ) → r < 16 → getD (columnsExchanged (blockAt s f)) r 0 ≡ fromBits 16 (λ c. bit s (f r (c ⊕ r)))
+unfolding columnsExchanged moved block rowWord
+exchanged-row s f r l =
+    getD-tabulate 16 (rowWord (λ i c. bitAt (blockAt s f) i (c ⊕ i))) r 0 l
+    ∙ fromBits-ext 16 (λ c. bitAt (blockAt s f) r (c ⊕ r)) (λ c. bit s (f r (c ⊕ r))) (λ c lc. ap (λ u. u % 2) (at-bit s f r (c ⊕ r) l (⊕-lt 4 c r lc l)))
+
+pub halves-row : (p : List ℕ) (s : ℕ) (words row : List ℕ) → words ≡ rowWords p (256 * s) → row ≡ backsIn words
+    → row ≡ tabulate 128 (λ i. codedHalf p (s * 128 + i))
+unfolding backsIn backsBlock laid laidWord codedHalf
+halves-row p s words row e q =
+    q ∙ ap (λ u. laid (backsBlock u)) e
+    ∙ tabulate-ext 128 (laidWord (backsBlock (rowWords p (256 * s)))) (λ i. codedHalf p (s * 128 + i)) here
+  where
+    here : (i : ℕ) → i < 128 → laidWord (backsBlock (rowWords p (256 * s))) i ≡ codedHalf p (s * 128 + i)
+    here i l =
+        let d : (s * 128 + i) / 8 ≡ s * 16 + i / 8 = omega arith in
+        let m : (s * 16 + i / 8) % 16 ≡ i / 8 = omega arith in
+        ap (λ b. getD (columnsExchanged b) (i / 8) 0) (row-block p (256 * s) (i % 8) (omega arith))
+        ∙ exchanged-row p (λ r c. 8 * (256 * s + 2 * (8 * r + i % 8)) + (c + 8) % 16) (i / 8) (omega arith)
+        ∙ rw (d, m) (fromBits-ext 16 (λ c. bit p (8 * (256 * s + 2 * (8 * (i / 8) + i % 8)) + ((c ⊕ (i / 8)) + 8) % 16))
+        (λ c. bit p (16 * (s * 128 + i) + (((c + 8) % 16) ⊕ (i / 8))))
+        (λ c lc. ap (λ k. bit p k % 2) (omega (arith, turned-exchanged (i / 8) c (omega arith) lc))))
+
+pub half-copied : (p : List ℕ) (s i : ℕ) (from : List ℕ) → from ≡ tabulate 128 (λ i. codedHalf p (s * 128 + i)) → i < 128
+    → getD from i 0 ≡ codedHalf p (s * 128 + i)
+half-copied p s i from e l = ap (λ u. getD u i 0) e ∙ getD-tabulate 128 (λ i. codedHalf p (s * 128 + i)) i 0 l
+
+-- ---- in place
 
 -- A row whose first C blocks were exchanged; the others stand: none / more / done.
 pub record Exchanging (row₀ : List ℕ) (C : ℕ) (row : List ℕ) : Type 0 where
@@ -154,23 +193,6 @@ exchange-row halves x ys s ls same e =
 pub exchange-next : {halves : List ℕ} {s : ℕ} {d : List ℕ} (a e : ℕ) (ys : List ℕ) → InPlace (exchangedNumber halves) halves s d → s < 2 → a ≡ s * 128 → e ≡ a + 128
     → ys ≡ tabulate 128 (exchangedNumber (part a (e - a) d)) → InPlace (exchangedNumber halves) halves (s + 1) (putMid a (e - a) d ys)
 exchange-next {halves} {s} {d} a e ys h l p q t = place-next a e h l p q ys (exchange-row halves (part a (e - a) d) ys s l (place-part a e h l p q) t)
-
--- Of the words of a coded pair.
-pub halves-made : (p w r : List ℕ) → w ≡ tabulate 256 (λ n. readWord p (2 * n)) → r ≡ exchanged w → r ≡ codedHalves p
-unfolding exchanged exchangedNumber codedHalves codedHalf readWord
-halves-made p w r ew er =
-    er ∙ tabulate-ext 256 (exchangedNumber w) (codedHalf p)
-    (λ n l. fromBits-ext 16 (λ c. bitOf 16 (getD w n 0) (c ⊕ (n / 8 % 16))) (λ c. bit p (16 * n + (((c + 8) % 16) ⊕ (n / 8 % 16))))
-    (λ c lc.
-    let x : c ⊕ (n / 8 % 16) < 16 = ⊕-lt 4 c (n / 8 % 16) lc (omega arith) in
-    let i : 8 * (2 * n) + ((c ⊕ (n / 8 % 16)) + 8) % 16 ≡ 16 * n + (((c + 8) % 16) ⊕ (n / 8 % 16)) =
-    omega (arith, turned-exchanged (n / 8 % 16) c (omega arith) lc) in
-    let b : bit p (8 * (2 * n) + ((c ⊕ (n / 8 % 16)) + 8) % 16) % 2 ≡ bit p (8 * (2 * n) + ((c ⊕ (n / 8 % 16)) + 8) % 16) =
-    omega (arith, bit-lt p (8 * (2 * n) + ((c ⊕ (n / 8 % 16)) + 8) % 16)) in
-    ap (λ u. u % 2)
-    (ap (λ u. bitOf 16 (getD u n 0) (c ⊕ (n / 8 % 16))) ew ∙ ap (λ u. bitOf 16 u (c ⊕ (n / 8 % 16))) (getD-tabulate 256 (λ n. readWord p (2 * n)) n 0 l)
-    ∙ bitOf-fromBits 16 (λ c. bit p (8 * (2 * n) + (c + 8) % 16)) (c ⊕ (n / 8 % 16)) x
-    ∙ b ∙ ap (bit p) i)))
 
 -- ---- back halves by columns
 

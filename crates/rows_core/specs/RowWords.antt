@@ -6,9 +6,9 @@ use lib.ListN.{getD}
 use Rattle.bits.specs.Bits.{bit, bitOf, fromBits}
 use Rattle.bits.specs.Lists.{tabulate}
 use Rattle.bits.specs.Xor.{_⊕_}
-use Rattle.blocks.specs.Exchanges.{rowsExchanged}
+use Rattle.blocks.specs.Exchanges.{rowsExchanged, columnsExchanged}
 use Rattle.blocks.specs.Moves.{transposed}
-use Rattle.blocks.specs.SideBySide.{laid, readWord, wordsBlock}
+use Rattle.blocks.specs.SideBySide.{laid, readWord, rowBlock, wordsBlock}
 
 -- The 128 words of the row of 256 bytes that starts at a byte.
 unfoldable pub rowWords : List ℕ → ℕ → List ℕ
@@ -22,14 +22,21 @@ frontBlock h from C = tabulate 16 (λ i. readWord h (514 * C + 16 * i + from))
 unfoldable pub frontWords : List ℕ → ℕ → List ℕ
 frontWords h from = laid (frontBlock h from)
 
--- Words read whose bit rows were exchanged block by block: bit r of number 8j+C is bit 16C+j of the front half of word r.
+-- Words read whose bit rows, or whose columns, were exchanged block by block: bit r of number 8j+C is bit 16C+j of the front half of
+-- word r; number 8r+C holds bits 16C to 16C+15 of the back half of word r, as two bytes lie in memory.
 unfoldable pub frontsBlock : List ℕ → ℕ → List ℕ
 frontsBlock words C = rowsExchanged (wordsBlock words C)
 
 unfoldable pub frontsIn : List ℕ → List ℕ
 frontsIn words = laid (frontsBlock words)
 
--- Numbers whose columns were exchanged, number 8w+C by ^(w mod 16): from words as they are read to back halves in order, and back.
+unfoldable pub backsBlock : List ℕ → ℕ → List ℕ
+backsBlock words C = columnsExchanged (rowBlock words C)
+
+unfoldable pub backsIn : List ℕ → List ℕ
+backsIn words = laid (backsBlock words)
+
+-- Numbers whose columns were exchanged, number 8w+C by ^(w mod 16): from back halves in order to the words of a coded pair.
 unfoldable pub exchangedNumber : List ℕ → ℕ → ℕ
 exchangedNumber words n = fromBits 16 (λ c. bitOf 16 (getD words n 0) (c ⊕ (n / 8 % 16)))
 

@@ -13,7 +13,7 @@ ghost use Rattle.bits.specs.Lists.{tabulate};
 ghost use Rattle.blocks.specs.SideBySide.{readWord};
 ghost use Rattle.pair_spec.specs.History.{depth};
 ghost use Rattle.rows_core.specs.Held.{Fronts, Backs};
-ghost use Rattle.rows_core.specs.RowWords.{rowWords, frontBlock, frontWords, frontsIn, exchangedNumber, exchanged, codedHalves, halfBlock, turnedRows, columnsOf};
+ghost use Rattle.rows_core.specs.RowWords.{rowWords, frontBlock, frontWords, frontsIn, backsIn, exchangedNumber, exchanged, codedHalf, codedHalves, halfBlock, turnedRows, columnsOf};
 
 // The eight words of bit row i of the row that starts at a byte.
 fn put_words(s: &[u8], from: usize, i: usize, out: &mut [u16])
@@ -75,7 +75,49 @@ fn fronts_in(words: &[u16; 128]) -> [u16; 128]
     row
 }
 
-// The columns of each block of a row exchanged.
+// The columns of each block exchanged: number 8r+C holds bits 16C to 16C+15 of the back half of word r, as two bytes lie in memory.
+fn backs_in(words: &[u16; 128]) -> [u16; 128]
+    ensures { λ r. ⌜ r ≡ backsIn (now (words .entry)) ⌝ }
+{
+    let mut row = [0u16; 128];
+    for block in 0..8 {
+        lay(&mut row, block, exchange_columns(block_of(words, block)));
+    }
+    row
+}
+
+// The same of row s of a coded pair.
+fn coded_row(coded: &[u8], s: usize) -> [u16; 128]
+    requires { ⌜ (length (now coded) ≡ 512) × (s < 2) ⌝ }
+    ensures { λ r. ⌜ r ≡ tabulate 128 (λ i. codedHalf (now (coded .entry)) (s * 128 + i)) ⌝ }
+{
+    let words = row_words(coded, 256 * s);
+    backs_in(&words)
+}
+
+fn put_row(coded: &[u8], s: usize, row: &mut [u16])
+    requires { ⌜ (length (now coded) ≡ 512) × (s < 2) × (length (now row) ≡ 128) ⌝ }
+    ensures { λ _. ⌜ now (row .exit) ≡ tabulate 128 (λ i. codedHalf (now (coded .entry)) (s * 128 + i)) ⌝ }
+{
+    let from = coded_row(coded, s);
+    for i in 0..128 {
+        row[i] = from[i];
+    }
+}
+
+// The back halves of the 32 words of a coded pair.
+pub fn put_halves(coded: &[u8], halves: &mut [u16])
+    requires { ⌜ (length (now coded) ≡ 512) × (length (now halves) ≡ 256) ⌝ }
+    ensures { λ _. ⌜ now (halves .exit) ≡ codedHalves (now (coded .entry)) ⌝ }
+{
+    for s in 0..2 {
+        let a = s * 128;
+        let e = a + 128;
+        put_row(coded, s, &mut halves[a..e]);
+    }
+}
+
+// The columns of each block of a row exchanged, in place.
 fn exchange_row(row: &mut [u16])
     requires { ⌜ length (now row) ≡ 128 ⌝ }
     ensures { λ _. ⌜ now (row .exit) ≡ tabulate 128 (exchangedNumber (now (row .entry))) ⌝ }
@@ -97,32 +139,11 @@ fn exchange_rows_of(halves: &mut [u16])
     }
 }
 
-// Of words that were read, number 8w+C then holds bits 16C to 16C+15 of the back half of word w, as two bytes lie in memory; of such
-// numbers it is the word to be written. Pairs are encoded and received with this function, so the compiler makes it a call by itself: it
-// takes an array, which is handed over by its address alone.
+// The halves of a pair's words become the words of its coded bytes, as they lie in memory.
 pub fn exchange(halves: &mut [u16; 256])
     ensures { λ _. ⌜ now (halves .exit) ≡ exchanged (now (halves .entry)) ⌝ }
 {
     exchange_rows_of(halves);
-}
-
-// The words of a coded pair, as they lie in memory.
-fn read_words(coded: &[u8], halves: &mut [u16])
-    requires { ⌜ (length (now coded) ≡ 512) × (length (now halves) ≡ 256) ⌝ }
-    ensures { λ _. ⌜ now (halves .exit) ≡ tabulate 256 (λ n. readWord (now (coded .entry)) (2 * n)) ⌝ }
-{
-    for n in 0..256 {
-        halves[n] = read_word(coded, 2 * n);
-    }
-}
-
-// The back halves of the 32 words of a coded pair.
-pub fn put_halves(coded: &[u8], halves: &mut [u16; 256])
-    requires { ⌜ length (now coded) ≡ 512 ⌝ }
-    ensures { λ _. ⌜ now (halves .exit) ≡ codedHalves (now (coded .entry)) ⌝ }
-{
-    read_words(coded, halves);
-    exchange(halves);
 }
 
 // Block C of row s of the halves.
