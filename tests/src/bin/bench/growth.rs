@@ -1,6 +1,6 @@
 //! How times grow with the number of super-frames.
 
-use ofec_tests::chain::calls::{Receive, LIBRARY};
+use ofec_tests::chain::calls::{Encode, Receive, LIBRARY};
 use ofec_tests::random::Random;
 use ofec_tests::rows::{self, PAIR_BYTES, PAYLOAD_BYTES};
 
@@ -20,12 +20,16 @@ pub fn run(random: &mut Random) {
     println!("|---|---:|---:|---:|---:|---:|");
     let payloads = SUPERFRAMES.map(|n| random.bytes(n * PAIRS * PAYLOAD_BYTES));
     let mut coded = SUPERFRAMES.map(|n| vec![0; n * PAIRS * PAIR_BYTES]);
-    row("encode, library", |i| {
-        encode_all(LIBRARY.encode_pair, &payloads[i], &mut coded[i])
-    });
-    row("encode, written apart", |i| {
-        encode_all(rows::encode_pair, &payloads[i], &mut coded[i])
-    });
+    let sides: [(&str, Encode); 3] = [
+        ("library", LIBRARY.encode_pair),
+        ("written apart", rows::encode_pair),
+        ("for speed", pairs::encode_pair),
+    ];
+    for (side, encode) in sides {
+        row(&format!("encode, {side}"), |i| {
+            encode_all(encode, &payloads[i], &mut coded[i])
+        });
+    }
     let mut received = SUPERFRAMES.map(|n| Received::of(n * PAIRS));
     let sides: [(&str, Receive); 3] = [
         ("library", LIBRARY.receive_pair),

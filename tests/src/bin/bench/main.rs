@@ -19,12 +19,12 @@ fn main() {
         println!("Not a release build: the times mean little.\n");
     }
     table::head();
-    let (streams, damage) = rows::run(&mut Random::new(1));
+    let (pairs, damage) = rows::run(&mut Random::new(1));
     line::run(&mut Random::new(2));
     programs::run(&mut Random::new(3));
     println!("\n{damage}");
     table::head_for_speed();
-    rows::beside_speed(&streams);
+    rows::beside_speed(&pairs);
     line::beside_speed(&mut Random::new(6));
     growth::run(&mut Random::new(4));
     memory::run(&mut Random::new(5));

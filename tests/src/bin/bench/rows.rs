@@ -21,8 +21,14 @@ pub struct Stream {
     coded: Vec<u8>,
 }
 
-/// Gives the streams that were received, and a line about their damage.
-pub fn run(random: &mut Random) -> ([Stream; 3], String) {
+/// Pairs as they are encoded, and their streams.
+pub struct Pairs {
+    payloads: Vec<u8>,
+    streams: [Stream; 3],
+}
+
+/// Gives the pairs that were encoded and received, and a line about their damage.
+pub fn run(random: &mut Random) -> (Pairs, String) {
     let payloads = random.bytes(PAIRS * PAYLOAD_BYTES);
     let coded = row(
         "encode 336 pairs",
@@ -43,7 +49,8 @@ pub fn run(random: &mut Random) -> ([Stream; 3], String) {
     };
     let streams = [clean, one, four];
     let [_, one, four] = streams.each_ref().map(receive);
-    (streams, format!("Of 10,752 words, {one}; {four}."))
+    let damage = format!("Of 10,752 words, {one}; {four}.");
+    (Pairs { payloads, streams }, damage)
 }
 
 /// Says how many words were flawed.
@@ -63,8 +70,17 @@ fn receive(stream: &Stream) -> String {
     format!("with {damage}, {repaired} were repaired and {lost} lost")
 }
 
-/// Receiving, for which there is Rust code written for speed.
-pub fn beside_speed(streams: &[Stream]) {
+/// The same works beside Rust code written for speed.
+pub fn beside_speed(Pairs { payloads, streams }: &Pairs) {
+    for_speed(
+        "encode 336 pairs",
+        vec![0; PAIRS * PAIR_BYTES],
+        [
+            &|coded| encode_all(LIBRARY.encode_pair, payloads, coded),
+            &|coded| encode_all(same_structure::encode_pair, payloads, coded),
+            &|coded| encode_all(pairs::encode_pair, payloads, coded),
+        ],
+    );
     for Stream { damage, coded } in streams {
         for_speed(
             &format!("receive 336 pairs, {damage}"),

@@ -1,24 +1,17 @@
-//! Receiving a pair by whole bit rows: a bit row is eight numbers of 16 bits, one of each block, and the compiler makes one vector of
-//! them. The sums of all words are taken side by side, and only words whose sums are not all zero are looked at one by one.
+//! Encoding and receiving a pair by whole bit rows: a bit row is eight numbers of 16 bits, one of each block, and the compiler makes one
+//! vector of them.
 //!
 //! Numbers are read least significant byte first, so that column c of a block is bit c ^ 7 of its number.
 
+mod encode;
+mod receive;
 mod repair;
 mod sums;
 
-use ofec_tests::outcome::{Outcome, COUNT_SPENT, MISFIT, STRAY_HISTORY};
+use ofec_tests::outcome::{Outcome, COUNT_SPENT, STRAY_HISTORY};
 
-use sums::{back_sums, front_sums, join};
-
-/// The back halves of a row's words, eight numbers each. They are aligned so that vectors are read in one piece.
-#[repr(align(16))]
-pub struct Words([u16; 128]);
-
-/// Where word r stands among them: `by_blocks` then takes three steps.
-#[inline(always)]
-const fn place(r: usize) -> usize {
-    r % 8 * 2 + r / 8
-}
+pub use encode::encode_pair;
+pub use receive::receive_pair;
 
 #[inline(always)]
 fn number(bytes: &[u8], at: usize) -> u16 {
@@ -35,137 +28,25 @@ fn exchange(b: &mut [u16; 16], d: usize, m: u16) {
     }
 }
 
-/// The bit rows of a row, their columns exchanged by ^r.
-#[inline(never)]
-fn back_halves(row: &[u8; 256]) -> Words {
-    let mut words = [0; 128];
-    for c in 0..8 {
-        let mut b = [0; 16];
-        for r in 0..16 {
-            b[r] = number(row, 16 * r + 2 * c);
-        }
-        for r in 8..16 {
-            b[r] = b[r].rotate_left(8);
-        }
-        exchange(&mut b, 4, 0x0F0F);
-        exchange(&mut b, 2, 0x3333);
-        exchange(&mut b, 1, 0x5555);
-        for r in 0..16 {
-            words[8 * place(r) + c] = b[r];
-        }
-    }
-    Words(words)
-}
-
-/// A number of the first half and one of the second in turn: the highest bit of each index becomes the lowest.
+/// One of the first half and one of the second in turn: the highest bit of each index becomes the lowest.
 #[inline(always)]
-fn riffle(x: &[u16; 128]) -> [u16; 128] {
-    let mut y = [0; 128];
-    for n in 0..64 {
+fn riffle<T: Copy + Default, const N: usize>(x: &[T; N]) -> [T; N] {
+    let mut y = [T::default(); N];
+    for n in 0..N / 2 {
         y[2 * n] = x[n];
-        y[2 * n + 1] = x[n + 64];
+        y[2 * n + 1] = x[n + N / 2];
     }
     y
 }
 
-/// The number of word r and block c at 64 (r / 8) + 8 c + r % 8.
+/// Refuses the call, or does its work on the ten pairs of the history, of which front halves count where it is full.
 #[inline(always)]
-fn by_blocks(Words(words): &Words) -> [u16; 128] {
-    riffle(&riffle(&riffle(words)))
-}
-
-/// Of each 16 bits the upper 15, without gaps from the top.
-#[inline(always)]
-fn squeezed(v: u64) -> u64 {
-    let v = v & 0xFFFE_0000_FFFE_0000 | (v & 0x0000_FFFE_0000_FFFE) << 1;
-    v & 0xFFFF_FFFC_0000_0000 | (v & 0x0000_0000_FFFF_FFFC) << 2
-}
-
-/// Six numbers of each word, and 15 bits of the seventh. Those of eight words are 15 bytes, written as two numbers that share a byte.
-#[inline(never)]
-fn put_payload(words: [&Words; 2], payload: &mut [u8; 444]) {
-    let mut last = [0; 64];
-    for row in 0..2 {
-        let numbers = by_blocks(words[row]);
-        for h in 0..2 {
-            for c in 0..6 {
-                for r in 0..8 {
-                    let own = numbers[64 * h + 8 * c + r].to_le_bytes();
-                    payload[64 * c + 32 * row + 16 * h + 2 * r..][..2].copy_from_slice(&own);
-                }
-            }
-            for r in 0..8 {
-                let own = numbers[64 * h + 48 + r].to_le_bytes();
-                last[32 * row + 16 * h + 2 * r..][..2].copy_from_slice(&own);
-            }
-        }
-    }
-    for g in 0..4 {
-        let [a, b] = [16 * g, 16 * g + 8].map(|at| {
-            let own = last[at..][..8].try_into().expect("8 bytes");
-            squeezed(u64::from_be_bytes(own))
-        });
-        let own = &mut payload[384 + 15 * g..][..15];
-        own[..8].copy_from_slice(&(a | b >> 60).to_be_bytes());
-        own[7..].copy_from_slice(&(a << 56 | b >> 4).to_be_bytes());
-    }
-}
-
-/// Moves a part of the history down by a pair.
-#[inline(always)]
-fn move_down(pairs: &mut [u8; 5120], from: usize, to: usize) {
-    pairs.copy_within(from + 512..to + 512, from);
-}
-
-/// Payload and marks of a pair received, and its history; front halves count where it is full.
-///
-/// The history moves in parts, each of them while the sums that follow are taken.
-#[inline(never)]
-fn receive(
-    coded: &[u8; 512],
-    payload: &mut [u8; 444],
-    marks: &mut [u8; 32],
-    pairs: &mut [u8; 5120],
-    full: bool,
-) {
-    let (rows, _) = coded.as_chunks();
-    let words0 = back_halves(&rows[0]);
-    let front0 = front_sums::<256>(pairs, full);
-    let words1 = back_halves(&rows[1]);
-    let front1 = front_sums::<0>(pairs, full);
-    move_down(pairs, 0, 1536);
-    let sums0 = back_sums(&words0, &front0);
-    move_down(pairs, 1536, 3072);
-    let sums1 = back_sums(&words1, &front1);
-    move_down(pairs, 3072, 4608);
-    let sums = join(&sums0, &sums1);
-    put_payload([&words0, &words1], payload);
-    let newest = pairs.last_chunk_mut().expect("512 bytes");
-    *newest = *coded;
-    *marks = [0; 32];
-    let dirty = sums.iter().fold(0, |all, sum| all | sum);
-    if dirty != 0 {
-        repair::repair(&sums, dirty, payload, marks, newest, full);
-    }
-}
-
-pub fn receive_pair(
-    coded: &[u8],
-    payload: &mut [u8],
-    marks: &mut [u8],
-    history: &mut [u8],
+fn judged(
+    history: &mut [u8; 5128],
     encoder: u32,
     pair: u32,
+    work: impl FnOnce(&mut [u8; 5120], bool),
 ) -> Outcome {
-    let history: Result<&mut [u8; 5128], _> = history.try_into();
-    let (Ok(coded), Ok(payload), Ok(marks), Ok(history)) = (
-        coded.try_into(),
-        payload.try_into(),
-        marks.try_into(),
-        history,
-    ) else {
-        return Outcome::refused_pair(MISFIT, pair);
-    };
     let (shown, pairs) = history.split_first_chunk_mut().expect("two numbers");
     let named = u64::from(encoder) << 32 | u64::from(pair);
     if u64::from_be_bytes(*shown) != named || encoder > 1 {
@@ -174,8 +55,7 @@ pub fn receive_pair(
     if pair == u32::MAX {
         return Outcome::refused_pair(COUNT_SPENT, pair);
     }
-    let pairs = pairs.try_into().expect("ten pairs");
-    receive(coded, payload, marks, pairs, pair >= 10);
+    work(pairs.try_into().expect("ten pairs"), pair >= 10);
     *shown = (named + 1).to_be_bytes();
     Outcome::accepted(pair + 1)
 }

@@ -7,7 +7,9 @@
 //! Sums 0 to 7 are the coefficients of S1 by 1, a, .., a^7, sums 8 to 15 are those of S3 by 1, a^3, .., a^21, and sum 16 is the
 //! parity. Word r is bit r ^ 7 of each.
 
-use super::{number, place, Words};
+use super::encode::Bytes;
+use super::number;
+use super::receive::{place, Words};
 
 /// The sums of a row's words over each block by itself: sum k over block c at 8k + c.
 #[repr(align(16))]
@@ -22,10 +24,19 @@ macro_rules! add {
 
 /// Bits with d of number r and bits without d of number r + d change places; `m` has the bits without d.
 #[inline(always)]
-fn transpose(b: &mut [u16; 16], r: usize, d: usize, m: u16) {
+pub fn transpose<const N: usize>(b: &mut [u16; N], r: usize, d: usize, m: u16) {
     let t = (b[r] >> d ^ b[r + d]) & m;
     b[r + d] ^= t;
     b[r] ^= t << d;
+}
+
+/// The same for d = 2 and d = 1, in the four numbers from r on.
+#[inline(always)]
+pub fn transpose_four<const N: usize>(b: &mut [u16; N], r: usize) {
+    transpose(b, r, 2, 0x3333);
+    transpose(b, r + 1, 2, 0x3333);
+    transpose(b, r, 1, 0x5555);
+    transpose(b, r + 2, 1, 0x5555);
 }
 
 /// The same for d = 8.
@@ -56,10 +67,7 @@ pub fn back_sums(Words(words): &Words, Sums(front): &Sums) -> Sums {
             transpose(&mut b, r + 8, 4, 0x0F0F);
         }
         for r in [0, 4, 8, 12] {
-            transpose(&mut b, r, 2, 0x3333);
-            transpose(&mut b, r + 1, 2, 0x3333);
-            transpose(&mut b, r, 1, 0x5555);
-            transpose(&mut b, r + 2, 1, 0x5555);
+            transpose_four(&mut b, r);
         }
         let last = b[8] & LAST[c];
         b[8] ^= last;
@@ -68,6 +76,33 @@ pub fn back_sums(Words(words): &Words, Sums(front): &Sums) -> Sums {
             sums[8 * k + c] = s[k] ^ front[8 * k + c];
         }
         sums[128 + c] = parity ^ last ^ front[128 + c];
+    }
+    Sums(sums)
+}
+
+/// The same for words in bytes, in which bits 239 to 255 are zero.
+#[inline(never)]
+pub fn byte_sums(Bytes(words): &Bytes, Sums(front): &Sums) -> Sums {
+    let mut sums = [0; 136];
+    for c in 0..8 {
+        let mut b = [0; 16];
+        for r in 0..8 {
+            for j in 0..2 {
+                b[8 * j + (r ^ 7)] = number(words, 32 * r + 16 * j + 2 * c);
+            }
+        }
+        for r in 0..4 {
+            transpose(&mut b, r, 4, 0x0F0F);
+            transpose(&mut b, r + 8, 4, 0x0F0F);
+        }
+        for r in [0, 4, 8, 12] {
+            transpose_four(&mut b, r);
+        }
+        let (s, parity) = sums_of_back(b);
+        for k in 0..16 {
+            sums[8 * k + c] = s[k] ^ front[8 * k + c];
+        }
+        sums[128 + c] = parity ^ front[128 + c];
     }
     Sums(sums)
 }
@@ -149,19 +184,49 @@ fn sums_of_front(mut x: [u16; 16]) -> [u16; 16] {
 
 /// The sums over all blocks, the words of the first row in the lower half: eight blocks become four, two and one.
 #[inline(never)]
-pub fn join(Sums(row0): &Sums, Sums(row1): &Sums) -> [u32; 17] {
+pub fn join(row0: &Sums, row1: &Sums) -> [u32; 17] {
+    one(&four(row0, row1))
+}
+
+/// The sums over blocks c and c + 4, for c < 4: sum k at 4k + c.
+#[repr(align(16))]
+pub struct Four([u32; 68]);
+
+/// The first step of `join`, apart.
+#[inline(never)]
+pub fn join_to_four(row0: &Sums, row1: &Sums) -> Four {
+    four(row0, row1)
+}
+
+#[inline(always)]
+fn four(Sums(row0): &Sums, Sums(row1): &Sums) -> Four {
     let rows = |n: usize| u32::from(row0[n]) | u32::from(row1[n]) << 16;
     let mut four = [0; 68];
     for c in 0..4 {
-        let s = times_a4(std::array::from_fn(|k| rows(8 * k + c)));
+        let mut s = [0; 16];
+        for k in 0..16 {
+            s[k] = rows(8 * k + c);
+        }
+        s = times_a4(s);
         for k in 0..16 {
             four[4 * k + c] = s[k] ^ rows(8 * k + c + 4);
         }
         four[64 + c] = rows(128 + c) ^ rows(132 + c);
     }
+    Four(four)
+}
+
+#[inline(always)]
+fn one(Four(four): &Four) -> [u32; 17] {
     let two = |n: usize| u64::from(four[2 * n]) | u64::from(four[2 * n + 1]) << 32;
-    let s = times_a2(std::array::from_fn(|k| two(2 * k)));
-    let x: [u64; 16] = std::array::from_fn(|k| s[k] ^ two(2 * k + 1));
+    let mut x = [0; 16];
+    for k in 0..16 {
+        x[k] = two(2 * k);
+    }
+    x = times_a2(x);
+    for k in 0..16 {
+        x[k] ^= two(2 * k + 1);
+    }
     let parity = two(32) ^ two(33);
     let s = times_a(x);
     let mut one = [0; 17];
@@ -170,6 +235,20 @@ pub fn join(Sums(row0): &Sums, Sums(row1): &Sums) -> [u32; 17] {
     }
     one[16] = (parity ^ parity >> 32) as u32;
     one
+}
+
+/// The other steps, and bits 239 to 254 of the words and bit 255, with which all sums become zero. The list was searched for as well.
+#[inline(always)]
+pub fn check_bits(four: &Four) -> ([u32; 16], u32) {
+    let [mut x @ .., parity] = one(four);
+    add!(x, 7 11, 11 3, 12 9);
+    let last = parity ^ x[2] ^ x[4] ^ x[5] ^ x[6] ^ x[11] ^ x[14];
+    add!(x, 14 1, 12 14, 1 7, 9 5, 7 9, 1 10, 9 13, 4 7, 8 9, 15 9, 9 11, 2 12, 11 4, 0 8, 14 11);
+    add!(x, 2 0, 0 10, 12 6, 5 6, 6 14, 15 6, 3 15, 6 1, 10 5, 4 2, 4 6, 10 9, 13 14, 15 12);
+    add!(x, 5 15, 7 3, 3 0, 13 3, 15 10, 14 8, 9 1, 10 2, 5 6, 2 7);
+    let first = [x[0], x[15], x[8], x[2], x[12], x[5], x[3], x[11]];
+    let second = [x[7], x[4], x[6], x[13], x[1], x[14], x[10], x[9]];
+    (both(first, second), last)
 }
 
 /// S1 times a^4, and S3 times a^12.
