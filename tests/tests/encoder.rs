@@ -25,9 +25,10 @@ const FULL_PAIR: u32 = 10;
 /// Of the bits of a history below pair 10, where none counts, one in so many.
 const SAMPLE: usize = 11;
 
-/// Calls with bytes that no encoder made, for each of five kinds of pair numbers.
-const ARBITRARY_CALLS: u64 = 420;
-const _: () = assert!(5 * ARBITRARY_CALLS >= 2_000);
+/// Calls with random bytes, for each of five kinds of pair numbers, and calls with bytes that are not random.
+const RANDOM_CALLS: u64 = 420;
+const _: () = assert!(5 * RANDOM_CALLS >= 2_000);
+const OTHER_CALLS: u64 = 100;
 
 /// Pairs of a run from fresh.
 const RUN: u32 = 30;
@@ -172,9 +173,9 @@ fn history_bits_below_pair_10() {
     }
 }
 
-/// Random bytes, or now and then all the same or a single bit.
+/// Bytes that are random, all the same, or a single bit.
 fn any_bytes(count: usize, random: &mut Random) -> Vec<u8> {
-    match random.between(0, 8) {
+    match random.between(0, 3) {
         0 => vec![[0, 255, 0x55, 0x0f][random.between(0, 4)]; count],
         1 => single(count, random.between(0, 8 * count)),
         _ => random.bytes(count),
@@ -195,21 +196,29 @@ fn assert_words(payload: &[u8], held: &[u8], coded: &[u8], pair: u32) {
     }
 }
 
-/// Payloads and histories of any bytes, about pair 10 and far from it.
-#[test]
-fn arbitrary_payloads_and_histories() {
-    let mut random = Random::new(3_300);
-    for _ in 0..ARBITRARY_CALLS {
+/// Calls about pair 10 and far from it, with payloads and histories of these bytes.
+fn encode_arbitrary(calls: u64, bytes: fn(usize, &mut Random) -> Vec<u8>, random: &mut Random) {
+    for _ in 0..calls {
         let large = random.between(11, SPENT as usize) as u32;
         for pair in [0, 9, 10, large, SPENT - 1] {
-            let encoder = any_encoder(&mut random);
-            let payload = any_bytes(PAYLOAD_BYTES, &mut random);
-            let held = any_bytes(HELD_BYTES, &mut random);
-            let numbers = Numbers { encoder, pair };
-            let coded = encode(&payload, &held, numbers, &mut random);
+            let encoder = any_encoder(random);
+            let (payload, held) = (bytes(PAYLOAD_BYTES, random), bytes(HELD_BYTES, random));
+            let coded = encode(&payload, &held, Numbers { encoder, pair }, random);
             assert_words(&payload, &held, &coded, pair);
         }
     }
+}
+
+/// Payloads and histories such as no caller and no encoder makes.
+#[test]
+fn arbitrary_payloads_and_histories() {
+    let mut random = Random::new(3_300);
+    encode_arbitrary(
+        RANDOM_CALLS,
+        |count, random| random.bytes(count),
+        &mut random,
+    );
+    encode_arbitrary(OTHER_CALLS, any_bytes, &mut random);
 }
 
 /// Runs from fresh over pair 10, in which the history is what the calls before left.
