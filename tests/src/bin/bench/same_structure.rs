@@ -1,6 +1,6 @@
 //! The library's functions once more, in plain Rust with the same loops: what is left between the two
 //! when the structure is the same. It follows crates/bits, encoder, receiver, history_core, pair_core, pair_words_core,
-//! payload_core, receiving_core, mending_core, gathering_core, rows_core, block_sums_core, moved_sums_core,
+//! payload_core, receiving_core, mending_core, syndromes_core, gathering_core, rows_core, riffle_core, block_sums_core, moved_sums_core,
 //! permutation_core, blocks, word, locating_core, gf256, interleaver, interleaver_core, block_core, cells, levels_core,
 //! mapping_core, mapping_qpsk_core, cells_core, frame, frame_core and frame_legal_core function by function, and changes
 //! with them.
@@ -41,7 +41,9 @@ mod pair_words_core;
 mod payload_core;
 mod permutation_core;
 mod receiving_core;
+mod riffle_core;
 mod rows_core;
+mod syndromes_core;
 mod word;
 
 /// Bit i of a buffer.

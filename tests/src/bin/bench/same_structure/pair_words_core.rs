@@ -80,12 +80,17 @@ pub fn put_coded(backs: &[u8; 512], coded: &mut [u8; 512]) {
     }
 }
 
+/// Brings each of the bytes of a part 512 bytes down to its place.
+fn move_part(history: &mut [u8; 5120], from: usize, to: usize) {
+    for i in from..to {
+        history[i] = history[i + 512];
+    }
+}
+
 /// The oldest pair goes, and the newest comes in behind the others.
 pub fn shift_in(history: &mut [u8; 5120], newest: &[u8; 512]) {
     let n = history.len() - 512;
-    for i in 0..n {
-        history[i] = history[i + 512];
-    }
+    move_part(history, 0, n);
     for i in 0..512 {
         history[n + i] = newest[i];
     }

@@ -1,6 +1,7 @@
 //! crates/payload_core: the payload of words received, from their back halves in numbers of sixteen bits.
 
 use super::blocks::turn;
+use super::riffle_core::by_blocks;
 
 fn number(halves: &[u16; 256], n: usize) -> u16 {
     halves[n]
@@ -15,20 +16,9 @@ fn row_of_halves(halves: &[u16; 256], s: usize) -> [u16; 128] {
     x
 }
 
-/// The two halves of a row shuffled into each other.
-fn riffle(x: [u16; 128]) -> [u16; 128] {
-    let mut y = [0; 128];
-    for n in 0..64 {
-        y[2 * n] = x[n];
-        y[2 * n + 1] = x[64 + n];
-    }
-    y
-}
-
 /// These in order by blocks: number 16C+r is of block C of the row's word r.
-fn by_blocks(halves: &[u16; 256], s: usize) -> [u16; 128] {
-    let x = row_of_halves(halves, s);
-    riffle(riffle(riffle(riffle(x))))
+fn row_by_blocks(halves: &[u16; 256], s: usize) -> [u16; 128] {
+    by_blocks(row_of_halves(halves, s))
 }
 
 fn in_row(row: &[u16; 128], n: usize) -> u16 {
@@ -97,8 +87,8 @@ fn put_last(halves: &[u16; 256], out: &mut [u8]) {
 
 /// The payload: six blocks of each word, then what is left of block 6. Number 8w+C of the halves is of block C of word w.
 pub fn put_payload(halves: &[u16; 256], payload: &mut [u8; 444]) {
-    let first = by_blocks(halves, 0);
-    let second = by_blocks(halves, 1);
+    let first = row_by_blocks(halves, 0);
+    let second = row_by_blocks(halves, 1);
     put_blocks(&first, &second, &mut payload[0..384]);
     put_last(halves, &mut payload[384..444]);
 }
