@@ -18,14 +18,10 @@ fn number(bytes: &[u8], at: usize) -> u16 {
     u16::from_le_bytes([bytes[at], bytes[at + 1]])
 }
 
-/// In bit rows whose number has d, columns that differ by d change places; `m` has those without d.
+/// Columns that differ by d change places; `m` has those without d.
 #[inline(always)]
-fn exchange(b: &mut [u16; 16], d: usize, m: u16) {
-    for r in 0..16 {
-        if r & d != 0 {
-            b[r] = b[r] >> d & m | (b[r] & m) << d;
-        }
-    }
+fn exchanged(number: u16, d: usize, m: u16) -> u16 {
+    number >> d & m | (number & m) << d
 }
 
 /// One of the first half and one of the second in turn: the highest bit of each index becomes the lowest.

@@ -6,7 +6,7 @@ use ofec_tests::outcome::{Outcome, MISFIT};
 use super::sums::{
     byte_sums, check_bits, front_sums, join_to_four, transpose, transpose_four, Four,
 };
-use super::{exchange, judged, number, riffle};
+use super::{exchanged, judged, number, riffle};
 
 /// The back halves of a row's words in bytes: byte j of word r in block c, j = 0 or 1, at 32 (r % 8) + 16 j + 2 c + r / 8.
 #[repr(align(16))]
@@ -16,7 +16,8 @@ pub struct Bytes(pub [u8; 256]);
 #[repr(align(16))]
 struct Block6([u8; 64]);
 
-/// The bits of eight words are 15 bytes, and those of word n begin n bits before byte 2n.
+/// The bits of eight words are 15 bytes, and those of word n begin n bits before byte 2n. The last of them are read from where two
+/// bytes more follow.
 #[inline(never)]
 fn block6(payload: &[u8; 444]) -> Block6 {
     let mut end = [0; 18];
@@ -76,6 +77,7 @@ fn put_columns(four: &Four, Columns(columns): &mut Columns) {
     }
 }
 
+/// In three steps, as for the sums.
 #[inline(never)]
 fn transposed(Columns(columns): &Columns) -> Checks {
     let mut checks = [0; 72];
@@ -103,6 +105,21 @@ const CHECKED: [[u16; 8]; 2] = [
     [0, 0, 0, 0, 0, 0, 0xFFFF, 0xFFFF],
 ];
 
+/// Columns exchanged by ^r, for r < 8.
+#[inline(always)]
+fn by_columns(mut number: u16, r: usize) -> u16 {
+    if r & 4 != 0 {
+        number = exchanged(number, 4, 0x0F0F);
+    }
+    if r & 2 != 0 {
+        number = exchanged(number, 2, 0x3333);
+    }
+    if r & 1 != 0 {
+        number = exchanged(number, 1, 0x5555);
+    }
+    number
+}
+
 /// The bit rows of a row, with their check bits and their columns exchanged by ^r, into the coded pair and the newest of the history.
 #[inline(never)]
 fn put_row<const ROW: usize>(
@@ -112,20 +129,14 @@ fn put_row<const ROW: usize>(
     newest: &mut [u8; 512],
 ) {
     for c in 0..8 {
-        let mut b = [0; 16];
         for r in 0..8 {
+            let mut b = [0; 2];
             for j in 0..2 {
-                let from = 1 + 8 * r + [FIRST, SECOND][j][ROW];
                 let own = number(words, 32 * r + 16 * j + 2 * c);
-                b[8 * j + r] = own | checks[from + c] & CHECKED[j][c];
+                let from = 1 + 8 * r + [FIRST, SECOND][j][ROW];
+                b[j] = by_columns(own | checks[from + c] & CHECKED[j][c], r);
             }
-        }
-        exchange(&mut b, 4, 0x0F0F);
-        exchange(&mut b, 2, 0x3333);
-        exchange(&mut b, 1, 0x5555);
-        for r in 0..8 {
-            let (x, y) = (b[r], b[r + 8]);
-            let own = [x & 0x00FF | y << 8, y >> 8 | x & 0xFF00];
+            let own = [b[0] & 0x00FF | b[1] << 8, b[1] >> 8 | b[0] & 0xFF00];
             for h in 0..2 {
                 let at = 256 * ROW + 128 * h + 16 * r + 2 * c;
                 coded[at..][..2].copy_from_slice(&own[h].to_le_bytes());
@@ -153,8 +164,8 @@ fn move_down(pairs: &mut [u8; 5120], parts: std::ops::Range<usize>) {
 fn encode(payload: &[u8; 444], coded: &mut [u8; 512], pairs: &mut [u8; 5120], full: bool) {
     let block6 = block6(payload);
     let front0 = front_sums::<256>(pairs, full);
-    let words0 = words::<0>(payload, &block6);
     let front1 = front_sums::<0>(pairs, full);
+    let words0 = words::<0>(payload, &block6);
     let words1 = words::<1>(payload, &block6);
     let sums0 = byte_sums(&words0, &front0);
     move_down(pairs, 0..1);

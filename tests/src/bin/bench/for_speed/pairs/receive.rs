@@ -5,7 +5,7 @@ use ofec_tests::outcome::{Outcome, MISFIT};
 
 use super::repair::repair;
 use super::sums::{back_sums, front_sums, join};
-use super::{exchange, judged, number, riffle};
+use super::{exchanged, judged, number, riffle};
 
 /// The back halves of a row's words, eight numbers each. They are aligned so that vectors are read in one piece.
 #[repr(align(16))]
@@ -15,6 +15,16 @@ pub struct Words(pub [u16; 128]);
 #[inline(always)]
 pub const fn place(r: usize) -> usize {
     r % 8 * 2 + r / 8
+}
+
+/// In bit rows whose number has d, columns that differ by d change places.
+#[inline(always)]
+fn exchange(b: &mut [u16; 16], d: usize, m: u16) {
+    for r in 0..16 {
+        if r & d != 0 {
+            b[r] = exchanged(b[r], d, m);
+        }
+    }
 }
 
 /// The bit rows of a row, their columns exchanged by ^r.

@@ -86,17 +86,15 @@ pub fn byte_sums(Bytes(words): &Bytes, Sums(front): &Sums) -> Sums {
     let mut sums = [0; 136];
     for c in 0..8 {
         let mut b = [0; 16];
-        for r in 0..8 {
-            for j in 0..2 {
+        for j in 0..2 {
+            for r in 0..8 {
                 b[8 * j + (r ^ 7)] = number(words, 32 * r + 16 * j + 2 * c);
             }
-        }
-        for r in 0..4 {
-            transpose(&mut b, r, 4, 0x0F0F);
-            transpose(&mut b, r + 8, 4, 0x0F0F);
-        }
-        for r in [0, 4, 8, 12] {
-            transpose_four(&mut b, r);
+            for r in 0..4 {
+                transpose(&mut b, 8 * j + r, 4, 0x0F0F);
+            }
+            transpose_four(&mut b, 8 * j);
+            transpose_four(&mut b, 8 * j + 4);
         }
         let (s, parity) = sums_of_back(b);
         for k in 0..16 {
