@@ -1,8 +1,8 @@
-// The call `encode_pair`: 01, "Rows and pairs", and 02, E2. Over `pair_core` and `history_core`, by the definitions of `pair_spec`.
+// The call `encode_pair`: 01, "Rows and pairs", and 02, E2. Over `encoding_core` and `history_core`, by the definitions of `pair_spec`.
 use calls::Answer;
 use calls::Refusal;
+use encoding_core::encode_into;
 use history_core::SPENT;
-use pair_core::encoding::encode_into;
 ghost use mathlib.Core.Path.{_≡_};
 ghost use Rattle.pair_spec.specs.Calls.{afterEncode, encodeCall};
 

@@ -1,4 +1,4 @@
--- The back halves of a pair's 32 words, 16 bytes each, one after another; coded pair and payload as the code gathers them from there.
+-- The back halves of a pair's 32 words, one after another; coded pair and payload as the code gathers them from there.
 -- Assumes nothing.
 use mathlib.Core.Path.{_≡_, sym, ap, _∙_}
 use mathlib.Core.Bool.{Bool, true, false, cond}
@@ -10,50 +10,22 @@ use borrow.Author.Tests.{lt-ltb, le-ltb}
 use lib.Bits.{xor-block}
 use lib.Dec.{ltb}
 use lib.ListN.{getD}
-use Rattle.bits.specs.Lists.{tabulate}
-use Rattle.bits.specs.ListLaws.{getD-tabulate, tabulate-ext}
 use Rattle.bits.specs.Bits.{bit, bitOf, byteOf, fromBits, pack}
-use Rattle.bits.specs.BitLaws.{fromBits-ext, bit-pack, pack-ext}
+use Rattle.bits.specs.BitLaws.{fromBits-ext, pack-ext}
 use Rattle.bits.specs.Tests.{grid}
 use Rattle.bits.specs.Xor.{_⊕_}
 use Rattle.bits.specs.XorLaws.{⊕-lt}
 use Rattle.word_spec.specs.CodeWord.{Word}
 use Rattle.pair_spec.specs.Pairs.{laidOut, codedIndex, ownIndex, codedPair, payloadOf}
 use Rattle.pair_spec.specs.PairLaws.{codedPlace, codedPlace-lt, coded-laid, ownWord, ownPlace, own-from, payload-laid}
-use Rattle.pair_spec.specs.Encoding.{encodedWord, encoded}
+use Rattle.pair_spec.specs.Encoding.{encodedWord}
 use Rattle.pair_spec.specs.EncodingLaws.{encoded-code}
 use Rattle.pair_spec.specs.Receiving.{repairedWord}
 use Rattle.pair_spec.specs.ReceivingLaws.{repairedWord-bits}
 
--- The back half of word w, and of all of them: bit m is bit 128 + m mod 128 of word m div 128.
-unfoldable pub backHalf : (ℕ → Word) → ℕ → List ℕ
-backHalf words w = pack 16 (λ k. words w (128 + k))
-
+-- The back halves of all words: bit m is bit 128 + m mod 128 of word m div 128.
 unfoldable pub backHalves : (ℕ → Word) → ℕ → ℕ
 backHalves words m = words (m / 128) (128 + m % 128)
-
--- The last 16 of a word's 32 bytes
-unfoldable pub lastHalf : List ℕ → List ℕ
-lastHalf s = tabulate 16 (λ j. getD s (16 + j) 0)
-
--- are its back half,
-pub last-half : (words : ℕ → Word) (w : ℕ) (s b : List ℕ) → b ≡ lastHalf s → s ≡ pack 32 (words w) → b ≡ backHalf words w
-unfolding pack byteOf lastHalf backHalf
-last-half words w s b p e =
-    p ∙ tabulate-ext 16 (λ j. getD s (16 + j) 0) (byteOf (λ k. words w (128 + k)))
-    (λ j l. ap (λ t. getD t (16 + j) 0) e ∙ getD-tabulate 32 (byteOf (words w)) (16 + j) 0 (omega arith)
-    ∙ fromBits-ext 8 (λ k. words w ((16 + j) * 8 + k)) (λ k. words w (128 + (j * 8 + k))) (λ k lk. ap (λ x. words w x % 2) (omega arith)))
-
--- and block w of all back halves.
-pub back-block : (words : ℕ → Word) (w : ℕ) (b : List ℕ) → b ≡ backHalf words w
-    → b ≡ tabulate 16 (λ i. byteOf (backHalves words) (w * 16 + i))
-unfolding pack byteOf backHalf backHalves
-back-block words w b e =
-    e ∙ tabulate-ext 16 (byteOf (λ k. words w (128 + k))) (λ i. byteOf (backHalves words) (w * 16 + i))
-    (λ i l. fromBits-ext 8 (λ k. words w (128 + (i * 8 + k))) (λ k. words (((w * 16 + i) * 8 + k) / 128) (128 + ((w * 16 + i) * 8 + k) % 128))
-    (λ k lk. let d : ((w * 16 + i) * 8 + k) / 128 ≡ w = omega arith in
-    let m : ((w * 16 + i) * 8 + k) % 128 ≡ i * 8 + k = omega arith in
-    rw (d, m)))
 
 -- ---- where the bits of a coded pair and of a payload stand
 
@@ -62,10 +34,6 @@ codedSource i = i / 16 * 16 + ((i % 16) ⊕ (i / 128 % 16))
 
 unfoldable pub payloadSource : ℕ → ℕ
 payloadSource i = cond (ltb i 3072) (i % 512 / 16 * 128 + i / 512 * 16 + i % 16) ((i - 3072) / 15 * 128 + 96 + (i - 3072) % 15)
-
--- As it is gathered.
-unfoldable pub codedFrom : List ℕ → List ℕ
-codedFrom backs = pack 512 (λ i. bit backs (codedSource i))
 
 -- Where the bits of byte j come from: one byte, with its bits exchanged by ^r.
 ⊕-eight : (a b k l : ℕ) → k < 8 → l < 8 → (a * 8 + k) ⊕ (b * 8 + l) ≡ (a ⊕ b) * 8 + (k ⊕ l)
@@ -178,14 +146,3 @@ encoded-bits n h P y w k lw l = encoded-code n h P y w .bits k l
 
 pub repaired-bits : (n : ℕ) (h : List ℕ) (P : ℕ) (p : List ℕ) → OfBits (repairedWord n h P p)
 repaired-bits n h P p w k lw l = repairedWord-bits n h P p w k
-
--- In bytes.
-packed-bit : (words : ℕ → Word) → OfBits words → (s : List ℕ) → s ≡ pack 512 (backHalves words) → (m : ℕ) → m < 4096
-    → bit s m ≡ backHalves words m
-packed-bit words bits s e m l = ap (λ t. bit t m) e ∙ bit-pack 512 (backHalves words) m l ∙ back-bits words bits m l
-
-pub encoded-by-words : (n : ℕ) (h : List ℕ) (P : ℕ) (y s q : List ℕ) → s ≡ pack 512 (backHalves (encodedWord n h P y)) → q ≡ codedFrom s
-    → q ≡ encoded n h P y
-unfolding encoded codedFrom
-encoded-by-words n h P y s q e p =
-    p ∙ coded-gathered (encodedWord n h P y) (bit s) (packed-bit (encodedWord n h P y) (encoded-bits n h P y) s e)

@@ -1,4 +1,4 @@
--- Where the code finds each bit of a word, and the word that it makes of them.
+-- Where the code finds each bit of a word.
 -- Assumes nothing.
 use mathlib.Core.Path.{_≡_, sym, ap, _∙_}
 use mathlib.Core.Bool.{true}
@@ -9,16 +9,9 @@ use native.Mathlib.Decide.{decLt}
 use borrow.Author.Tests.{lt-ltb, le-ltb, le-leb, lt-leb}
 use lib.Dec.{ltb, leb}
 use lib.ListN.{length}
-use Rattle.bits.specs.Bits.{bit, pack}
-use Rattle.bits.specs.BitLaws.{bit-pack, pack-ext}
+use Rattle.bits.specs.Bits.{bit}
 use Rattle.bits.specs.Xor.{_⊕_}
-use Rattle.word_spec.specs.CodeWord.{Word}
-use Rattle.word_spec.specs.Completion.{firstBits, completed}
-use Rattle.word_spec.specs.CompletionLaws.{completed-ext}
-use Rattle.word_spec.specs.Repair.{repair, repaired, mark}
-use Rattle.word_spec.specs.RepairLaws.{repaired-ext}
-use Rattle.word_spec.specs.RepairTheorems.{repair-ext}
-use Rattle.word_spec.specs.declared.Repair.{Repair}
+use Rattle.word_spec.specs.Completion.{firstBits}
 use Rattle.pair_spec.specs.Rows.{frontBit, backBit, frontCounts, checked, wordOf}
 use Rattle.pair_spec.specs.RowLaws.{reach, xor-16, other-pair, other-row, word-start, word-front, word-back, Place, zeros, before, own}
 use Rattle.pair_spec.specs.RowLaws.{place}
@@ -26,10 +19,9 @@ use Rattle.pair_spec.specs.Pairs.{pairIndex, pairBit, wordRow, wordBitRow, ownI
 use Rattle.pair_spec.specs.PairLaws.{ownIndex-low, ownIndex-high}
 use Rattle.pair_spec.specs.History.{depth, heldBits}
 use Rattle.pair_spec.specs.HistoryLaws.{held-before, held-newest}
-use Rattle.pair_spec.specs.Encoding.{openWord, encodedWord}
+use Rattle.pair_spec.specs.Encoding.{openWord}
 use Rattle.pair_spec.specs.EncodingLaws.{of-pair, open-front, open-back, open-bits}
-use Rattle.pair_spec.specs.Receiving.{heldWord, repairOf, repairedWord}
-use Rattle.pair_spec.specs.ReceivingLaws.{held-bits}
+use Rattle.pair_spec.specs.Receiving.{heldWord}
 
 -- ---- the front half
 
@@ -106,47 +98,3 @@ module _ (n : ℕ) (h y : List ℕ) (P w : ℕ) (lw : w < 32) where
   pub open-none : (k : ℕ) → 239 ≤ k → 0 ≡ firstBits (openWord n h P y w) k
   unfolding firstBits
   open-none k l = simp (le-ltb _ _ l)
-
--- ---- a word completed, and a word repaired
-
-word-bit : (f : Word) (s : List ℕ) → ((k : ℕ) → k < 256 → f k < 2) → s ≡ pack 32 f → (k : ℕ) → k < 256 → bit s k ≡ f k
-word-bit f s b e k l = ap (λ t. bit t k) e ∙ bit-pack 32 f k (omega arith) ∙ omega (arith, b k l)
-
-pub word-completed : (n : ℕ) (h : List ℕ) (P : ℕ) (y : List ℕ) (w : ℕ) (s t : List ℕ) → s ≡ pack 32 (firstBits (openWord n h P y w))
-    → t ≡ pack 32 (completed (bit s))
-    → t ≡ pack 32 (encodedWord n h P y w)
-unfolding encodedWord firstBits
-word-completed n h P y w s t es et =
-    et ∙ pack-ext 32 (completed (bit s)) (completed (openWord n h P y w)) (λ k l. completed-ext (bit s) (openWord n h P y w) same k)
-  where
-    same : (k : ℕ) → k < 239 → bit s k ≡ openWord n h P y w k
-    same k l =
-        let t : ltb k 239 ≡ true = lt-ltb k 239 l in
-        let is : firstBits (openWord n h P y w) k ≡ openWord n h P y w k = rw t in
-        ap (λ u. bit u k) es ∙ bit-pack 32 (firstBits (openWord n h P y w)) k (omega arith) ∙ omega (arith, is, open-bits n h P y w k)
-
--- Flips may fall in front from pair 10 on.
-front-same : (P w : ℕ) → w < 32 → frontCounts (wordRow P w) ≡ leb 10 P
-unfolding frontCounts
-front-same P w l = go (decLt P 10)
-  where
-    go : Dec (P < 10) → leb 20 (wordRow P w) ≡ leb 10 P
-    go (yes m) = lt-leb 20 (wordRow P w) (omega arith) ∙ sym (lt-leb 10 P m)
-    go (no m) = le-leb 20 (wordRow P w) (omega arith) ∙ sym (le-leb 10 P (omega arith))
-
-module _ (n : ℕ) (h : List ℕ) (P : ℕ) (p : List ℕ) (w : ℕ) (lw : w < 32) (s : List ℕ) (es : s ≡ pack 32 (heldWord n h P p w)) where
-  repair-same : repair (leb 10 P) (bit s) ≡ repairOf n h P p w
-  unfolding repairOf checked
-  repair-same =
-      repair-ext (leb 10 P) (bit s) (heldWord n h P p w) (word-bit (heldWord n h P p w) s (λ k l. held-bits n h P p w k) es)
-      ∙ ap (λ f. repair f (heldWord n h P p w)) (sym (front-same P w lw))
-
-  pub word-mark : (r : Repair) (m : ℕ) → r ≡ repair (leb 10 P) (bit s) → m ≡ mark r → m ≡ mark (repairOf n h P p w)
-  word-mark r m er em = em ∙ ap mark (er ∙ repair-same)
-
-  pub word-repaired : (t : List ℕ) → t ≡ pack 32 (repaired (repair (leb 10 P) (bit s)) (bit s)) → t ≡ pack 32 (repairedWord n h P p w)
-  unfolding repairedWord
-  word-repaired t et =
-      et ∙ ap (λ r. pack 32 (repaired r (bit s))) repair-same
-      ∙ pack-ext 32 (repaired (repairOf n h P p w) (bit s)) (repaired (repairOf n h P p w) (heldWord n h P p w))
-      (λ k l. repaired-ext (repairOf n h P p w) (bit s) (heldWord n h P p w) k (word-bit (heldWord n h P p w) s (λ k l. held-bits n h P p w k) es k (omega arith)))

@@ -13,7 +13,6 @@ ghost use Rattle.pair_spec.specs.Encoding.{openWord};
 ghost use Rattle.pair_spec.specs.Receiving.{heldWord};
 ghost use Rattle.pair_words_core.specs.WordBits.{frontHeld};
 ghost use Rattle.pair_words_core.specs.WordBytes.{frontStored, ownBit};
-ghost use Rattle.pair_words_core.specs.BackHalves.{lastHalf};
 
 // Exclusive or of two columns or bit rows.
 pub fn xor16(a: usize, b: usize) -> usize
@@ -113,14 +112,4 @@ pub fn open_word(history: &[u8], payload: &[u8], pair: u32, w: usize) -> [u8; 32
         word[j] = own_byte(payload, w, j);
     }
     word
-}
-
-// The last 16 bytes of a word.
-pub fn put_back_half(word: &[u8], back: &mut [u8])
-    requires { ⌜ (length (now word) ≡ 32) × (length (now back) ≡ 16) ⌝ }
-    ensures { λ _. ⌜ now (back .exit) ≡ lastHalf (now (word .entry)) ⌝ }
-{
-    for j in 0..16 {
-        back[j] = word[16 + j];
-    }
 }

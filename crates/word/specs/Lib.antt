@@ -2,4 +2,3 @@
 pub mod Partial
 pub mod Checking
 pub mod Applying
-pub mod Completing

@@ -1,7 +1,6 @@
-// Check words in bytes, the workers and the call `repair_word`. Over `word_spec` and `locating_core`, below `pair_core` and `mending_core`.
+// Check words in bytes, the workers and the call `repair_word`. Over `word_spec` and `locating_core`, below `mending_core`.
 // 01, "Code words": "A word lent by itself is 32 bytes, bit 0 first".
 pub mod checks;
-pub mod completion;
 pub mod syndrome;
 pub mod tables;
 
