@@ -1,9 +1,9 @@
 //! The library's functions once more, in plain Rust with the same loops: what is left between the two
-//! when the structure is the same. It follows crates/bits, encoder, receiver, history_core, pair_core, pair_words_core,
-//! payload_core, receiving_core, mending_core, syndromes_core, gathering_core, rows_core, riffle_core, block_sums_core, moved_sums_core,
-//! permutation_core, blocks, word, locating_core, gf256, interleaver, interleaver_core, block_core, cells, levels_core,
-//! mapping_core, mapping_qpsk_core, cells_core, frame, frame_core and frame_legal_core function by function, and changes
-//! with them.
+//! when the structure is the same. It follows crates/bits, encoder, receiver, history_core, pair_words_core, encoding_core,
+//! payload_rows_core, completing_core, check_sums_core, payload_core, receiving_core, mending_core, syndromes_core, gathering_core,
+//! rows_core, riffle_core, block_sums_core, moved_sums_core, permutation_core, blocks, word, locating_core, gf256, interleaver,
+//! interleaver_core, block_core, cells, levels_core, mapping_core, mapping_qpsk_core, cells_core, frame, frame_core and
+//! frame_legal_core function by function, and changes with them.
 //!
 //! Lengths of buffers that contracts of the library require are in the types here, and no call is inlined
 //! into the code that times it.
@@ -25,6 +25,9 @@ mod block_core;
 mod block_sums_core;
 mod blocks;
 mod cells_core;
+mod check_sums_core;
+mod completing_core;
+mod encoding_core;
 mod frame_core;
 mod frame_legal_core;
 mod gathering_core;
@@ -36,20 +39,15 @@ mod mapping_qpsk_core;
 mod mending_core;
 mod moved_sums_core;
 mod numbers;
-mod pair_core;
 mod pair_words_core;
 mod payload_core;
+mod payload_rows_core;
 mod permutation_core;
 mod receiving_core;
 mod riffle_core;
 mod rows_core;
 mod syndromes_core;
 mod word;
-
-/// Bit i of a buffer.
-fn bit(s: &[u8], i: usize) -> u8 {
-    (s[i / 8] >> (7 - i % 8)) % 2
-}
 
 #[inline(never)]
 pub fn encode_pair(
@@ -71,7 +69,7 @@ pub fn encode_pair(
         return Outcome::refused_pair(COUNT_SPENT, pair);
     }
     let (shown, pairs) = split_front(history);
-    pair_core::encode_into(payload, coded, pairs, pair);
+    encoding_core::encode_into(payload, coded, pairs, pair);
     history_core::put(encoder, pair + 1, shown);
     Outcome::accepted(pair + 1)
 }

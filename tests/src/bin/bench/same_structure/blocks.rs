@@ -5,6 +5,11 @@ pub type Block = [u16; 16];
 /// The eight blocks of a row side by side: word i of block C is number 8i+C.
 pub type BlockRow = [u16; 128];
 
+/// Bytes j and j+1, the second the upper.
+pub fn read_word(s: &[u8], j: usize) -> u16 {
+    u16::from(s[j + 1]) * 256 + u16::from(s[j])
+}
+
 /// A row turned left by n columns.
 pub fn turn(x: u16, n: usize) -> u16 {
     (x << n) | ((x >> 1) >> (15 - n))
@@ -46,5 +51,14 @@ pub fn write_row(row: &BlockRow, out: &mut [u8]) {
         let w = row[x];
         out[2 * x] = (w / 256 % 256) as u8;
         out[2 * x + 1] = (w % 256) as u8;
+    }
+}
+
+/// The bytes of two rows of words whose bytes stand the other way round.
+pub fn write_words(words: &[u16; 256], out: &mut [u8; 512]) {
+    for x in 0..256 {
+        let w = words[x];
+        out[2 * x] = (w % 256) as u8;
+        out[2 * x + 1] = (w / 256 % 256) as u8;
     }
 }

@@ -1,7 +1,8 @@
 //! crates/permutation_core: the permutations of a block, in four stages each: bit rows k and k+8 give bit rows 2k and 2k+1.
 //!
-//! Three functions are marked for inlining: compiled apart from the loops over eight blocks that call them, they keep the compiler from
-//! making vectors of these loops, and the receiver takes four times as long.
+//! Four functions are marked for inlining. Three are called in loops over eight blocks: compiled apart from these loops, they keep the
+//! compiler from making vectors of them, and the receiver takes four times as long. For `transpose_two` the mark makes no difference that
+//! was measured.
 
 use super::blocks::{choose, Block};
 
@@ -34,6 +35,11 @@ fn crossed(x: u16, y: u16, m: u16, n: usize) -> [u16; 2] {
     [x ^ d, y ^ (d << n)]
 }
 
+fn crossed_two(x: u32, y: u32, m: u32, n: usize) -> [u32; 2] {
+    let d = (x ^ (y >> n)) & m;
+    [x ^ d, y ^ (d << n)]
+}
+
 fn crossed_eight(x: u64, y: u64, m: u64, n: usize) -> [u64; 2] {
     let d = (x ^ (y >> n)) & m;
     [x ^ d, y ^ (d << n)]
@@ -44,6 +50,17 @@ fn cross_stage(b: Block, m: u16, n: usize) -> Block {
     let mut out = [0; 16];
     for k in 0..8 {
         let [first, second] = crossed(b[k], b[8 + k], m, n);
+        out[2 * k] = first;
+        out[2 * k + 1] = second;
+    }
+    out
+}
+
+/// The same of two blocks side by side.
+fn cross_stage_two(b: [u32; 16], m: u32, n: usize) -> [u32; 16] {
+    let mut out = [0; 16];
+    for k in 0..8 {
+        let [first, second] = crossed_two(b[k], b[8 + k], m, n);
         out[2 * k] = first;
         out[2 * k + 1] = second;
     }
@@ -86,6 +103,15 @@ pub fn transpose(b: Block) -> Block {
     let u = cross_stage(t, 0x0F0F, 4);
     let v = cross_stage(u, 0x3333, 2);
     cross_stage(v, 0x5555, 1)
+}
+
+/// Two blocks side by side, each transposed.
+#[inline]
+pub fn transpose_two(b: [u32; 16]) -> [u32; 16] {
+    let t = cross_stage_two(b, 0x00FF_00FF, 8);
+    let u = cross_stage_two(t, 0x0F0F_0F0F, 4);
+    let v = cross_stage_two(u, 0x3333_3333, 2);
+    cross_stage_two(v, 0x5555_5555, 1)
 }
 
 /// Eight blocks of 8 by 8 bits side by side, each transposed.

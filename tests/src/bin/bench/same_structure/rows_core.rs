@@ -1,12 +1,7 @@
 //! crates/rows_core: rows as words of sixteen bits, eight blocks side by side: read in byte order, and with the words of a pair put in order.
 
-use super::blocks::{block_in, block_of, lay, Block, BlockRow};
+use super::blocks::{block_in, block_of, lay, read_word, Block, BlockRow};
 use super::permutation_core::{exchange_columns, exchange_rows, transpose};
-
-/// Bytes j and j+1, the second the upper.
-fn read_word(s: &[u8], j: usize) -> u16 {
-    u16::from(s[j + 1]) * 256 + u16::from(s[j])
-}
 
 /// The eight words of bit row i of the row that starts at a byte.
 fn put_words<const N: usize>(s: &[u8; N], from: usize, i: usize, out: &mut [u16]) {
@@ -77,6 +72,21 @@ fn put_row(coded: &[u8; 512], s: usize, row: &mut [u16]) {
 pub fn put_halves(coded: &[u8; 512], halves: &mut [u16; 256]) {
     for s in 0..2 {
         put_row(coded, s, &mut halves[s * 128..s * 128 + 128]);
+    }
+}
+
+/// The columns of each block of a row exchanged, in place.
+fn exchange_row(row: &mut BlockRow) {
+    for block in 0..8 {
+        lay(row, block, exchange_columns(block_of(row, block)));
+    }
+}
+
+/// The halves of a pair's words become the words of its coded bytes, as they lie in memory.
+pub fn exchange(halves: &mut [u16; 256]) {
+    for s in 0..2 {
+        let row = &mut halves[s * 128..s * 128 + 128];
+        exchange_row(row.try_into().expect("a row"));
     }
 }
 
