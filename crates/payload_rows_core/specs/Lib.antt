@@ -1,3 +1,3 @@
 pub mod PayloadRows
-pub mod TwoFronts
+pub mod FourFronts
 pub mod PayloadRowLaws

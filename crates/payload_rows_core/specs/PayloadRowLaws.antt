@@ -1,27 +1,29 @@
 -- The numbers of a row as code makes them of the payload: six blocks, block 6 and zeros, and then all by words.
 -- Assumes nothing.
-use mathlib.Core.Path.{_≡_, refl, sym, ap, _∙_}
+use mathlib.Core.Path.{_≡_, refl, sym, ap, ap₂, _∙_}
 use mathlib.Core.List.{List}
 use Prim.Native.Nat.{ℕ, _+_, _-_, _*_, _/_, _%_, _^_, _<_, _≤_}
+use native.Mathlib.Nat.{mul-mod-left}
 use native.Mathlib.Decide.{decLt}
 use native.Mathlib.Omega.{arith}
-use borrow.Author.Tests.{lt-ltb, le-ltb}
 use borrow.Rule.Slice.PartMut.{midOf, putMid, same-len-mid, drop-put}
-use lib.ListN.{length, getD, drop, replicate, getD-replicate}
+use lib.Bits.{bitOr, or-shifted}
+use lib.ListN.{length, getD, set, drop, replicate, getD-replicate}
+use lib.Pow.{high, low, mod-pow-add, shl-shr}
 use lib.Seq.{getD-drop}
-use Rattle.bits.specs.Bits.{bit, bitOf, byteOf, fromBits}
-use Rattle.bits.specs.BitLaws.{fromBits-ext, bitOf-fromBits}
-use Rattle.bits.specs.Filling.{Filling, fill-none, fill-part, fill-ext}
+use Rattle.bits.specs.Bits.{bit, bitOf, fromBits}
+use Rattle.bits.specs.BitLaws.{fromBits-lt, fromBits-ext, bitOf-fromBits}
+use Rattle.bits.specs.Filling.{Filling, fill-none, fill-more, fill-part, fill-ext}
 use Rattle.bits.specs.Lists.{tabulate}
 use Rattle.bits.specs.ListLaws.{length-tabulate, getD-tabulate, is-tabulate, tabulate-ext}
-use Rattle.bits.specs.NumberLaws.{byteOf-bit}
 use Rattle.blocks.specs.Moves.{turned}
 use Rattle.blocks.specs.SideBySide.{readWord}
 use Rattle.pair_words_core.specs.WordBytes.{ownBit, own-low, own-high, own-none}
-use Rattle.payload_core.specs.NumberBits.{behind, bits-amid}
+use Rattle.payload_core.specs.NumberBits.{behind, behind-split}
 use Rattle.riffle_core.specs.Riffles.{byWords}
 use Rattle.riffle_core.specs.RiffleLaws.{by-words-at}
-use Rattle.payload_rows_core.specs.PayloadRows.{openNumber, rowNumber, eightBytes, fifteenOf, eightNumber, lastNumber}
+use Rattle.payload_rows_core.specs.PayloadRows.{openNumber, rowNumber, fifteenOf, lastNumber}
+use Rattle.payload_rows_core.specs.FourFronts.{FourFronts, fronts-none, fronts-more, fronts-done}
 
 -- ---- six blocks
 
@@ -45,12 +47,72 @@ read-row y s C r v lC lr e =
 
 -- ---- block 6
 
--- A byte of a number's eight.
-pub byte-digit : (s : List ℕ) (at j x : ℕ) → x ≡ getD s (at + j) 0 → x < 256 → x ≡ fromBits 8 (behind (j * 8) (behind (8 * at) (bit s)))
-unfolding behind byteOf
-byte-digit s at j x e l =
-    sym (byteOf-bit s (at + j) x e l)
-    ∙ fromBits-ext 8 (λ k. bit s ((at + j) * 8 + k)) (λ k. bit s (8 * at + (j * 8 + k))) (λ k lk. ap (λ i. bit s i % 2) (omega arith))
+-- Two bytes as they lie in memory, turned by eight columns, are their bits in order.
+read-turned : (s : List ℕ) (j : ℕ) → turned (readWord s j) 8 ≡ fromBits 16 (λ c. bit s (8 * j + c))
+unfolding turned readWord
+read-turned s j =
+    fromBits-ext 16 (λ c. bitOf 16 (readWord s j) ((c + 8) % 16)) (λ c. bit s (8 * j + c))
+    (λ c l.
+    let p : 8 * j + ((c + 8) % 16 + 8) % 16 ≡ 8 * j + c = omega arith in
+    let b : bitOf 16 (readWord s j) ((c + 8) % 16) ≡ bit s (8 * j + ((c + 8) % 16 + 8) % 16) % 2 =
+    bitOf-fromBits 16 (λ c. bit s (8 * j + (c + 8) % 16)) ((c + 8) % 16) (omega arith) in
+    omega (arith, b, ap (bit s) p))
+
+-- Sixteen bits moved left by a columns, and the next a bits behind them.
+joined : (f : ℕ → ℕ) (a r : ℕ) → a + r ≡ 16
+    → bitOr (fromBits 16 f * 2 ^ a % 2 ^ 16) (fromBits 16 (behind 16 f) / 2 ^ r) ≡ fromBits 16 (behind a f)
+unfolding behind
+joined f a r is =
+    ap₂ bitOr left right ∙ or-shifted (fromBits r (behind a f)) a (fromBits a (behind 16 f)) (fromBits-lt a (behind 16 f)) ∙ sym whole
+  where
+    back : 16 ≡ r + a
+    back = omega arith
+
+    parts : (g : ℕ → ℕ) → fromBits 16 g ≡ fromBits a g * 2 ^ r + fromBits r (behind a g)
+    parts g = ap (λ n. fromBits n g) (sym is) ∙ behind-split a r g
+
+    left : fromBits 16 f * 2 ^ a % 2 ^ 16 ≡ fromBits r (behind a f) * 2 ^ a
+    left =
+        ap (λ n. fromBits 16 f * 2 ^ a % 2 ^ n) back ∙ mod-pow-add (fromBits 16 f * 2 ^ a) r a
+        ∙ ap₂ (λ u v. u % 2 ^ r * 2 ^ a + v) (shl-shr (fromBits 16 f) a ∙ parts f) (mul-mod-left (fromBits 16 f) (2 ^ a))
+        ∙ ap (λ u. u * 2 ^ a + 0) (low (fromBits a f) r (fromBits-lt r (behind a f))) ∙ omega arith
+
+    right : fromBits 16 (behind 16 f) / 2 ^ r ≡ fromBits a (behind 16 f)
+    right = ap (λ u. u / 2 ^ r) (parts (behind 16 f)) ∙ high (fromBits a (behind 16 f)) r (fromBits-lt r (behind a (behind 16 f)))
+
+    whole : fromBits 16 (behind a f) ≡ fromBits r (behind a f) * 2 ^ a + fromBits a (behind 16 f)
+    whole =
+        ap (λ n. fromBits n (behind a f)) back ∙ behind-split r a (behind a f)
+        ∙ ap (λ u. fromBits r (behind a f) * 2 ^ a + u)
+        (fromBits-ext a (λ k. f (a + (r + k))) (λ k. f (16 + k)) (λ k l. ap (λ i. f i % 2) (omega arith)))
+
+-- The last of sixteen bits made zero.
+but-last : (f : ℕ → ℕ) (z : ℕ) → z ≡ fromBits 16 f → z / 2 ^ 1 * 2 ^ 1 % 2 ^ 16 ≡ fromBits 15 f * 2
+unfolding fromBits
+but-last f z e = omega (arith, fromBits-lt 16 f)
+
+-- Word n of eight, from the two bytes that have its first bit and the two behind them.
+pub fifteen-is : (s : List ℕ) (at n u v x y z t : ℕ) → n < 8 → u ≡ readWord s (at + 2 * n) → v ≡ readWord s (at + 2 * n + 2)
+    → x ≡ turned u 8 → y ≡ turned v 8 → z ≡ bitOr (x * 2 ^ (8 - n) % 2 ^ 16) (y / 2 ^ (8 + n)) → t ≡ turned (z / 2 ^ 1 * 2 ^ 1 % 2 ^ 16) 8
+    → t ≡ fifteenOf s (8 * at + 8 + 15 * n)
+unfolding behind fifteenOf
+fifteen-is s at n u v x y z t l eu ev ex ey ez et =
+    et ∙ ap (λ m. turned m 8)
+    (but-last (behind (8 - n) f) z
+    (ez ∙ ap₂ (λ a b. bitOr (a * 2 ^ (8 - n) % 2 ^ 16) (b / 2 ^ (8 + n))) first second ∙ joined f (8 - n) (8 + n) (omega arith))
+    ∙ ap (λ m. m * 2)
+    (fromBits-ext 15 (behind (8 - n) f) (λ k. bit s (8 * at + 8 + 15 * n + k)) (λ k lk. ap (λ i. bit s i % 2) (omega arith))))
+  where
+    f : ℕ → ℕ
+    f c = bit s (8 * (at + 2 * n) + c)
+
+    first : x ≡ fromBits 16 f
+    first = ex ∙ ap (λ z. turned z 8) eu ∙ read-turned s (at + 2 * n)
+
+    second : y ≡ fromBits 16 (behind 16 f)
+    second =
+        ey ∙ ap (λ z. turned z 8) ev ∙ read-turned s (at + 2 * n + 2)
+        ∙ fromBits-ext 16 (λ c. bit s (8 * (at + 2 * n + 2) + c)) (behind 16 f) (λ c lc. ap (λ i. bit s i % 2) (omega arith))
 
 -- Fifteen bits of the payload from bit 15w+3072 on and a zero behind them are block 6 of word w,
 fifteen-open : (y : List ℕ) (w : ℕ) → fromBits 15 (λ k. bit y (w * 15 + 3072 + k)) * 2 ≡ fromBits 16 (λ k. ownBit y w (224 + k))
@@ -72,43 +134,41 @@ turned-open y w x e =
     ap (λ z. bitOf 16 z k) (e ∙ fifteen-open y w) ∙ bitOf-fromBits 16 (λ k. ownBit y w (224 + k)) k lk in
     omega (arith, b, ap (ownBit y w) p))
 
--- The number of word w from eight bytes, with a of their bits before its own and r behind them.
-last-of : (y : List ℕ) (w at a r v t : ℕ) → t ≡ fifteenOf v r → v ≡ eightBytes y at → a + 15 + r ≡ 64 → 8 * at + a ≡ w * 15 + 3072
-    → t ≡ openNumber y (8 * w + 6)
-unfolding behind eightBytes fifteenOf
-last-of y w at a r v t et ev n m =
-    et ∙ turned-open y w (v / 2 ^ r % 32768 * 2)
-    (ap (λ z. z * 2)
-    (ap (λ z. z / 2 ^ r % 32768) (ev ∙ ap (λ n. fromBits n (behind (8 * at) (bit y))) (sym n)) ∙ bits-amid a 15 r (behind (8 * at) (bit y))
-    ∙ fromBits-ext 15 (λ k. bit y (8 * at + (a + k))) (λ k. bit y (w * 15 + 3072 + k)) (λ k lk. ap (λ i. bit y i % 2) (omega arith))))
+-- So fifteen bits from there on are word w's,
+last-of : (y : List ℕ) (w i t : ℕ) → t ≡ fifteenOf y i → i ≡ w * 15 + 3072 → t ≡ lastNumber y w
+unfolding fifteenOf lastNumber
+last-of y w i t e p = e ∙ turned-open y w _ (ap (λ i. fromBits 15 (λ k. bit y (i + k)) * 2) p)
 
--- Those of the first four words of eight, and of the last four,
-pub eight-first : (a b i t : ℕ) → i < 4 → t ≡ fifteenOf a (49 - 15 * i) → t ≡ eightNumber a b i
-unfolding eightNumber
-eight-first a b i t l e = e ∙ sym (simp (lt-ltb i 4 l))
+-- and those of the last sixteen bytes are the payload's.
+end-of : (y s : List ℕ) (i t : ℕ) → Filling (λ k. getD y (428 + k) 0) 18 16 s → i + 15 ≤ 128 → t ≡ fifteenOf s i → t ≡ fifteenOf y (3424 + i)
+unfolding bit fifteenOf
+end-of y s i t h l e =
+    e ∙ ap (λ u. turned (u * 2) 8)
+    (fromBits-ext 15 (λ k. bit s (i + k)) (λ k. bit y (3424 + i + k))
+    (λ k lk.
+    let p : 428 + (i + k) / 8 ≡ (3424 + i + k) / 8 = omega arith in
+    let q : (i + k) % 8 ≡ (3424 + i + k) % 8 = omega arith in
+    ap₂ (λ u v. bitOf 8 u v % 2) (h .done 0 ((i + k) / 8) (omega arith) ∙ ap (λ j. getD y j 0) p) q))
 
-pub eight-second : (a b i t : ℕ) → t ≡ fifteenOf b (45 - 15 * i) → t ≡ eightNumber a b (4 + i)
-unfolding eightNumber
-eight-second a b i t e =
-    let n : 4 + i - 4 ≡ i = omega arith in
-    e ∙ sym (simp (le-ltb (4 + i) 4 (omega arith)) (ap (λ k. fifteenOf b (45 - 15 * k)) n))
+-- These sixteen, byte by byte, in a buffer of eighteen.
+pub end-more : {f : ℕ → ℕ} {i : ℕ} {d : List ℕ} (v : ℕ) → Filling f 18 i d → i < 16 → v ≡ f i → Filling f 18 (i + 1) (set d i v)
+end-more v h l e = fill-more v h (omega arith) e
 
-pub ruleset eightwise = (eight-first, eight-second)
+pub end-done : {f : ℕ → ℕ} {i : ℕ} {d : List ℕ} → Filling f 18 i d → 16 ≤ i → Filling f 18 16 d
+end-done h l = fill-ext 16 h l (λ k lk. refl)
 
--- and all eight of half h of row s.
-pub eight-last : (y : List ℕ) (s h a b : ℕ) (ys : List ℕ) → a ≡ eightBytes y (384 + 15 * (2 * s + h))
-    → b ≡ eightBytes y (391 + 15 * (2 * s + h)) → ys ≡ tabulate 8 (eightNumber a b) → ys ≡ tabulate 8 (behind (h * 8) (lastNumber y s))
-unfolding behind eightNumber lastNumber
-eight-last y s h a b ys ea eb e =
-    e ∙ tabulate-ext 8 (eightNumber a b) (behind (h * 8) (lastNumber y s)) (λ i l. same i l (decLt i 4))
-  where
-    same : (i : ℕ) → i < 8 → Dec (i < 4) → eightNumber a b i ≡ lastNumber y s (h * 8 + i)
-    same i l (yes k) =
-        simp (lt-ltb i 4 k)
-        (last-of y (16 * s + (h * 8 + i)) (384 + 15 * (2 * s + h)) (15 * i) (49 - 15 * i) a _ refl ea (omega arith) (omega arith))
-    same i l (no k) =
-        simp (le-ltb i 4 (omega arith))
-        (last-of y (16 * s + (h * 8 + i)) (391 + 15 * (2 * s + h)) (4 + 15 * (i - 4)) (45 - 15 * (i - 4)) b _ refl eb (omega arith) (omega arith))
+pub ruleset endwise = (fill-none, end-more, end-done)
+
+-- Word n of each of the four groups.
+pub lasts-more : (y s d : List ℕ) (n a b c e : ℕ) → FourFronts (lastNumber y) n d → n < 8 → Filling (λ k. getD y (428 + k) 0) 18 16 s
+    → a ≡ fifteenOf y (8 * 383 + 8 + 15 * n) → b ≡ fifteenOf y (8 * 398 + 8 + 15 * n) → c ≡ fifteenOf y (8 * 413 + 8 + 15 * n)
+    → e ≡ fifteenOf s (8 * 0 + 8 + 15 * n)
+    → FourFronts (lastNumber y) (n + 1) (set (set (set (set d n a) (8 + n) b) (16 + n) c) (24 + n) e)
+lasts-more y s d n a b c e h l hs p q r z =
+    fronts-more h l a b c e (last-of y n _ a p (omega arith)) (last-of y (8 + n) _ b q (omega arith)) (last-of y (16 + n) _ c r (omega arith))
+    (last-of y (24 + n) _ e (end-of y s _ e hs (omega arith) z) (omega arith))
+
+pub ruleset lastwise = (fronts-none, lasts-more, fronts-done)
 
 -- ---- a row
 
@@ -143,10 +203,11 @@ row-room y s d ys ed ey =
     omega (arith, same-len-mid 0 96 d ys (ap length ey ∙ length-tabulate 96 (rowNumber y s) ∙ sym (ap (λ u. length (midOf 0 96 u)) ed)), ap length ed)
 
 -- Six blocks, then block 6, then zeros.
-pub row-parts : (y : List ℕ) (s : ℕ) (d ys zs : List ℕ) → d ≡ replicate 128 0 → ys ≡ tabulate 96 (rowNumber y s)
-    → zs ≡ tabulate 16 (lastNumber y s) → putMid 96 16 (putMid 0 96 d ys) zs ≡ tabulate 128 (rowNumber y s)
+pub row-parts : (y last : List ℕ) (s : ℕ) (d ys zs : List ℕ) → d ≡ replicate 128 0 → ys ≡ tabulate 96 (rowNumber y s)
+    → zs ≡ tabulate 16 (λ i. getD last (16 * s + i) 0) → last ≡ tabulate 32 (lastNumber y) → s < 2
+    → putMid 96 16 (putMid 0 96 d ys) zs ≡ tabulate 128 (rowNumber y s)
 unfolding rowNumber lastNumber
-row-parts y s d ys zs ed ey ez = is-tabulate 0 (putMid 96 16 (putMid 0 96 d ys) zs) 128 (rowNumber y s) (two .long) (λ k l. at k l (decLt k 112))
+row-parts y last s d ys zs ed ey ez el ls = is-tabulate 0 (putMid 96 16 (putMid 0 96 d ys) zs) 128 (rowNumber y s) (two .long) (λ k l. at k l (decLt k 112))
   where
     long : length d ≡ 128
     long = ap length ed
@@ -160,12 +221,14 @@ row-parts y s d ys zs ed ey ez = is-tabulate 0 (putMid 96 16 (putMid 0 96 d ys) 
 
     two : Filling (rowNumber y s) 128 112 (putMid 96 16 (putMid 0 96 d ys) zs)
     two = fill-part 16 zs one (omega arith)
-        (ez ∙ tabulate-ext 16 (lastNumber y s) (λ k. rowNumber y s (96 + k)) (λ k l. ap (openNumber y) (omega arith)))
+        (ez ∙ tabulate-ext 16 (λ k. getD last (16 * s + k) 0) (λ k. rowNumber y s (96 + k))
+        (λ k l.
+        ap (λ u. getD u (16 * s + k) 0) el ∙ getD-tabulate 32 (lastNumber y) (16 * s + k) 0 (omega arith) ∙ ap (openNumber y) (omega arith)))
 
     at : (k : ℕ) → k < 128 → Dec (k < 112) → getD (putMid 96 16 (putMid 0 96 d ys) zs) k 0 ≡ rowNumber y s k
     at k l (yes a) = two .done 0 k a
     at k l (no a) =
-        lent-rest 96 16 (putMid 0 96 d ys) zs (omega (arith, one .long)) (ap length ez ∙ length-tabulate 16 (lastNumber y s)) k (omega arith)
+        lent-rest 96 16 (putMid 0 96 d ys) zs (omega (arith, one .long)) (ap length ez ∙ length-tabulate 16 (λ k. getD last (16 * s + k) 0)) k (omega arith)
         ∙ lent-rest 0 96 d ys (omega (arith, long)) (ap length ey ∙ length-tabulate 96 (rowNumber y s)) k (omega arith)
         ∙ ap (λ u. getD u k 0) ed ∙ getD-replicate 128 k 0 0 l ∙ seventh y s k (omega arith) l
 

@@ -1,38 +1,34 @@
--- `payload_rows_core::put_lasts` meets its contract: eight words a turn.
+-- `payload_rows_core::put_lasts` meets its contract: number by number.
 -- Assumes nothing.
-use Prim.Native.Nat.{_-_}
-use Rattle.bits.specs.Filling.{Blocks, by-blocks}
-use Rattle.bits.specs.PartLaws.{part-long}
-use Rattle.payload_core.specs.NumberBits.{behind}
-use Rattle.payload_rows_core.specs.PayloadRows.{lastNumber}
+use Prim.Native.Nat.{_+_, _-_, _*_}
+use lib.ListN.{getD}
+use Rattle.bits.specs.Filling.{Filling, fill}
 use borrow.Author.Needs.{needs}
 use Rattle.payload_rows_core.proofs.put_lasts.Statement.{statement}
 use Rattle.payload_rows_core.proofs.put_lasts.Tie as tie
 
-ruleset kit = (needs, by-blocks, part-long)
+ruleset kit = (needs, fill)
 
 abbrev Inv-loop : tie.InvT-loop
-Inv-loop payload s out₀ h₀ out h = Blocks (lastNumber payload s) 8 2 h out
+Inv-loop last s out₀ i₀ out i = Filling (λ k. getD last (16 * s + k) 0) 16 i out
 
 abbrev μ-loop : tie.MeasureT-loop
-μ-loop payload s out₀ h₀ out h = 2 - h
+μ-loop last s out₀ i₀ out i = 16 - i
 
 pub put-lasts-spec : {M : Type 1} → statement M
-unfolding behind
 put-lasts-spec =
     tie.close
     (tie.spec
     Inv-loop
     μ-loop
     (λ c. search kit)  -- loop-holds
-    (λ c. search kit)  -- mul-a
-    (λ c. search kit)  -- add-e
-    (λ c. search kit)  -- mul-put-last
-    (λ c. search kit)  -- sub-put-last
-    (λ c. search kit)  -- part-put-last-start
-    (λ c. search kit)  -- part-put-last-end
-    (λ c κs. search kit)  -- put-last-requires
-    (λ c. search kit)  -- add-h
+    (λ c. search kit)  -- mul-out
+    (λ c. search kit)  -- add-out
+    (λ c. search kit)  -- mul-out-2
+    (λ c. search kit)  -- element-copy-out-out
+    (λ c. search kit)  -- mul-out-3
+    (λ c. search kit)  -- slice-write-out
+    (λ c. search kit)  -- add-i
     (λ c. search kit)  -- loop-less
     (λ c. search kit)  -- loop-again
     (λ c. search kit)  -- same-length

@@ -11,10 +11,10 @@ use Rattle.payload_rows_core.proofs.put_row.Tie as tie
 ruleset kit = (needs, fill, rowwise)
 
 abbrev Inv-loop : tie.InvT-loop
-Inv-loop payload s out₀ from i₀ out i = Filling (λ i. openNumber payload (s * 128 + i)) 128 i out
+Inv-loop payload last s out₀ from i₀ out i = Filling (λ i. openNumber payload (s * 128 + i)) 128 i out
 
 abbrev μ-loop : tie.MeasureT-loop
-μ-loop payload s out₀ from i₀ out i = 128 - i
+μ-loop payload last s out₀ from i₀ out i = 128 - i
 
 pub put-row-spec : {M : Type 1} → statement M
 put-row-spec =

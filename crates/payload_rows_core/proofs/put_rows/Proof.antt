@@ -11,10 +11,10 @@ use Rattle.payload_rows_core.proofs.put_rows.Tie as tie
 ruleset kit = (needs, by-blocks, part-long)
 
 abbrev Inv-loop : tie.InvT-loop
-Inv-loop payload halves₀ s₀ halves s = Blocks (openNumber payload) 128 2 s halves
+Inv-loop payload halves₀ last s₀ halves s = Blocks (openNumber payload) 128 2 s halves
 
 abbrev μ-loop : tie.MeasureT-loop
-μ-loop payload halves₀ s₀ halves s = 2 - s
+μ-loop payload halves₀ last s₀ halves s = 2 - s
 
 pub put-rows-spec : {M : Type 1} → statement M
 put-rows-spec =
@@ -22,6 +22,7 @@ put-rows-spec =
     (tie.spec
     Inv-loop
     μ-loop
+    (λ c κs. search kit)  -- lasts-requires
     (λ c. search kit)  -- loop-holds
     (λ c. search kit)  -- mul-a
     (λ c. search kit)  -- add-e

@@ -17,53 +17,54 @@ fn put_blocks(payload: &[u8; 444], s: usize, out: &mut [u16]) {
     }
 }
 
-/// The eight bytes from a byte on as one number, the first the highest.
-fn number_at(payload: &[u8; 444], at: usize) -> u64 {
-    let mut v = 0;
-    for j in 0..8 {
-        v = v * 256 + u64::from(payload[at + j]);
+/// The last sixteen bytes of the payload, and two more that `fifteen` reads without using a bit of them.
+fn end_of(payload: &[u8; 444]) -> [u8; 18] {
+    let mut end = [0; 18];
+    for i in 0..16 {
+        end[i] = payload[428 + i];
     }
-    v
+    end
 }
 
-/// Fifteen bits of a number with n bits behind them, and a zero in the place of these, as they lie in memory.
-fn fifteen(v: u64, n: usize) -> u16 {
-    turn(((v >> n) % 32768 * 2) as u16, 8)
+/// Word n of eight whose fifteen bytes begin behind byte `at`: fifteen bits and a zero, as they lie in memory.
+fn fifteen(bytes: &[u8], at: usize, n: usize) -> u16 {
+    let x = turn(read_word(bytes, at + 2 * n), 8);
+    let y = turn(read_word(bytes, at + 2 * n + 2), 8);
+    let z = (x << (8 - n)) | (y >> (8 + n));
+    turn((z >> 1) << 1, 8)
 }
 
-/// Block 6 of eight words, four from each of two numbers.
-fn put_eight(first: u64, second: u64, out: &mut [u16]) {
-    for i in 0..4 {
-        out[i] = fifteen(first, 49 - 15 * i);
-        out[4 + i] = fifteen(second, 45 - 15 * i);
+/// Block 6 of all words, eight words a group: a turn makes word n of each of the four groups.
+fn lasts(payload: &[u8; 444]) -> [u16; 32] {
+    let end = end_of(payload);
+    let mut out = [0; 32];
+    for n in 0..8 {
+        out[n] = fifteen(payload, 383, n);
+        out[8 + n] = fifteen(payload, 398, n);
+        out[16 + n] = fifteen(payload, 413, n);
+        out[24 + n] = fifteen(&end, 0, n);
     }
-}
-
-/// Those of half h of row s, from two numbers of eight bytes that share the byte in the middle.
-fn put_last(payload: &[u8; 444], s: usize, h: usize, out: &mut [u16]) {
-    let first = number_at(payload, 384 + 15 * (2 * s + h));
-    let second = number_at(payload, 391 + 15 * (2 * s + h));
-    put_eight(first, second, out);
+    out
 }
 
 /// Block 6 of row s.
-fn put_lasts(payload: &[u8; 444], s: usize, out: &mut [u16]) {
-    for h in 0..2 {
-        put_last(payload, s, h, &mut out[h * 8..h * 8 + 8]);
+fn put_lasts(last: &[u16; 32], s: usize, out: &mut [u16]) {
+    for i in 0..16 {
+        out[i] = last[16 * s + i];
     }
 }
 
 /// Row s by blocks: number 16C+r is of block C of the row's word r. Block 7 has zeros.
-fn payload_row(payload: &[u8; 444], s: usize) -> [u16; 128] {
+fn payload_row(payload: &[u8; 444], last: &[u16; 32], s: usize) -> [u16; 128] {
     let mut x = [0; 128];
     put_blocks(payload, s, &mut x[0..96]);
-    put_lasts(payload, s, &mut x[96..112]);
+    put_lasts(last, s, &mut x[96..112]);
     x
 }
 
 /// Row s by words.
-fn put_row(payload: &[u8; 444], s: usize, out: &mut [u16]) {
-    let from = by_words(payload_row(payload, s));
+fn put_row(payload: &[u8; 444], last: &[u16; 32], s: usize, out: &mut [u16]) {
+    let from = by_words(payload_row(payload, last, s));
     for i in 0..128 {
         out[i] = from[i];
     }
@@ -71,7 +72,8 @@ fn put_row(payload: &[u8; 444], s: usize, out: &mut [u16]) {
 
 /// The back halves of the 32 words: number 8w+C is of block C of word w.
 pub fn put_rows(payload: &[u8; 444], halves: &mut [u16; 256]) {
+    let last = lasts(payload);
     for s in 0..2 {
-        put_row(payload, s, &mut halves[s * 128..s * 128 + 128]);
+        put_row(payload, &last, s, &mut halves[s * 128..s * 128 + 128]);
     }
 }
