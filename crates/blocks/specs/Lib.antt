@@ -7,4 +7,3 @@ pub mod Exchanges
 pub mod SideBySide
 pub mod Laying
 pub mod Twos
-pub mod InPlace

@@ -93,21 +93,13 @@ pub fn write_row(row: &[u16; 128], out: &mut [u8])
     }
 }
 
-// One of the words of two rows.
-fn pair_word(words: &[u16; 256], x: usize) -> u16
-    requires { ⌜ x < 256 ⌝ }
-    ensures { λ w. ⌜ w ≡ getD (now (words .entry)) x 0 ⌝ }
+// The bytes of a row of words whose bytes stand the other way round: of each the lower first, as they lie in memory.
+pub fn write_words(words: &[u16; 128], out: &mut [u8])
+    requires { ⌜ length (now out) ≡ 256 ⌝ }
+    ensures { λ _. ⌜ now (out .exit) ≡ tabulate 256 (wordByte (now (words .entry))) ⌝ }
 {
-    words[x]
-}
-
-// The bytes of two rows of words whose bytes stand the other way round: of each the lower first, as they lie in memory.
-pub fn write_words(words: &[u16; 256], out: &mut [u8])
-    requires { ⌜ length (now out) ≡ 512 ⌝ }
-    ensures { λ _. ⌜ now (out .exit) ≡ tabulate 512 (wordByte (now (words .entry))) ⌝ }
-{
-    for x in 0..256 {
-        let w = pair_word(words, x);
+    for x in 0..128 {
+        let w = row_word(words, x);
         let a = 2 * x;
         let e = a + 1;
         out[a] = (w % 256) as u8;

@@ -33,10 +33,6 @@ checkNumber last own s n = cond (ltb n 96) 0 (cond (ltb n 112) (ownNumber (halfO
 unfoldable pub checkRow : List ℕ → ℕ → ℕ → List ℕ
 checkRow last own s = tabulate 128 (checkNumber last own s)
 
--- Two numbers of rows summed.
-unfoldable pub addedNumber : List ℕ → List ℕ → ℕ → ℕ
-addedNumber z row n = getD row n 0 ⊕ getD z n 0
-
 -- The halves with these bits.
 unfoldable pub completedNumber : List ℕ → ℕ → List ℕ → ℕ → ℕ
 completedNumber last own halves n = getD halves n 0 ⊕ getD (byWords (checkRow last own (n / 128))) (n % 128) 0

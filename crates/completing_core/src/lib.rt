@@ -1,10 +1,10 @@
-// Workers: the check bits of the words of a pair, from what was gathered of them, put into the words. Over `check_sums_core`,
+// Workers: the check bits of the words of a pair, from what was gathered of them, as blocks 6 and 7 of the words. Over `check_sums_core`,
 // `permutation_core` and `riffle_core`; `encoding_core` encodes pairs with them.
 use check_sums_core::check_bits;
 use permutation_core::transpose_two;
 use riffle_core::by_words;
 ghost use mathlib.Core.Path.{_≡_};
-ghost use Prim.Native.Nat.{_*_, _-_, _/_, _%_, _^_, _<_};
+ghost use Prim.Native.Nat.{_<_};
 ghost use lib.ListN.{length, getD};
 ghost use Rattle.bits.specs.Filling.{Filling};
 ghost use Rattle.bits.specs.Lists.{tabulate};
@@ -12,7 +12,7 @@ ghost use Rattle.bits.specs.Xor.{xorSum};
 ghost use Rattle.networks_spec.specs.Networks.{network, checkColumns};
 ghost use Rattle.permutation_core.specs.Stages.{twoTransposed};
 ghost use Rattle.riffle_core.specs.Riffles.{byWords};
-ghost use Rattle.completing_core.specs.Completing.{halfOf, checkNumbers, ownNumber, lastNumber, checkNumber, checkRow, addedNumber, completedHalves};
+ghost use Rattle.completing_core.specs.Completing.{halfOf, checkNumbers, ownNumber, lastNumber, checkNumber, checkRow};
 
 // The check bits of the 32 words of a pair. The upper half of number r has block 7 of word r, its lower half that of word 16+r; bit w of
 // `own` is bit 239 of word w, the last of block 6.
@@ -92,32 +92,10 @@ fn check_row(last: &[u32; 16], own: u32, s: usize) -> [u16; 128]
     x
 }
 
-// Puts the check bits into the words of row s, where these have zeros.
-fn complete_row(last: &[u32; 16], own: u32, s: usize, row: &mut [u16])
-    requires { ⌜ (s < 2) × (length (now row) ≡ 128) ⌝ }
-    ensures { λ _. ⌜ now (row .exit) ≡ tabulate 128 (addedNumber (byWords (checkRow (now (last .entry)) own s)) (now (row .entry))) ⌝ }
+// The same by words: number 8r+C is of block C of word r.
+pub fn row_checks(last: &[u32; 16], own: u32, s: usize) -> [u16; 128]
+    requires { ⌜ s < 2 ⌝ }
+    ensures { λ r. ⌜ r ≡ byWords (checkRow (now (last .entry)) own s) ⌝ }
 {
-    let z = by_words(check_row(last, own, s));
-    for n in 0..128 {
-        row[n] = row[n] ^ z[n];
-    }
-}
-
-// The same of both rows.
-fn complete_rows(last: &[u32; 16], own: u32, halves: &mut [u16])
-    requires { ⌜ length (now halves) ≡ 256 ⌝ }
-    ensures { λ _. ⌜ now (halves .exit) ≡ completedHalves (now (last .entry)) own (now (halves .entry)) ⌝ }
-{
-    for s in 0..2 {
-        let a = s * 128;
-        let e = a + 128;
-        complete_row(last, own, s, &mut halves[a..e]);
-    }
-}
-
-// Of the halves of a pair.
-pub fn complete(last: &[u32; 16], own: u32, halves: &mut [u16; 256])
-    ensures { λ _. ⌜ now (halves .exit) ≡ completedHalves (now (last .entry)) own (now (halves .entry)) ⌝ }
-{
-    complete_rows(last, own, halves);
+    by_words(check_row(last, own, s))
 }

@@ -1,29 +1,24 @@
 -- Laws of rows as words: as code reads them, and where each bit stands.
 -- Assumes nothing.
-use mathlib.Core.Path.{_≡_, refl, sym, ap, _∙_}
+use mathlib.Core.Path.{_≡_, sym, ap, _∙_}
 use mathlib.Core.List.{List}
 use Prim.Native.Nat.{ℕ, _+_, _-_, _*_, _/_, _%_, _<_, _≤_}
-use native.Mathlib.Decide.{ℕ-discrete}
 use native.Mathlib.Omega.{arith}
-use borrow.Author.Tests.{eq-eqb, ne-eqb}
-use borrow.Rule.Slice.PartMut.{putMid}
 use lib.ListN.{length, getD}
 use Rattle.bits.specs.Bits.{bit, bitOf, fromBits}
 use Rattle.bits.specs.BitLaws.{bit-lt, bitOf-fromBits, fromBits-ext}
 use Rattle.bits.specs.Lists.{tabulate}
-use Rattle.bits.specs.ListLaws.{length-tabulate, getD-tabulate, is-tabulate, tabulate-ext}
-use Rattle.bits.specs.Parts.{part}
+use Rattle.bits.specs.ListLaws.{length-tabulate, getD-tabulate, tabulate-ext}
 use Rattle.bits.specs.Xor.{_⊕_}
 use Rattle.bits.specs.XorLaws.{⊕-lt}
 use Rattle.bits.specs.Tests.{grid}
 use Rattle.blocks.specs.Block.{bitAt, rowWord, block}
 use Rattle.blocks.specs.BlockLaws.{bitAt-lt, bitAt-block-of}
 use Rattle.blocks.specs.Exchanges.{rowsExchanged, columnsExchanged}
-use Rattle.blocks.specs.InPlace.{InPlace, place-part, place-next}
 use Rattle.blocks.specs.Laying.{Laid, laid-bit, words-block}
 use Rattle.blocks.specs.Moves.{moved, transposed}
 use Rattle.blocks.specs.MoveLaws.{transposed-bit}
-use Rattle.blocks.specs.SideBySide.{laidWord, laid, laidAt, laidIn, readWord, rowBlock, wordsBlock}
+use Rattle.blocks.specs.SideBySide.{laidWord, laid, readWord, rowBlock, wordsBlock}
 use Rattle.pair_words_core.specs.Halves.{halvesBit}
 use Rattle.rows_core.specs.RowWords.{rowWords, frontBlock, frontWords, frontsBlock, frontsIn, backsBlock, backsIn, exchangedNumber}
 use Rattle.rows_core.specs.RowWords.{codedHalf, halfBlock, turnedRows, columnsBlock, columnsOf}
@@ -132,67 +127,15 @@ pub half-copied : (p : List ℕ) (s i : ℕ) (from : List ℕ) → from ≡ tabu
     → getD from i 0 ≡ codedHalf p (s * 128 + i)
 half-copied p s i from e l = ap (λ u. getD u i 0) e ∙ getD-tabulate 128 (λ i. codedHalf p (s * 128 + i)) i 0 l
 
--- ---- in place
-
--- A row whose first C blocks were exchanged; the others stand: none / more / done.
-pub record Exchanging (row₀ : List ℕ) (C : ℕ) (row : List ℕ) : Type 0 where
-  pub upto : C ≤ 8
-  pub long : length row ≡ 128
-  pub new : (x : ℕ) → x < 128 → x % 8 < C → getD row x 0 ≡ exchangedNumber row₀ x
-  pub old : (x : ℕ) → x < 128 → C ≤ x % 8 → getD row x 0 ≡ getD row₀ x 0
-
-pub exchange-none : (row : List ℕ) → length row ≡ 128 → Exchanging row 0 row
-exchange-none row e = record { upto = omega arith; long = e; new = λ x l p. absurd (omega arith); old = λ x l p. refl }
-
-pub exchange-long : {row₀ : List ℕ} {C : ℕ} {row : List ℕ} → Exchanging row₀ C row → length row ≡ 128
-exchange-long h = h .long
-
-pub exchange-more : {row₀ : List ℕ} {C : ℕ} {row : List ℕ} (b t next : List ℕ) → Exchanging row₀ C row → C < 8 → b ≡ rowBlock row C
-    → t ≡ columnsExchanged b → next ≡ laidIn row C t → Exchanging row₀ (C + 1) next
-unfolding laidIn laidAt exchangedNumber columnsExchanged moved block rowWord bitAt rowBlock
-exchange-more {row₀} {C} {row} b t next h l eb et en =
-    record {
-      upto = omega arith;
-      long = ap length en ∙ length-tabulate 128 (laidAt row C t);
-      new = λ x lx p. stands x lx ∙ here x lx p (ℕ-discrete (x % 8) C);
-      old = λ x lx p. stands x lx ∙ simp (ne-eqb (x % 8) C (λ q. omega arith)) (h .old x lx (omega arith));
-    }
-  where
-    stands : (x : ℕ) → x < 128 → getD next x 0 ≡ laidAt row C t x
-    stands x lx = ap (λ u. getD u x 0) en ∙ getD-tabulate 128 (laidAt row C t) x 0 lx
-
-    own : (x : ℕ) → x < 128 → x % 8 ≡ C → getD t (x / 8) 0 ≡ exchangedNumber row₀ x
-    own x lx q =
-        let m : x / 8 % 16 ≡ x / 8 = omega arith in
-        ap (λ u. getD u (x / 8) 0) (et ∙ ap columnsExchanged eb)
-        ∙ getD-tabulate 16 (rowWord (λ i c. bitAt (rowBlock row C) i (c ⊕ i))) (x / 8) 0 (omega arith)
-        ∙ rw m (ap (λ v. fromBits 16 (λ c. bitOf 16 v (c ⊕ (x / 8)))) (getD-tabulate 16 (λ r. getD row (8 * r + C) 0) (x / 8) 0 (omega arith)
-        ∙ ap (λ n. getD row n 0) (omega arith) ∙ h .old x lx (omega arith)))
-
-    here : (x : ℕ) → x < 128 → x % 8 < C + 1 → Dec (x % 8 ≡ C) → laidAt row C t x ≡ exchangedNumber row₀ x
-    here x lx p (yes q) = simp (eq-eqb (x % 8) C q) (own x lx q)
-    here x lx p (no q) = simp (ne-eqb (x % 8) C q) (h .new x lx (omega arith))
-
-pub exchange-done : {row₀ : List ℕ} {C : ℕ} {row : List ℕ} → Exchanging row₀ C row → 8 ≤ C → row ≡ tabulate 128 (exchangedNumber row₀)
-exchange-done {row₀} {C} {row} h l = is-tabulate 0 row 128 (exchangedNumber row₀) (h .long) (λ x lx. h .new x lx (omega arith))
-
-pub ruleset exchanging = (exchange-none, exchange-long, exchange-more, exchange-done)
-
--- A row of two, lent by itself.
-exchange-row : (halves x ys : List ℕ) (s : ℕ) → s < 2 → ((i : ℕ) → i < 128 → getD x i 0 ≡ getD halves (s * 128 + i) 0)
-    → ys ≡ tabulate 128 (exchangedNumber x) → ys ≡ tabulate 128 (λ i. exchangedNumber halves (s * 128 + i))
-unfolding exchangedNumber
-exchange-row halves x ys s ls same e =
-    e ∙ tabulate-ext 128 (exchangedNumber x) (λ i. exchangedNumber halves (s * 128 + i))
-    (λ i l.
-    let d : (s * 128 + i) / 8 ≡ 16 * s + i / 8 = omega arith in
-    let m : (16 * s + i / 8) % 16 ≡ i / 8 = omega arith in
-    let n : i / 8 % 16 ≡ i / 8 = omega arith in
-    rw (d, m, n) (ap (λ v. fromBits 16 (λ c. bitOf 16 v (c ⊕ (i / 8)))) (same i l)))
-
-pub exchange-next : {halves : List ℕ} {s : ℕ} {d : List ℕ} (a e : ℕ) (ys : List ℕ) → InPlace (exchangedNumber halves) halves s d → s < 2 → a ≡ s * 128 → e ≡ a + 128
-    → ys ≡ tabulate 128 (exchangedNumber (part a (e - a) d)) → InPlace (exchangedNumber halves) halves (s + 1) (putMid a (e - a) d ys)
-exchange-next {halves} {s} {d} a e ys h l p q t = place-next a e h l p q ys (exchange-row halves (part a (e - a) d) ys s l (place-part a e h l p q) t)
+-- Number by number.
+pub exchanged-at : (words : List ℕ) (x : ℕ) → x < 128 → getD (backsIn words) x 0 ≡ exchangedNumber words x
+unfolding backsIn backsBlock laid laidWord exchangedNumber columnsExchanged moved block rowWord bitAt rowBlock
+exchanged-at words x l =
+    let m : x / 8 % 16 ≡ x / 8 = omega arith in
+    getD-tabulate 128 (laidWord (backsBlock words)) x 0 l
+    ∙ getD-tabulate 16 (rowWord (λ i c. bitAt (rowBlock words (x % 8)) i (c ⊕ i))) (x / 8) 0 (omega arith)
+    ∙ rw m (ap (λ v. fromBits 16 (λ c. bitOf 16 v (c ⊕ (x / 8)))) (getD-tabulate 16 (λ r. getD words (8 * r + x % 8) 0) (x / 8) 0 (omega arith)
+    ∙ ap (λ n. getD words n 0) (omega arith)))
 
 -- ---- back halves by columns
 

@@ -13,7 +13,7 @@ ghost use Rattle.bits.specs.Lists.{tabulate};
 ghost use Rattle.blocks.specs.SideBySide.{readWord};
 ghost use Rattle.pair_spec.specs.History.{depth};
 ghost use Rattle.rows_core.specs.Held.{Fronts, Backs};
-ghost use Rattle.rows_core.specs.RowWords.{rowWords, frontBlock, frontWords, frontsIn, backsIn, exchangedNumber, exchanged, codedHalf, codedHalves, halfBlock, turnedRows, columnsOf};
+ghost use Rattle.rows_core.specs.RowWords.{rowWords, frontBlock, frontWords, frontsIn, backsIn, codedHalf, codedHalves, halfBlock, turnedRows, columnsOf};
 
 // The eight words of bit row i of the row that starts at a byte.
 fn put_words(s: &[u8], from: usize, i: usize, out: &mut [u16])
@@ -115,35 +115,6 @@ pub fn put_halves(coded: &[u8], halves: &mut [u16])
         let e = a + 128;
         put_row(coded, s, &mut halves[a..e]);
     }
-}
-
-// The columns of each block of a row exchanged, in place.
-fn exchange_row(row: &mut [u16])
-    requires { ⌜ length (now row) ≡ 128 ⌝ }
-    ensures { λ _. ⌜ now (row .exit) ≡ tabulate 128 (exchangedNumber (now (row .entry))) ⌝ }
-{
-    for block in 0..8 {
-        lay(row, block, exchange_columns(block_of(row, block)));
-    }
-}
-
-// The same of both rows.
-fn exchange_rows_of(halves: &mut [u16])
-    requires { ⌜ length (now halves) ≡ 256 ⌝ }
-    ensures { λ _. ⌜ now (halves .exit) ≡ exchanged (now (halves .entry)) ⌝ }
-{
-    for s in 0..2 {
-        let a = s * 128;
-        let e = a + 128;
-        exchange_row(&mut halves[a..e]);
-    }
-}
-
-// The halves of a pair's words become the words of its coded bytes, as they lie in memory.
-pub fn exchange(halves: &mut [u16; 256])
-    ensures { λ _. ⌜ now (halves .exit) ≡ exchanged (now (halves .entry)) ⌝ }
-{
-    exchange_rows_of(halves);
 }
 
 // Block C of row s of the halves.

@@ -10,10 +10,10 @@ use Rattle.blocks.proofs.write_words.Tie as tie
 ruleset kit = (needs, twos, two-bytes-of-word)
 
 abbrev Inv-loop : tie.InvT-loop
-Inv-loop words out₀ x₀ out x = Twos (wordByte words) 256 x out
+Inv-loop words out₀ x₀ out x = Twos (wordByte words) 128 x out
 
 abbrev μ-loop : tie.MeasureT-loop
-μ-loop words out₀ x₀ out x = 256 - x
+μ-loop words out₀ x₀ out x = 128 - x
 
 pub write-words-spec : {M : Type 1} → statement M
 write-words-spec =
@@ -22,7 +22,7 @@ write-words-spec =
     Inv-loop
     μ-loop
     (λ c. search kit)  -- loop-holds
-    (λ c κs. search kit)  -- pair-word-requires
+    (λ c κs. search kit)  -- row-word-requires
     (λ c. search kit)  -- mul-a
     (λ c. search kit)  -- add-e
     (λ c. search kit)  -- cast-out

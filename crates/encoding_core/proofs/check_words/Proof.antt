@@ -13,7 +13,11 @@ check-words-spec =
     (tie.spec
     (λ c κs. search kit)  -- gather-row-requires
     (λ c κs. search kit)  -- gather-row-requires-2
+    (λ c κs. search kit)  -- move-part-requires
     (λ c κs. search kit)  -- levels-requires
+    (λ c κs. search kit)  -- move-part-requires-2
     (λ c κs. search kit)  -- join-requires
     (λ c κs. search kit)  -- from-sums-requires
+    (λ c κs. search kit)  -- move-part-requires-3
+    (λ c. search kit)  -- same-length
     (λ c. search kit))  -- returns

@@ -14,8 +14,7 @@ encode-into-spec =
     (λ c. search kit)  -- slice-aggregate-put-rows
     (λ c κs. search kit)  -- put-rows-requires
     (λ c κs. search kit)  -- check-words-requires
-    (λ c κs. search kit)  -- code-words-requires
-    (λ c κs. search kit)  -- write-words-requires
+    (λ c κs. search kit)  -- put-coded-requires
     (λ c. search kit)  -- sub-copy
     (λ c. search kit)  -- part-copy-start
     (λ c. search kit)  -- part-copy-end

@@ -54,9 +54,9 @@ pub fn write_row(row: &BlockRow, out: &mut [u8]) {
     }
 }
 
-/// The bytes of two rows of words whose bytes stand the other way round.
-pub fn write_words(words: &[u16; 256], out: &mut [u8; 512]) {
-    for x in 0..256 {
+/// The bytes of a row of words whose bytes stand the other way round.
+pub fn write_words(words: &BlockRow, out: &mut [u8]) {
+    for x in 0..128 {
         let w = words[x];
         out[2 * x] = (w % 256) as u8;
         out[2 * x + 1] = (w / 256 % 256) as u8;

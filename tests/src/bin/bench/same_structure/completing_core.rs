@@ -60,17 +60,7 @@ fn check_row(last: &[u32; 16], own: u32, s: usize) -> [u16; 128] {
     x
 }
 
-/// Puts the check bits into the words of row s, where these have zeros.
-fn complete_row(last: &[u32; 16], own: u32, s: usize, row: &mut [u16]) {
-    let z = by_words(check_row(last, own, s));
-    for n in 0..128 {
-        row[n] = row[n] ^ z[n];
-    }
-}
-
-/// The same of both rows.
-pub fn complete(last: &[u32; 16], own: u32, halves: &mut [u16; 256]) {
-    for s in 0..2 {
-        complete_row(last, own, s, &mut halves[s * 128..s * 128 + 128]);
-    }
+/// The same by words: number 8r+C is of block C of word r.
+pub fn row_checks(last: &[u32; 16], own: u32, s: usize) -> [u16; 128] {
+    by_words(check_row(last, own, s))
 }

@@ -75,21 +75,6 @@ pub fn put_halves(coded: &[u8; 512], halves: &mut [u16; 256]) {
     }
 }
 
-/// The columns of each block of a row exchanged, in place.
-fn exchange_row(row: &mut BlockRow) {
-    for block in 0..8 {
-        lay(row, block, exchange_columns(block_of(row, block)));
-    }
-}
-
-/// The halves of a pair's words become the words of its coded bytes, as they lie in memory.
-pub fn exchange(halves: &mut [u16; 256]) {
-    for s in 0..2 {
-        let row = &mut halves[s * 128..s * 128 + 128];
-        exchange_row(row.try_into().expect("a row"));
-    }
-}
-
 /// Block C of row s of the halves.
 fn half_block(halves: &[u16; 256], s: usize, block: usize) -> Block {
     let mut b = [0; 16];
