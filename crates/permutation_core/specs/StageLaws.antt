@@ -9,10 +9,13 @@ use native.Mathlib.Omega.{arith}
 use native.Mathlib.Decide.{decLt}
 use lib.Bits.{bitAnd, bitXor, and-zero-r, and-le-r, xor-comm, xor-lt, xor-zero-r, shifted-even}
 use lib.Dec.{T, ltb, leb, eqb, ltb→lt, leb→le, eqb→eq}
-use lib.ListN.{getD}
+use lib.ListN.{length, getD, set}
 use lib.Pow.{shr-shr, shl-shr, field, mod-mod-pow, pow-add, pow-pos}
 use Rattle.bits.specs.Bits.{bitOf, fromBits}
 use Rattle.bits.specs.BitLaws.{bitOf-lt, fromBits-ext, fromBits-bitOf}
+use Rattle.bits.specs.Filling.{Filling, fill-none, fill-two, fill-done}
+use Rattle.bits.specs.Lists.{tabulate}
+use Rattle.bits.specs.ListLaws.{getD-tabulate}
 use Rattle.bits.specs.Tests.{every, each, both, both-left, both-right}
 use Rattle.bits.specs.Xor.{_⊕_}
 use Rattle.blocks.specs.Block.{bitAt, rowWord, block}
@@ -216,14 +219,14 @@ chosen-bits m x y f yes-is no-is = picked-bits 16 m (bitOf 16 x) (bitOf 16 y) f 
 -- ---- the bit rows of a stage
 
 module _ (b : List ℕ) (k x y t : ℕ) (p : x ≡ getD b k 0) (q : y ≡ getD b (8 + k) 0) where
-  pub rows-even : (m : ℕ) → t ≡ chosen m y x → t ≡ rowWord (rowsStage m b) (2 * k)
+  rows-even : (m : ℕ) → t ≡ chosen m y x → t ≡ rowWord (rowsStage m b) (2 * k)
   unfolding rowWord rowsStage bitAt own other pick
   rows-even m e =
       let d : 2 * k / 2 ≡ k = omega arith in
       let h : 2 * k % 2 ≡ 0 = omega arith in
       e ∙ chosen-bits m y x (rowsStage m b (2 * k)) (λ c l u. rw (u, h, d) (ap (λ v. bitOf 16 v c) q)) (λ c l u. rw (u, h, d) (ap (λ v. bitOf 16 v c) p))
 
-  pub rows-odd : (m : ℕ) → t ≡ chosen m x y → t ≡ rowWord (rowsStage m b) (2 * k + 1)
+  rows-odd : (m : ℕ) → t ≡ chosen m x y → t ≡ rowWord (rowsStage m b) (2 * k + 1)
   unfolding rowWord rowsStage bitAt own other pick
   rows-odd m e =
       let d : (2 * k + 1) / 2 ≡ k = omega arith in
@@ -268,9 +271,76 @@ module _ (R w : ℕ) (b : List ℕ) (k x y t : ℕ) (p : x ≡ getD b k 0) (q : 
 
 pub ruleset crossing = (crossed-first, crossed-second, cross-even, cross-odd)
 
-pub ruleset stage-rows = (rows-even, rows-odd, columns-even, columns-odd)
+pub ruleset stage-rows = (columns-even, columns-odd)
 
 -- ---- stages one after the other
+
+-- ---- two stages at once
+
+-- Of sixteen bit rows the first 4k are f's: none / more / done.
+pub record Fours (f : ℕ → ℕ) (k : ℕ) (d : List ℕ) : Type 0 where
+  pub filled : Filling f 16 (4 * k) d
+
+pub fours-none : (f : ℕ → ℕ) (d : List ℕ) → length d ≡ 16 → Fours f 0 d
+fours-none f d e = record { filled = fill-none f 16 d e }
+
+pub fours-more : {f : ℕ → ℕ} {k : ℕ} {d : List ℕ} (a b c e : ℕ) → Fours f k d → k < 4 → a ≡ f (4 * k) → b ≡ f (4 * k + 1) → c ≡ f (4 * k + 2)
+    → e ≡ f (4 * k + 3) → Fours f (k + 1) (set (set (set (set d (4 * k) a) (4 * k + 1) b) (4 * k + 2) c) (4 * k + 3) e)
+fours-more {f} {k} {d} a b c e h l p q r s =
+    let two : Filling f 16 (4 * k + 2) (set (set d (4 * k) a) (4 * k + 1) b) = fill-two a b (h .filled) (omega arith) p q (omega arith) in
+    let i : 4 * k + 2 + 1 ≡ 4 * k + 3 = omega arith in
+    record {
+      filled = rw i at (fill-two {i = 4 * k + 2} {j = 4 * (k + 1)} c e two (omega arith) r (s ∙ ap f (sym i)) (omega arith));
+    }
+
+pub fours-done : {f : ℕ → ℕ} {k : ℕ} {d : List ℕ} → Fours f k d → 4 ≤ k → d ≡ tabulate 16 f
+fours-done h l = fill-done (h .filled) (omega arith)
+
+-- What is chosen of what was chosen.
+pub chosen-of : (n u v s t r : ℕ) → r ≡ chosen n u v → u ≡ s → v ≡ t → r ≡ chosen n s t
+chosen-of n u v s t r e p q = e ∙ ap₂ (chosen n) p q
+
+-- Four bit rows of a block give four of the block after two stages.
+module _ (b : List ℕ) (m n k w x y z : ℕ) (l : k < 4) (ew : w ≡ getD b k 0) (ex : x ≡ getD b (4 + k) 0) (ey : y ≡ getD b (8 + k) 0) (ez : z ≡ getD b (12 + k) 0) where
+  abbrev once : List ℕ
+  once = block (rowsStage m b)
+
+  at-once : (j i t : ℕ) → i < 16 → t ≡ rowWord (rowsStage m b) i → i ≡ j → t ≡ getD once j 0
+  unfolding block
+  at-once j i t li e p = e ∙ sym (getD-tabulate 16 (rowWord (rowsStage m b)) i 0 li) ∙ ap (λ i. getD once i 0) p
+
+  first : chosen m y w ≡ getD once (2 * k) 0
+  first = at-once (2 * k) (2 * k) (chosen m y w) (omega arith) (rows-even b k w y (chosen m y w) ew ey m refl) refl
+
+  second : chosen m w y ≡ getD once (2 * k + 1) 0
+  second = at-once (2 * k + 1) (2 * k + 1) (chosen m w y) (omega arith) (rows-odd b k w y (chosen m w y) ew ey m refl) refl
+
+  ez′ : z ≡ getD b (8 + (4 + k)) 0
+  ez′ = ez ∙ ap (λ i. getD b i 0) (omega arith)
+
+  third : chosen m z x ≡ getD once (8 + 2 * k) 0
+  third = at-once (8 + 2 * k) (2 * (4 + k)) (chosen m z x) (omega arith) (rows-even b (4 + k) x z (chosen m z x) ex ez′ m refl) (omega arith)
+
+  fourth : chosen m x z ≡ getD once (8 + (2 * k + 1)) 0
+  fourth = at-once (8 + (2 * k + 1)) (2 * (4 + k) + 1) (chosen m x z) (omega arith) (rows-odd b (4 + k) x z (chosen m x z) ex ez′ m refl) (omega arith)
+
+  pub four-a : (t : ℕ) → t ≡ chosen n (chosen m z x) (chosen m y w) → t ≡ rowWord (rowsStage n (block (rowsStage m b))) (4 * k)
+  four-a t e =
+      rows-even once (2 * k) (chosen m y w) (chosen m z x) t first third n e ∙ ap (rowWord (rowsStage n once)) (omega arith)
+
+  pub four-b : (t : ℕ) → t ≡ chosen n (chosen m y w) (chosen m z x) → t ≡ rowWord (rowsStage n (block (rowsStage m b))) (4 * k + 1)
+  four-b t e =
+      rows-odd once (2 * k) (chosen m y w) (chosen m z x) t first third n e ∙ ap (rowWord (rowsStage n once)) (omega arith)
+
+  pub four-c : (t : ℕ) → t ≡ chosen n (chosen m x z) (chosen m w y) → t ≡ rowWord (rowsStage n (block (rowsStage m b))) (4 * k + 2)
+  four-c t e =
+      rows-even once (2 * k + 1) (chosen m w y) (chosen m x z) t second fourth n e ∙ ap (rowWord (rowsStage n once)) (omega arith)
+
+  pub four-d : (t : ℕ) → t ≡ chosen n (chosen m w y) (chosen m x z) → t ≡ rowWord (rowsStage n (block (rowsStage m b))) (4 * k + 3)
+  four-d t e =
+      rows-odd once (2 * k + 1) (chosen m w y) (chosen m x z) t second fourth n e ∙ ap (rowWord (rowsStage n once)) (omega arith)
+
+pub ruleset stage-fours = (fours-none, fours-more, fours-done, four-a, four-b, four-c, four-d)
 
 -- Places that are computed.
 within : (n w z : ℕ) (f : ℕ → ℕ → ℕ) → T (every n (λ i. every w (λ c. ltb (f i c) z))) → (i c : ℕ) → i < n → c < w → f i c < z
@@ -293,12 +363,13 @@ cross-moves : (R w m n : ℕ) (b y : List ℕ) → y ≡ crossStage R w m n b �
 unfolding crossStage
 cross-moves R w m n b y e = record { is = e }
 
-pub rows-exchanged : (b t u v r : List ℕ) → t ≡ block (rowsStage 255 b) → u ≡ block (rowsStage 3855 t) → v ≡ block (rowsStage 13107 u)
-    → r ≡ block (rowsStage 21845 v) → r ≡ rowsExchanged b
+pub rows-exchanged : (b u r : List ℕ) → u ≡ block (rowsStage 3855 (block (rowsStage 255 b))) → r ≡ block (rowsStage 21845 (block (rowsStage 13107 u)))
+    → r ≡ rowsExchanged b
 unfolding rowsExchanged own other pick bitOf _⊕_
-rows-exchanged b t u v r p q s w =
+rows-exchanged b u r p q =
     moves-same (λ i c. i ⊕ c) (λ i c. c)
-    (stages-then (stages-then (stages-then (rows-moves 255 b t p) (rows-moves 3855 t u q) tt tt) (rows-moves 13107 u v s) tt tt) (rows-moves 21845 v r w) tt tt) tt tt
+    (stages-then (stages-then (stages-then (rows-moves 255 b (block (rowsStage 255 b)) refl) (rows-moves 3855 (block (rowsStage 255 b)) u p) tt tt)
+    (rows-moves 13107 u (block (rowsStage 13107 u)) refl) tt tt) (rows-moves 21845 (block (rowsStage 13107 u)) r q) tt tt) tt tt
     ∙ block-moved (λ i c. i ⊕ c) (λ i c. c) b
 
 pub columns-exchanged : (b t u v r : List ℕ) → t ≡ block (columnsStage 255 8 b) → u ≡ block (columnsStage 3855 4 t)

@@ -5,23 +5,51 @@ ghost use mathlib.Core.Path.{_≡_};
 ghost use Prim.Native.Nat.{_<_};
 ghost use lib.ListN.{getD};
 ghost use Rattle.blocks.specs.Block.{block};
-ghost use Rattle.blocks.specs.Moves.{transposed};
+ghost use Rattle.blocks.specs.Moves.{chosen, transposed};
 ghost use Rattle.blocks.specs.Exchanges.{rowsExchanged, columnsExchanged};
 ghost use Rattle.permutation_core.specs.Stages.{rowsStage, columnsStage, crossedFirst, crossedSecond, crossStage, eightTransposed, twoTransposed};
 ghost use Rattle.permutation_core.specs.StageLaws.{Mask};
 
-// Two bit rows exchange the columns of m.
-fn rows_stage(b: [u16; 16], m: u16) -> [u16; 16]
-    ensures { λ r. ⌜ r ≡ block (rowsStage m b) ⌝ }
+// Four bit rows.
+struct FourRows {
+    a: u16,
+    b: u16,
+    c: u16,
+    d: u16,
+}
+
+// Two bit rows exchange the columns of m, in two stages: first those that lie eight apart in the block, then those that lie four apart.
+fn rows_four(w: u16, x: u16, y: u16, z: u16, m: u16, n: u16) -> FourRows
+    ensures { λ r. ⌜ (r .a ≡ chosen n (chosen m z x) (chosen m y w)) × (r .b ≡ chosen n (chosen m y w) (chosen m z x)) × (r .c ≡ chosen n (chosen m x z) (chosen m w y)) × (r .d ≡ chosen n (chosen m w y) (chosen m x z)) ⌝ }
+{
+    let a = choose(m, y, w);
+    let b = choose(m, z, x);
+    let c = choose(m, w, y);
+    let d = choose(m, x, z);
+    FourRows {
+        a: choose(n, b, a),
+        b: choose(n, a, b),
+        c: choose(n, d, c),
+        d: choose(n, c, d),
+    }
+}
+
+// The two stages of a whole block: so the compiler has four bit rows at a time, which it need not put aside.
+fn rows_stages(b: [u16; 16], m: u16, n: u16) -> [u16; 16]
+    ensures { λ r. ⌜ r ≡ block (rowsStage n (block (rowsStage m b))) ⌝ }
 {
     let mut out = [0u16; 16];
-    for k in 0..8 {
-        let i = 2 * k;
-        let j = i + 1;
-        let x = b[k];
+    for k in 0..4 {
+        let i = 4 * k;
+        let w = b[k];
+        let x = b[4 + k];
         let y = b[8 + k];
-        out[i] = choose(m, y, x);
-        out[j] = choose(m, x, y);
+        let z = b[12 + k];
+        let r = rows_four(w, x, y, z, m, n);
+        out[i] = r.a;
+        out[i + 1] = r.b;
+        out[i + 2] = r.c;
+        out[i + 3] = r.d;
     }
     out
 }
@@ -158,10 +186,8 @@ fn cross_stage_eight(b: [u64; 8], m: u64, n: usize) -> [u64; 8]
 pub fn exchange_rows(b: [u16; 16]) -> [u16; 16]
     ensures { λ r. ⌜ r ≡ rowsExchanged b ⌝ }
 {
-    let t = rows_stage(b, 0x00FF);
-    let u = rows_stage(t, 0x0F0F);
-    let v = rows_stage(u, 0x3333);
-    rows_stage(v, 0x5555)
+    let u = rows_stages(b, 0x00FF, 0x0F0F);
+    rows_stages(u, 0x3333, 0x5555)
 }
 
 // In bit row i, column c changes places with column c^i.

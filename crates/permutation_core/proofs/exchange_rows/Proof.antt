@@ -11,8 +11,6 @@ pub exchange-rows-spec : {M : Type 1} → statement M
 exchange-rows-spec =
     tie.close
     (tie.spec
-    (λ c κs. search kit)  -- rows-stage-requires
-    (λ c κs. search kit)  -- rows-stage-requires-2
-    (λ c κs. search kit)  -- rows-stage-requires-3
-    (λ c κs. search kit)  -- rows-stage-requires-4
+    (λ c κs. search kit)  -- rows-stages-requires
+    (λ c κs. search kit)  -- rows-stages-requires-2
     (λ c. search kit))  -- returns

@@ -6,14 +6,29 @@
 
 use super::blocks::{choose, Block};
 
-/// Two bit rows exchange the columns of m.
-fn rows_stage(b: Block, m: u16) -> Block {
+/// Two bit rows exchange the columns of m, in two stages: first those that lie eight apart in the block, then those that lie four apart.
+fn rows_four(w: u16, x: u16, y: u16, z: u16, m: u16, n: u16) -> [u16; 4] {
+    let a = choose(m, y, w);
+    let b = choose(m, z, x);
+    let c = choose(m, w, y);
+    let d = choose(m, x, z);
+    [
+        choose(n, b, a),
+        choose(n, a, b),
+        choose(n, d, c),
+        choose(n, c, d),
+    ]
+}
+
+/// The two stages of a whole block.
+fn rows_stages(b: Block, m: u16, n: u16) -> Block {
     let mut out = [0; 16];
-    for k in 0..8 {
-        let x = b[k];
-        let y = b[8 + k];
-        out[2 * k] = choose(m, y, x);
-        out[2 * k + 1] = choose(m, x, y);
+    for k in 0..4 {
+        let r = rows_four(b[k], b[4 + k], b[8 + k], b[12 + k], m, n);
+        out[4 * k] = r[0];
+        out[4 * k + 1] = r[1];
+        out[4 * k + 2] = r[2];
+        out[4 * k + 3] = r[3];
     }
     out
 }
@@ -81,10 +96,8 @@ fn cross_stage_eight(b: [u64; 8], m: u64, n: usize) -> [u64; 8] {
 /// In column c, bit row i changes places with bit row i^c.
 #[inline]
 pub fn exchange_rows(b: Block) -> Block {
-    let t = rows_stage(b, 0x00FF);
-    let u = rows_stage(t, 0x0F0F);
-    let v = rows_stage(u, 0x3333);
-    rows_stage(v, 0x5555)
+    let u = rows_stages(b, 0x00FF, 0x0F0F);
+    rows_stages(u, 0x3333, 0x5555)
 }
 
 /// In bit row i, column c changes places with column c^i.
