@@ -1,5 +1,7 @@
 // Bits of byte buffers, most significant bit first: functions, definitions and laws. At the bottom, with `calls`; every crate above uses
 // it.
+#![tactic(auto)]
+
 pub mod numbers;
 
 ghost use Rattle.std.specs.Prelude.{◌≡◌, ◌+◌, ◌*◌, ◌%◌, ◌<◌, length};

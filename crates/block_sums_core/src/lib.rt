@@ -1,6 +1,8 @@
 // Workers: the sums over the last block of either half, formed with terms in common, for the sixteen words of a row side by side: sum i is
 // digit i of S1, sum 8 + i digit i of S3. Bit 255 is taken as if the powers of a went on behind bit 254. Over `networks_spec`;
 // `gathering_core` gathers syndromes with them.
+#![tactic(auto)]
+
 ghost use Rattle.std.specs.Prelude.{◌≡◌};
 ghost use Rattle.networks_spec.specs.Networks.{network, front_columns, back_columns};
 

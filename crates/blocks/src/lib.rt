@@ -1,5 +1,7 @@
 // Blocks of sixteen 16-bit rows, by value, and the eight blocks of a row side by side, word i of block C being number 8i+C: functions,
 // definitions and laws. Over `bits`; pairs and interleaver use it.
+#![tactic(auto)]
+
 ghost use Rattle.std.specs.Prelude.{◌≡◌, ◌+◌, ◌<◌, length, get_or};
 ghost use Rattle.bits.specs.Lists.{tabulate};
 ghost use Rattle.blocks.specs.Moves.{chosen, turned};

@@ -28,6 +28,7 @@ module _ {A : Type 0} where
 
   -- What stands in a mapped list stands in the list.
   pub mapped_at : {B : Type 0} (f : A → B) (l : List A) (i : ℕ) (y : B) → At (map f l) i y → (x : A) × At l i x × (f x ≡ y)
+  mapped_at {B = B} f [] i y x' = elim x' [ ]
   mapped_at f (x ∷ xs) i y here = (x, here, refl)
   mapped_at f (x ∷ xs) i y (later a) = let r = mapped_at f xs _ y a in (r.0, later r.1, r.2)
 

@@ -1,4 +1,6 @@
 // What every call answers, and the refusals of 01, "Turned-back calls", and of 02. At the bottom, with `bits`; every crate of calls uses it.
+#![tactic(auto)]
+
 ghost use Rattle.std.specs.Prelude.{◌≡◌};
 ghost use Rattle.calls.specs.Answers.{refusal_of, index_of, value_or};
 

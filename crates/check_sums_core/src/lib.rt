@@ -1,5 +1,7 @@
 // Workers: the remainder's digits from S1 and S3, formed with terms in common, for the 32 words of a pair side by side. Over
 // `networks_spec`; `completing_core` completes words with them.
+#![tactic(auto)]
+
 ghost use Rattle.std.specs.Prelude.{◌≡◌};
 ghost use Rattle.networks_spec.specs.Networks.{network, check_columns};
 

@@ -1,4 +1,6 @@
 // What the system says of an open file: its device and number, its kind and its mode. Below `files`.
+#![tactic(auto)]
+
 use libc::types::{stat, timespec};
 
 fn no_time() -> timespec {

@@ -1,4 +1,6 @@
 // GF(256): the table of the powers of a, a root of y^8+y^4+y^3+y^2+1, and what is read off it. Over `bits`, below `word_spec`.
+#![tactic(auto)]
+
 mod tables;
 
 ghost use Rattle.std.specs.Prelude.{◌≡◌, ◌<◌, get_or};

@@ -1,5 +1,7 @@
 // Workers: a history and its front, the encoder number and the next pair number. Over `bits`, by the definitions of `pair_spec`; the calls
 // are in `encoder` and `receiver`.
+#![tactic(auto)]
+
 ghost use Rattle.std.specs.Prelude.{◌≡◌, [], ◌∷◌, ◌≤◌, length};
 ghost use Rattle.bits.specs.Numbers32.{bytes32};
 ghost use Rattle.calls.specs.Calls.{stray_history};

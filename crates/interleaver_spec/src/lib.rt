@@ -1,5 +1,6 @@
 // The interleaver, definitions and laws, and the types that they use: 01, "Interleaver". The workers are in `block_core` and
 // `interleaver_core`, the calls in `interleaver`. Each block row has 16 bit rows, and a number of one never serves as the other.
+#![tactic(auto)]
 
 // A block row of the buffer, 0 to 83.
 #[derive(Drop)]

@@ -1,5 +1,7 @@
 // The repair that the syndromes of a word tell, and the table of roots that it reads beside those of `gf256`. Over `word_spec`, below `word`
 // and `mending_core`.
+#![tactic(auto)]
+
 pub mod locating;
 mod tables;
 

@@ -1,5 +1,7 @@
 // Workers: sums as of places that lie further on, formed with terms in common: S1 times a power of a, S3 times its cube, for the 32 words
 // of a pair side by side. Over `networks_spec`; `gathering_core` gathers syndromes with them.
+#![tactic(auto)]
+
 ghost use Rattle.std.specs.Prelude.{◌≡◌};
 ghost use Rattle.networks_spec.specs.Networks.{network, up64_columns, up32_columns, up16_columns};
 

@@ -1,5 +1,7 @@
 // Workers: the 128 numbers of a row, eight blocks of sixteen words, brought from the order of words into that of blocks and back. A riffle
 // shuffles the two halves of a row into each other, as of a pack of cards. Over `blocks`.
+#![tactic(auto)]
+
 ghost use Rattle.std.specs.Prelude.{◌≡◌};
 ghost use Rattle.riffle_core.specs.Riffles.{riffled, by_blocks, by_words};
 

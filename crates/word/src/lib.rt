@@ -1,5 +1,7 @@
 // Check words in bytes, the workers and the call `repair_word`. Over `word_spec` and `locating_core`, below `mending_core`.
 // 01, "Code words": "A word lent by itself is 32 bytes, bit 0 first".
+#![tactic(auto)]
+
 pub mod checks;
 pub mod syndrome;
 pub mod tables;

@@ -1,4 +1,5 @@
 // Check words, definitions and laws: 01, "Code words". Over `gf256`; the functions are in `word`, and pairs (`pair_spec`) rest on it.
+#![tactic(auto)]
 
 // What the repair of a word flips: nothing, one place, two places (rising); or no code word is within two flips.
 #[derive(Drop)]

@@ -17,4 +17,4 @@ flip_spec =
     (λ c. search rules)  -- shl-s
     (λ c. search rules)  -- slice-write-s
     (λ c. search rules)  -- same-length
-    (λ c. flip_byte c.before.args.s.now c.before.args.i c.before.requires (λ j. (c.slice-known.given j).fits)))  -- returns
+    (λ c. flip_byte c.before.args.s.now c.before.args.i c.before.requires (λ j. (c.slice_known-1.given j).fits)))  -- returns

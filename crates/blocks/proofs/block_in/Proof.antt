@@ -11,19 +11,19 @@ use Rattle.blocks.proofs.block_in.Tie as tie
 
 ruleset kit = (rules, fill)
 
-abbrev invariant-loop : tie.invariant-loop
-invariant-loop words block b₀ r₀ b r = Filling (λ i. turned (get_or words (8 * i + block) 0) 8) 16 r b
+abbrev invariant-loop-r : tie.invariant-loop-r
+invariant-loop-r words block b₀ r₀ b r = Filling (λ i. turned (get_or words (8 * i + block) 0) 8) 16 r b
 
-abbrev decreases-loop : tie.decreases-loop
-decreases-loop words block b₀ r₀ b r = 16 - r
+abbrev decreases-loop-r : tie.decreases-loop-r
+decreases-loop-r words block b₀ r₀ b r = 16 - r
 
 pub block_in_spec : {M : Type 1} → statement M
 unfolding words_block
 block_in_spec =
     tie.close
     (tie.spec
-    invariant-loop
-    decreases-loop
+    invariant-loop-r
+    decreases-loop-r
     (λ c. search kit)  -- loop-holds
     (λ c. search kit)  -- mul-turn
     (λ c. search kit)  -- add-turn

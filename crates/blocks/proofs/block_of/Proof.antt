@@ -10,19 +10,19 @@ use Rattle.blocks.proofs.block_of.Tie as tie
 
 ruleset kit = (rules, fill)
 
-abbrev invariant-loop : tie.invariant-loop
-invariant-loop row block b₀ r₀ b r = Filling (λ i. get_or row (8 * i + block) 0) 16 r b
+abbrev invariant-loop-r : tie.invariant-loop-r
+invariant-loop-r row block b₀ r₀ b r = Filling (λ i. get_or row (8 * i + block) 0) 16 r b
 
-abbrev decreases-loop : tie.decreases-loop
-decreases-loop row block b₀ r₀ b r = 16 - r
+abbrev decreases-loop-r : tie.decreases-loop-r
+decreases-loop-r row block b₀ r₀ b r = 16 - r
 
 pub block_of_spec : {M : Type 1} → statement M
 unfolding row_block
 block_of_spec =
     tie.close
     (tie.spec
-    invariant-loop
-    decreases-loop
+    invariant-loop-r
+    decreases-loop-r
     (λ c. search kit)  -- loop-holds
     (λ c. search kit)  -- mul-b
     (λ c. search kit)  -- add-b

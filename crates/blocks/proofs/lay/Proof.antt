@@ -8,18 +8,18 @@ use Rattle.blocks.proofs.lay.Tie as tie
 
 ruleset kit = (rules, lay)
 
-abbrev invariant-loop : tie.invariant-loop
-invariant-loop row₀ block b i₀ row i = Laying row₀ block b i row
+abbrev invariant-loop-i : tie.invariant-loop-i
+invariant-loop-i row₀ block b i₀ row i = Laying row₀ block b i row
 
-abbrev decreases-loop : tie.decreases-loop
-decreases-loop row₀ block b i₀ row i = 16 - i
+abbrev decreases-loop-i : tie.decreases-loop-i
+decreases-loop-i row₀ block b i₀ row i = 16 - i
 
 pub lay_spec : {M : Type 1} → statement M
 lay_spec =
     tie.close
     (tie.spec
-    invariant-loop
-    decreases-loop
+    invariant-loop-i
+    decreases-loop-i
     (λ c. search kit)  -- loop-holds
     (λ c. search kit)  -- mul-row
     (λ c. search kit)  -- array-read-row

@@ -9,18 +9,18 @@ use Rattle.blocks.proofs.write_row.Tie as tie
 
 ruleset kit = (rules, twos, two_bytes_of)
 
-abbrev invariant-loop : tie.invariant-loop
-invariant-loop row out₀ x₀ out x = Twos (row_byte row) 128 x out
+abbrev invariant-loop-x : tie.invariant-loop-x
+invariant-loop-x row out₀ x₀ out x = Twos (row_byte row) 128 x out
 
-abbrev decreases-loop : tie.decreases-loop
-decreases-loop row out₀ x₀ out x = 128 - x
+abbrev decreases-loop-x : tie.decreases-loop-x
+decreases-loop-x row out₀ x₀ out x = 128 - x
 
 pub write_row_spec : {M : Type 1} → statement M
 write_row_spec =
     tie.close
     (tie.spec
-    invariant-loop
-    decreases-loop
+    invariant-loop-x
+    decreases-loop-x
     (λ c. search kit)  -- loop-holds
     (λ c κs. search kit)  -- row-word-requires
     (λ c. search kit)  -- mul-a

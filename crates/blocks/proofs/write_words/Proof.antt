@@ -9,18 +9,18 @@ use Rattle.blocks.proofs.write_words.Tie as tie
 
 ruleset kit = (rules, twos, two_bytes_of_word)
 
-abbrev invariant-loop : tie.invariant-loop
-invariant-loop words out₀ x₀ out x = Twos (word_byte words) 128 x out
+abbrev invariant-loop-x : tie.invariant-loop-x
+invariant-loop-x words out₀ x₀ out x = Twos (word_byte words) 128 x out
 
-abbrev decreases-loop : tie.decreases-loop
-decreases-loop words out₀ x₀ out x = 128 - x
+abbrev decreases-loop-x : tie.decreases-loop-x
+decreases-loop-x words out₀ x₀ out x = 128 - x
 
 pub write_words_spec : {M : Type 1} → statement M
 write_words_spec =
     tie.close
     (tie.spec
-    invariant-loop
-    decreases-loop
+    invariant-loop-x
+    decreases-loop-x
     (λ c. search kit)  -- loop-holds
     (λ c κs. search kit)  -- row-word-requires
     (λ c. search kit)  -- mul-a

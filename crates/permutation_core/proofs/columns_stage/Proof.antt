@@ -11,19 +11,19 @@ use Rattle.permutation_core.proofs.columns_stage.Tie as tie
 
 ruleset kit = (rules, twos, stage_rows)
 
-abbrev invariant-loop : tie.invariant-loop
-invariant-loop m n b out₀ k₀ out k = Twos (row_word (columns_stage m n b)) 8 k out
+abbrev invariant-loop-k : tie.invariant-loop-k
+invariant-loop-k m n b out₀ k₀ out k = Twos (row_word (columns_stage m n b)) 8 k out
 
-abbrev decreases-loop : tie.decreases-loop
-decreases-loop m n b out₀ k₀ out k = 8 - k
+abbrev decreases-loop-k : tie.decreases-loop-k
+decreases-loop-k m n b out₀ k₀ out k = 8 - k
 
 pub columns_stage_spec : {M : Type 1} → statement M
 unfolding block
 columns_stage_spec =
     tie.close
     (tie.spec
-    invariant-loop
-    decreases-loop
+    invariant-loop-k
+    decreases-loop-k
     (λ c. search kit)  -- loop-holds
     (λ c. search kit)  -- mul-i
     (λ c. search kit)  -- add-j

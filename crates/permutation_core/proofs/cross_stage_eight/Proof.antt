@@ -11,19 +11,19 @@ use Rattle.permutation_core.proofs.cross_stage_eight.Tie as tie
 
 ruleset kit = (rules, twos, crossing)
 
-abbrev invariant-loop : tie.invariant-loop
-invariant-loop m n b out₀ k₀ out k = Twos (cross_word 4 64 m n b) 4 k out
+abbrev invariant-loop-k : tie.invariant-loop-k
+invariant-loop-k m n b out₀ k₀ out k = Twos (cross_word 4 64 m n b) 4 k out
 
-abbrev decreases-loop : tie.decreases-loop
-decreases-loop m n b out₀ k₀ out k = 4 - k
+abbrev decreases-loop-k : tie.decreases-loop-k
+decreases-loop-k m n b out₀ k₀ out k = 4 - k
 
 pub cross_stage_eight_spec : {M : Type 1} → statement M
 unfolding cross_stage cross_word moved_in
 cross_stage_eight_spec =
     tie.close
     (tie.spec
-    invariant-loop
-    decreases-loop
+    invariant-loop-k
+    decreases-loop-k
     (λ c. search kit)  -- loop-holds
     (λ c. search kit)  -- mul-i
     (λ c. search kit)  -- add-j

@@ -10,19 +10,19 @@ use Rattle.permutation_core.proofs.rows_stages.Tie as tie
 
 ruleset kit = (rules, stage_fours)
 
-abbrev invariant-loop : tie.invariant-loop
-invariant-loop m n b out₀ k₀ out k = Fours (row_word (rows_stage n (block (rows_stage m b)))) k out
+abbrev invariant-loop-k : tie.invariant-loop-k
+invariant-loop-k m n b out₀ k₀ out k = Fours (row_word (rows_stage n (block (rows_stage m b)))) k out
 
-abbrev decreases-loop : tie.decreases-loop
-decreases-loop m n b out₀ k₀ out k = 4 - k
+abbrev decreases-loop-k : tie.decreases-loop-k
+decreases-loop-k m n b out₀ k₀ out k = 4 - k
 
 pub rows_stages_spec : {M : Type 1} → statement M
 unfolding block
 rows_stages_spec =
     tie.close
     (tie.spec
-    invariant-loop
-    decreases-loop
+    invariant-loop-k
+    decreases-loop-k
     (λ c. search kit)  -- loop-holds
     (λ c. search kit)  -- mul-i
     (λ c. search kit)  -- mul-w

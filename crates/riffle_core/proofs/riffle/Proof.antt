@@ -10,19 +10,19 @@ use Rattle.riffle_core.proofs.riffle.Tie as tie
 
 ruleset kit = (rules, twos, riffling)
 
-abbrev invariant-loop : tie.invariant-loop
-invariant-loop x y₀ n₀ y n = Twos (riffled_number x) 64 n y
+abbrev invariant-loop-n : tie.invariant-loop-n
+invariant-loop-n x y₀ n₀ y n = Twos (riffled_number x) 64 n y
 
-abbrev decreases-loop : tie.decreases-loop
-decreases-loop x y₀ n₀ y n = 64 - n
+abbrev decreases-loop-n : tie.decreases-loop-n
+decreases-loop-n x y₀ n₀ y n = 64 - n
 
 pub riffle_spec : {M : Type 1} → statement M
 unfolding riffled
 riffle_spec =
     tie.close
     (tie.spec
-    invariant-loop
-    decreases-loop
+    invariant-loop-n
+    decreases-loop-n
     (λ c. search kit)  -- loop-holds
     (λ c. search kit)  -- mul-i
     (λ c. search kit)  -- add-j

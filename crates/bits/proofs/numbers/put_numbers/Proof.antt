@@ -11,18 +11,18 @@ use Rattle.bits.proofs.numbers.put_numbers.Tie as tie
 
 ruleset kit = (rules, fill, bytes_filled)
 
-abbrev invariant-loop : tie.invariant-loop
-invariant-loop numbers bytes₀ n i₀ bytes i = Filling (λ k. byte32 (get_or numbers (k / 4) 0) (k % 4)) n i bytes
+abbrev invariant-loop-i : tie.invariant-loop-i
+invariant-loop-i numbers bytes₀ n i₀ bytes i = Filling (λ k. byte32 (get_or numbers (k / 4) 0) (k % 4)) n i bytes
 
-abbrev decreases-loop : tie.decreases-loop
-decreases-loop numbers bytes₀ n i₀ bytes i = n - i
+abbrev decreases-loop-i : tie.decreases-loop-i
+decreases-loop-i numbers bytes₀ n i₀ bytes i = n - i
 
 pub put_numbers_spec : {M : Type 1} → statement M
 put_numbers_spec =
     tie.close
     (tie.spec
-    invariant-loop
-    decreases-loop
+    invariant-loop-i
+    decreases-loop-i
     (λ c. search kit)  -- loop-holds
     (λ c. search kit)  -- mul-byte
     (λ c. search kit)  -- shared-slice-read-byte

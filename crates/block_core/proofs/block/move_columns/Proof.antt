@@ -11,19 +11,19 @@ use Rattle.block_core.proofs.block.move_columns.Tie as tie
 
 ruleset kit = (rules, fill, move_row)
 
-abbrev invariant-loop : tie.invariant-loop
-invariant-loop n m b out₀ i₀ out i = Filling (row_word (moved_bit n m b)) 16 i out
+abbrev invariant-loop-i : tie.invariant-loop-i
+invariant-loop-i n m b out₀ i₀ out i = Filling (row_word (moved_bit n m b)) 16 i out
 
-abbrev decreases-loop : tie.decreases-loop
-decreases-loop n m b out₀ i₀ out i = 16 - i
+abbrev decreases-loop-i : tie.decreases-loop-i
+decreases-loop-i n m b out₀ i₀ out i = 16 - i
 
 pub move_columns_spec : {M : Type 1} → statement M
 unfolding block
 move_columns_spec =
     tie.close
     (tie.spec
-    invariant-loop
-    decreases-loop
+    invariant-loop-i
+    decreases-loop-i
     (λ c. search kit)  -- loop-holds
     (λ c. search kit)  -- add-t11
     (λ c κs. search kit)  -- row-requires

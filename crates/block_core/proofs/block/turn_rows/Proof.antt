@@ -11,19 +11,19 @@ use Rattle.block_core.proofs.block.turn_rows.Tie as tie
 
 ruleset kit = (rules, fill, turn_fits, turn_row)
 
-abbrev invariant-loop : tie.invariant-loop
-invariant-loop n b out₀ i₀ out i = Filling (row_word (turned_bit n b)) 16 i out
+abbrev invariant-loop-i : tie.invariant-loop-i
+invariant-loop-i n b out₀ i₀ out i = Filling (row_word (turned_bit n b)) 16 i out
 
-abbrev decreases-loop : tie.decreases-loop
-decreases-loop n b out₀ i₀ out i = 16 - i
+abbrev decreases-loop-i : tie.decreases-loop-i
+decreases-loop-i n b out₀ i₀ out i = 16 - i
 
 pub turn_rows_spec : {M : Type 1} → statement M
 unfolding block
 turn_rows_spec =
     tie.close
     (tie.spec
-    invariant-loop
-    decreases-loop
+    invariant-loop-i
+    decreases-loop-i
     (λ c. search kit)  -- loop-holds
     (λ c κs. search kit)  -- row-requires
     (λ c. search kit)  -- mul-turn
