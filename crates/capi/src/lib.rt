@@ -18,7 +18,7 @@ use profile::Profile;
 
 // What an exported call answers: the refusal's number or 0, the call's own number, and the index of refusal 5.
 #[repr(C)]
-#[derive(Drop)]
+#[derive(Clone, Copy)]
 pub struct Outcome {
     pub refusal: u32,
     pub value: u32,
@@ -27,7 +27,7 @@ pub struct Outcome {
 
 // What opening a line file answers: the refusal's number or 0, and the header's numbers.
 #[repr(C)]
-#[derive(Drop)]
+#[derive(Clone, Copy)]
 pub struct Line {
     pub refusal: u32,
     pub superframes: u32,
