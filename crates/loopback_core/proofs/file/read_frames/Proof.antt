@@ -36,7 +36,7 @@ read_frames_spec =
     (λ c. search kit)  -- loop-less
     (λ c.
     let l = c.before.before.before.before.before.loop-s in
-    blocks_next {d = l.frames-1} (l.s * 7424) (l.s * 7424 + 7424) _ l.invariant (search rules) refl refl
+    blocks_next {d = l.frames} (l.s * 7424) (l.s * 7424 + 7424) _ l.invariant (search rules) refl refl
     (file_frame_block _ (search rules) l.s _ _ (search rules) c.before.before.read_frame.ensures))  -- loop-again
     (λ c. search kit)  -- same-length
     (λ c. search kit))  -- returns
