@@ -1,5 +1,7 @@
 // Workers: the first illegal byte of a frame, each byte by the rule of its cell, so that only payload cells are narrowed by the profile.
 // Over `frame_spec`, `cells_core` and `frame_core`; the calls are in `frame`.
+#![tactic(auto)]
+
 ghost use Rattle.std.specs.Prelude.{◌≡◌, ◌*◌, length};
 ghost use Rattle.cells_spec.specs.Cells.{payload_rule, first_illegal};
 ghost use Rattle.cells_spec.specs.Profiles.{qpsk, modulation};

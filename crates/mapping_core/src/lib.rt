@@ -1,5 +1,7 @@
 // Workers: bits to cells and back, for 16-QAM and for either profile. Over `levels_core` and `mapping_qpsk_core`, by the definitions of
 // `cells_spec`; the calls are in `cells`.
+#![tactic(auto)]
+
 pub mod qam16;
 
 ghost use Rattle.std.specs.Prelude.{◌≡◌, ◌*◌, length};

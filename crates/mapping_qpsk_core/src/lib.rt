@@ -1,5 +1,7 @@
 // Workers for QPSK: a byte's two symbols to their cells and back, and the same for buffers of any number of bytes. Over `levels_core`,
 // by the definitions of `cells_spec`; `mapping_core` has 16-QAM and either profile.
+#![tactic(auto)]
+
 ghost use Rattle.std.specs.Prelude.{◌≡◌, ◌*◌, ◌<◌, length};
 ghost use Rattle.cells_spec.specs.Cells.{payload_rule, Legal, to_cells, to_bits};
 ghost use Rattle.cells_spec.specs.Qpsk.{cell_byte};

@@ -4,7 +4,7 @@ ghost use Rattle.word_spec.specs.Marks.{flips_in, lost_in};
 ghost use Rattle.marks.specs.Marks.{mark_sums};
 
 // The flips in words that were repaired, and the number of lost words.
-#[derive(Drop)]
+#[derive(Clone, Copy)]
 pub struct Sums {
     pub flips: u32,
     pub lost: u32,

@@ -12,4 +12,4 @@ bit_level_spec =
     tie.close
     (tie.spec
     (λ c. search kit)  -- returns
-    (λ c. bit_one c.before.args.b c.if1.false))  -- returns-2
+    (λ c. bit_one c.before.args.b c.if-b-eq0.false))  -- returns-2

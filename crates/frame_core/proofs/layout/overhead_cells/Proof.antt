@@ -9,5 +9,5 @@ pub overhead_cells_spec : {M : Type 1} → statement M
 overhead_cells_spec =
     tie.close
     (tie.spec
-    (λ c. omega (arith, sizes_zeroth c.if1.true))  -- returns
-    (λ c. omega (arith, sizes_other c.if1.false)))  -- returns-2
+    (λ c. omega (arith, sizes_zeroth c.if-number-eq0.true))  -- returns
+    (λ c. omega (arith, sizes_other c.if-number-eq0.false)))  -- returns-2

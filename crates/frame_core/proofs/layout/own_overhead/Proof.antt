@@ -17,4 +17,4 @@ own_overhead_spec =
     (λ c. search rules)  -- sub-result
     (λ c. search rules)  -- part-result-start
     (λ c. search rules)  -- part-result-end
-    (λ c. own_part c.before.before.before.before.args.number c.before.before.before.before.args.overhead.now _ _ c.before.before.overhead-start.ensures.0 c.before.overhead-cells.ensures c.before.before.before.before.requires.0 c.before.before.before.before.requires.1))  -- returns
+    (λ c. own_part c.before.before.before.before.args.number c.before.before.before.before.args.overhead.now _ _ c.before.before.overhead_start-a.ensures.0 c.before.overhead_cells.ensures c.before.before.before.before.requires.0 c.before.before.before.before.requires.1))  -- returns

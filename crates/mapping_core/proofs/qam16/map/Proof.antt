@@ -11,18 +11,18 @@ use Rattle.mapping_core.proofs.qam16.map.Tie as tie
 
 ruleset kit = (rules, by_filled_cells, cell_x, cell_y)
 
-abbrev invariant-loop : tie.invariant-loop
-invariant-loop bits cells₀ table i₀ i-end cells i = Blocks (cells_byte bits) 2 (length bits) i cells
+abbrev invariant-loop-i : tie.invariant-loop-i
+invariant-loop-i bits cells₀ table i₀ i-end cells i = Blocks (cells_byte bits) 2 (length bits) i cells
 
-abbrev decreases-loop : tie.decreases-loop
-decreases-loop bits cells₀ table i₀ i-end cells i = length bits - i
+abbrev decreases-loop-i : tie.decreases-loop-i
+decreases-loop-i bits cells₀ table i₀ i-end cells i = length bits - i
 
 pub map_spec : {M : Type 1} → statement M
 map_spec =
     tie.close
     (tie.spec
-    invariant-loop
-    decreases-loop
+    invariant-loop-i
+    decreases-loop-i
     (λ c κs. search kit)  -- symbol-cells-requires
     (λ c. search kit)  -- loop-holds
     (λ c. search kit)  -- shared-slice-read-cell-in

@@ -17,4 +17,4 @@ weave_spec =
     (λ c. search rules)  -- mul-result-3
     (λ c. search rules)  -- add-result-2
     (λ c. search rules)  -- add-result-3
-    (λ c. weave_is c.before.before.args.x c.before.before.args.y c.before.bit-pair.result c.bit-pair2.result c.before.bit-pair.ensures c.bit-pair2.ensures))  -- returns
+    (λ c. weave_is c.before.before.args.x c.before.before.args.y c.before.bit_pair-p.result c.bit_pair-q.result c.before.bit_pair-p.ensures c.bit_pair-q.ensures))  -- returns
