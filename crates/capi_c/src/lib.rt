@@ -7,7 +7,7 @@ ghost use Rattle.word_spec.specs.Calls.{repair_call};
 ghost use Rattle.pair_spec.specs.Calls.{encode_buffers, encode_call, receive_buffers, receive_call};
 ghost use Rattle.interleaver_spec.specs.Calls.{interleave_call, pair_buffers, deinterleave_call};
 ghost use Rattle.cells_spec.specs.Calls.{map_call, demap_call};
-ghost use Rattle.cells_spec.specs.Profiles.{qam16, qpsk};
+ghost use Rattle.profiles_spec.specs.Profiles.{qam16, qpsk};
 ghost use Rattle.frame_spec.specs.Calls.{frame_call, unframe_call};
 ghost use Rattle.line_file_spec.specs.Opening.{header_of};
 ghost use Rattle.line_file_spec.specs.Reading.{read_refusal};

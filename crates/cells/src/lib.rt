@@ -5,7 +5,7 @@
 ghost use Rattle.std.specs.Prelude.{◌≡◌};
 ghost use Rattle.calls.specs.Calls.{after};
 ghost use Rattle.cells_spec.specs.Calls.{map_call, demap_call};
-ghost use Rattle.cells_spec.specs.Profiles.{modulation};
+ghost use Rattle.profiles_spec.specs.Profiles.{modulation};
 
 use calls::{Answer, Refusal};
 use cells_core::legal::first_illegal_in_buffer;

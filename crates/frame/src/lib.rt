@@ -2,7 +2,7 @@
 // `frame_legal_core`, by the definitions of `frame_spec`.
 ghost use Rattle.std.specs.Prelude.{◌≡◌};
 ghost use Rattle.calls.specs.Calls.{after, verdict};
-ghost use Rattle.cells_spec.specs.Profiles.{modulation};
+ghost use Rattle.profiles_spec.specs.Profiles.{modulation};
 ghost use Rattle.frame_spec.specs.Calls.{sub_frame_tests, frame_call, unframe_call};
 
 use calls::{Answer, Refusal};

@@ -4,7 +4,7 @@
 
 ghost use Rattle.std.specs.Prelude.{◌≡◌, ◌*◌, length};
 ghost use Rattle.cells_spec.specs.Cells.{payload_rule, first_illegal};
-ghost use Rattle.cells_spec.specs.Profiles.{qpsk, modulation};
+ghost use Rattle.profiles_spec.specs.Profiles.{qpsk, modulation};
 ghost use Rattle.frame_spec.specs.Frames.{payload_cells, frame_rule, unframed};
 ghost use Rattle.frame_spec.specs.LegalLaws.{cell_flaw, overhead_flaw};
 

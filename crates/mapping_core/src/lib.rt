@@ -7,7 +7,7 @@ pub mod qam16;
 ghost use Rattle.std.specs.Prelude.{◌≡◌, ◌*◌, length};
 ghost use Rattle.cells_spec.specs.Modulation.{cells_per_buffer};
 ghost use Rattle.cells_spec.specs.Cells.{payload_rule, Legal, to_cells, to_bits};
-ghost use Rattle.cells_spec.specs.Profiles.{modulation};
+ghost use Rattle.profiles_spec.specs.Profiles.{modulation};
 
 use profile::Profile;
 

@@ -7,7 +7,7 @@ ghost use Rattle.cells_spec.specs.Cells.{payload_rule, Legal, to_cells, to_bits}
 ghost use Rattle.cells_spec.specs.Qpsk.{cell_byte};
 ghost use Rattle.cells_spec.specs.QpskLaws.{symbol_of_cell};
 ghost use Rattle.cells_spec.specs.QpskBytes.{half_of, quarter};
-ghost use Rattle.cells_spec.specs.Profiles.{qpsk};
+ghost use Rattle.profiles_spec.specs.Profiles.{qpsk};
 
 use levels_core::{bit_level, rails};
 

@@ -1,7 +1,7 @@
 -- `completing_core::total` meets its contract: number by number.
 -- Assumes nothing.
 use Prim.Native.Nat.{◌-◌}
-use Rattle.bits.specs.Folding.{Summing, summing}
+use Rattle.bits.proofs.Folding.{Summing, summing}
 use Rattle.bits.specs.Xor.{◌⊕◌}
 use lib.ListN.{get_or}
 use borrow.Author.Rules.{rules}

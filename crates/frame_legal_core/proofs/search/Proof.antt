@@ -4,9 +4,9 @@ use Prim.Native.Nat.{◌-◌}
 use lib.ListN.{length}
 use Rattle.bits.specs.Seeking.{Seeking, seek}
 use Rattle.cells_spec.specs.Cells.{first_illegal}
-use Rattle.cells_spec.specs.Profiles.{qpsk}
+use Rattle.profiles_spec.specs.Profiles.{qpsk}
 use Rattle.frame_spec.specs.Frames.{frame_rule}
-use Rattle.frame_spec.specs.LegalLaws.{flawed_cells}
+use Rattle.frame_spec.proofs.LegalLaws.{flawed_cells}
 use borrow.Author.Rules.{rules}
 use Rattle.frame_legal_core.proofs.search.Statement.{statement}
 use Rattle.frame_legal_core.proofs.search.Tie as tie

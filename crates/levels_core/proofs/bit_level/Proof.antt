@@ -1,6 +1,6 @@
 -- `levels_core::bit_level` meets its contract: 0, and any other bit.
 -- Assumes nothing.
-use Rattle.cells_spec.specs.QpskLaws.{bit_zero, bit_one}
+use Rattle.cells_spec.proofs.QpskLaws.{bit_zero, bit_one}
 use borrow.Author.Rules.{rules}
 use Rattle.levels_core.proofs.bit_level.Statement.{statement}
 use Rattle.levels_core.proofs.bit_level.Tie as tie

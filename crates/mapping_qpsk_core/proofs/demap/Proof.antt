@@ -3,7 +3,8 @@
 use Prim.Native.Nat.{◌-◌}
 use lib.ListN.{length}
 use Rattle.bits.specs.Filling.{Filling, fill}
-use Rattle.cells_spec.specs.QpskBytes.{byte_at, bits_filled, byte_joined, lows}
+use Rattle.cells_spec.specs.QpskBytes.{byte_at}
+use Rattle.profiles_spec.proofs.QpskBytes.{bits_filled, byte_joined, lows}
 use borrow.Author.Rules.{rules}
 use Rattle.mapping_qpsk_core.proofs.demap.Statement.{statement}
 use Rattle.mapping_qpsk_core.proofs.demap.Tie as tie

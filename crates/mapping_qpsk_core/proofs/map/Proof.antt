@@ -3,7 +3,8 @@
 use Prim.Native.Nat.{◌-◌}
 use lib.ListN.{length}
 use Rattle.bits.specs.Filling.{Blocks}
-use Rattle.cells_spec.specs.QpskBytes.{cells_byte, by_filled_cells}
+use Rattle.cells_spec.specs.QpskBytes.{cells_byte}
+use Rattle.profiles_spec.proofs.QpskBytes.{by_filled_cells}
 use borrow.Author.Rules.{rules}
 use Rattle.mapping_qpsk_core.proofs.map.Statement.{statement}
 use Rattle.mapping_qpsk_core.proofs.map.Tie as tie

@@ -2,7 +2,7 @@
 -- Assumes nothing.
 use Prim.Native.Nat.{◌-◌}
 use Rattle.bits.specs.Filling.{Blocks, by_blocks}
-use Rattle.bits.specs.PartLaws.{part_long}
+use Rattle.bits.proofs.PartLaws.{part_long}
 use Rattle.payload_core.specs.RowBytes.{blocks_byte, blockwise}
 use borrow.Author.Rules.{rules}
 use Rattle.payload_core.proofs.put_blocks.Statement.{statement}

@@ -3,7 +3,7 @@
 use Prim.Native.Nat.{◌-◌}
 use Rattle.bits.specs.Bits.{byte_of, pack}
 use Rattle.bits.specs.Filling.{Blocks, by_blocks}
-use Rattle.bits.specs.PartLaws.{part_long}
+use Rattle.bits.proofs.PartLaws.{part_long}
 use Rattle.payload_core.specs.PayloadParts.{last_bit, lastwise}
 use borrow.Author.Rules.{rules}
 use Rattle.payload_core.proofs.put_last.Statement.{statement}

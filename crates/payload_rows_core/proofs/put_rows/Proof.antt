@@ -2,7 +2,7 @@
 -- Assumes nothing.
 use Prim.Native.Nat.{◌-◌}
 use Rattle.bits.specs.Filling.{Blocks, by_blocks}
-use Rattle.bits.specs.PartLaws.{part_long}
+use Rattle.bits.proofs.PartLaws.{part_long}
 use Rattle.payload_rows_core.specs.PayloadRows.{open_number}
 use borrow.Author.Rules.{rules}
 use Rattle.payload_rows_core.proofs.put_rows.Statement.{statement}

@@ -1,7 +1,7 @@
 -- `word::repair_in_place` meets its contract: what the syndromes tell is the repair that the search finds.
 -- Assumes nothing.
 use Rattle.word.specs.Applying.{repaired_in_place, sound_in_place}
-use Rattle.word_spec.specs.CallLaws.{parity_small}
+use Rattle.word_spec.proofs.CallLaws.{parity_small}
 use borrow.Author.Rules.{rules}
 use Rattle.word.proofs.repair_in_place.Statement.{statement}
 use Rattle.word.proofs.repair_in_place.Tie as tie

@@ -2,7 +2,8 @@
 -- Assumes nothing.
 use Prim.Native.Nat.{◌-◌}
 use lib.ListN.{length}
-use Rattle.cells_spec.specs.Highest.{Highest, by_highest}
+use Rattle.cells_spec.specs.Highest.{Highest}
+use Rattle.cells_spec.proofs.Highest.{by_highest}
 use borrow.Author.Rules.{rules}
 use Rattle.cells_core.proofs.legal.highest.Statement.{statement}
 use Rattle.cells_core.proofs.legal.highest.Tie as tie

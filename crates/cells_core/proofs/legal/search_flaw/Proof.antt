@@ -4,8 +4,8 @@ use Prim.Native.Nat.{◌-◌}
 use lib.ListN.{length}
 use Rattle.bits.specs.Seeking.{Seeking, seek}
 use Rattle.cells_spec.specs.Cells.{payload_rule, first_illegal}
-use Rattle.cells_spec.specs.Highest.{flawed}
-use Rattle.cells_spec.specs.Profiles.{qpsk}
+use Rattle.cells_spec.proofs.Highest.{flawed}
+use Rattle.profiles_spec.specs.Profiles.{qpsk}
 use borrow.Author.Rules.{rules}
 use Rattle.cells_core.proofs.legal.search_flaw.Statement.{statement}
 use Rattle.cells_core.proofs.legal.search_flaw.Tie as tie

@@ -2,8 +2,9 @@
 -- Assumes nothing.
 use Prim.Native.Nat.{◌-◌}
 use lib.ListN.{length}
-use Rattle.cells_spec.specs.Highest.{Highest, flaw, by_highest}
-use Rattle.cells_spec.specs.Profiles.{qpsk}
+use Rattle.cells_spec.specs.Highest.{Highest, flaw}
+use Rattle.cells_spec.proofs.Highest.{by_highest}
+use Rattle.profiles_spec.specs.Profiles.{qpsk}
 use borrow.Author.Rules.{rules}
 use Rattle.cells_core.proofs.legal.worst.Statement.{statement}
 use Rattle.cells_core.proofs.legal.worst.Tie as tie

@@ -1,7 +1,7 @@
 -- `frame_core::comparing::differing` meets its contract: the pilots past the edge, one a group.
 -- Assumes nothing.
 use Prim.Native.Nat.{◌-◌}
-use Rattle.frame_spec.specs.PilotLaws.{Pilots, by_pilots}
+use Rattle.frame_spec.proofs.PilotLaws.{Pilots, by_pilots}
 use borrow.Author.Rules.{rules}
 use Rattle.frame_core.proofs.comparing.differing.Statement.{statement}
 use Rattle.frame_core.proofs.comparing.differing.Tie as tie

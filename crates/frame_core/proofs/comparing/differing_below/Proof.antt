@@ -1,10 +1,10 @@
 -- `frame_core::comparing::differing_below` meets its contract: a count over the cells below the edge.
 -- Assumes nothing.
 use Prim.Native.Nat.{◌-◌}
-use Rattle.bits.specs.Folding.{Counting, counting}
+use Rattle.bits.proofs.Folding.{Counting, counting}
 use Rattle.frame_spec.specs.Frames.{overhead_differs}
-use Rattle.frame_spec.specs.ByteLaws.{differs_low}
-use Rattle.frame_spec.specs.PilotLaws.{below_fits, below_done}
+use Rattle.frame_spec.proofs.ByteLaws.{differs_low}
+use Rattle.frame_spec.proofs.PilotLaws.{below_fits, below_done}
 use borrow.Author.Rules.{rules}
 use Rattle.frame_core.proofs.comparing.differing_below.Statement.{statement}
 use Rattle.frame_core.proofs.comparing.differing_below.Tie as tie

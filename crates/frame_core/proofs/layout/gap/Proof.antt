@@ -1,7 +1,7 @@
 -- `frame_core::layout::gap` meets its contract: the numbers of sub-frame 0 and of the others.
 -- Assumes nothing.
 use native.Mathlib.Omega.{arith}
-use Rattle.frame_spec.specs.LayoutLaws.{sizes_zeroth, sizes_other}
+use Rattle.frame_spec.proofs.LayoutLaws.{sizes_zeroth, sizes_other}
 use Rattle.frame_core.proofs.layout.gap.Statement.{statement}
 use Rattle.frame_core.proofs.layout.gap.Tie as tie
 

@@ -1,7 +1,7 @@
 -- `frame_core::layout::overhead_start` meets its contract: the closed form of the count.
 -- Assumes nothing.
 use native.Mathlib.Omega.{arith}
-use Rattle.frame_spec.specs.LayoutLaws.{overhead_start_zeroth, overhead_start_other, own_within}
+use Rattle.frame_spec.proofs.LayoutLaws.{overhead_start_zeroth, overhead_start_other, own_within}
 use borrow.Author.Rules.{rules}
 use Rattle.frame_core.proofs.layout.overhead_start.Statement.{statement}
 use Rattle.frame_core.proofs.layout.overhead_start.Tie as tie

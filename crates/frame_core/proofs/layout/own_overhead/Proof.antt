@@ -1,6 +1,6 @@
 -- `frame_core::layout::own_overhead` meets its contract: the part that it lends is the definition's.
 -- Assumes nothing.
-use Rattle.frame_spec.specs.ByteLaws.{own_part}
+use Rattle.frame_spec.proofs.ByteLaws.{own_part}
 use borrow.Author.Rules.{rules}
 use Rattle.frame_core.proofs.layout.own_overhead.Statement.{statement}
 use Rattle.frame_core.proofs.layout.own_overhead.Tie as tie

@@ -1,7 +1,8 @@
 -- `frame_core::placing::extract` meets its contract: the runs are taken one after the other.
 -- Assumes nothing.
 use Prim.Native.Nat.{◌-◌}
-use Rattle.frame_spec.specs.RunLaws.{Runs, by_runs}
+use Rattle.frame_spec.specs.RunLaws.{Runs}
+use Rattle.frame_spec.proofs.RunLaws.{by_runs}
 use borrow.Author.Rules.{rules}
 use Rattle.frame_core.proofs.placing.extract.Statement.{statement}
 use Rattle.frame_core.proofs.placing.extract.Tie as tie

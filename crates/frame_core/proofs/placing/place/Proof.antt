@@ -1,7 +1,8 @@
 -- `frame_core::placing::place` meets its contract: the groups are put one after the other.
 -- Assumes nothing.
 use Prim.Native.Nat.{◌-◌}
-use Rattle.frame_spec.specs.RunLaws.{Groups, by_framing}
+use Rattle.frame_spec.specs.RunLaws.{Groups}
+use Rattle.frame_spec.proofs.RunLaws.{by_framing}
 use borrow.Author.Rules.{rules}
 use Rattle.frame_core.proofs.placing.place.Statement.{statement}
 use Rattle.frame_core.proofs.placing.place.Tie as tie

@@ -2,7 +2,7 @@
 -- Assumes nothing.
 use Prim.Native.Nat.{◌-◌}
 use lib.ListN.{get_or}
-use Rattle.bits.specs.Folding.{Summing, summing}
+use Rattle.bits.proofs.Folding.{Summing, summing}
 use Rattle.bits.specs.Xor.{◌⊕◌}
 use borrow.Author.Rules.{rules}
 use Rattle.gathering_core.proofs.lanes.row_parities.Statement.{statement}

@@ -3,7 +3,7 @@
 use Prim.Native.Nat.{◌+◌, ◌-◌, ◌*◌}
 use Rattle.bits.specs.Filling.{Filling, fill}
 use Rattle.interleaver_spec.specs.BlockBuffer.{joined_word}
-use Rattle.interleaver_spec.specs.BlockBufferLaws.{four_word}
+use Rattle.interleaver_spec.proofs.BlockBufferLaws.{four_word}
 use borrow.Author.Rules.{rules}
 use Rattle.interleaver_core.proofs.buffer.put_four.Statement.{statement}
 use Rattle.interleaver_core.proofs.buffer.put_four.Tie as tie

@@ -10,7 +10,7 @@ use Rattle.interleaver_spec.specs.declared.BlockRow.{BlockRow}
 use Rattle.interleaver_spec.specs.Rows.{row_in}
 use Rattle.interleaver_spec.specs.Interleaving.{pairs_bit}
 use Rattle.interleaver_spec.specs.BlockBuffer.{pairs_word, pairs_words}
-use Rattle.interleaver_spec.specs.BlockBufferLaws.{pairs_word_lem}
+use Rattle.interleaver_spec.proofs.BlockBufferLaws.{pairs_word_lem}
 use borrow.Author.Rules.{rules}
 use Rattle.interleaver_core.proofs.joining.pairs_words.Statement.{statement}
 use Rattle.interleaver_core.proofs.joining.pairs_words.Tie as tie

@@ -2,7 +2,7 @@
 -- Assumes nothing.
 use Prim.Native.Nat.{◌-◌}
 use Rattle.interleaver_spec.specs.BlockBuffer.{reordered_in}
-use Rattle.interleaver_spec.specs.BlockBufferLaws.{reordered_in_lem}
+use Rattle.interleaver_spec.proofs.BlockBufferLaws.{reordered_in_lem}
 use Rattle.blocks.specs.Laying.{Laid, laying}
 use borrow.Author.Rules.{rules}
 use Rattle.interleaver_core.proofs.joining.reordered_row.Statement.{statement}

@@ -3,7 +3,7 @@
 use Prim.Native.Nat.{◌-◌}
 use Rattle.bits.specs.Filling.{Filling, fill}
 use Rattle.interleaver_spec.specs.BlockBuffer.{joined_row}
-use Rattle.interleaver_spec.specs.BlockBufferLaws.{joined_row_lem}
+use Rattle.interleaver_spec.proofs.BlockBufferLaws.{joined_row_lem}
 use borrow.Author.Rules.{rules}
 use Rattle.interleaver_core.proofs.joining.reordered_rows.Statement.{statement}
 use Rattle.interleaver_core.proofs.joining.reordered_rows.Tie as tie

@@ -3,7 +3,7 @@
 use Prim.Native.Nat.{◌-◌}
 use Rattle.bits.specs.Filling.{Filling, fill}
 use Rattle.interleaver_spec.specs.BlockBuffer.{subset_row_at}
-use Rattle.interleaver_spec.specs.BlockBufferLaws.{subset_row_lem}
+use Rattle.interleaver_spec.proofs.BlockBufferLaws.{subset_row_lem}
 use borrow.Author.Rules.{rules}
 use Rattle.interleaver_core.proofs.joining.subset_rows.Statement.{statement}
 use Rattle.interleaver_core.proofs.joining.subset_rows.Tie as tie

@@ -3,7 +3,7 @@
 use Prim.Native.Nat.{◌+◌, ◌-◌, ◌*◌}
 use Rattle.bits.specs.Filling.{Filling, fill}
 use Rattle.interleaver_spec.specs.BlockBuffer.{column_byte}
-use Rattle.interleaver_spec.specs.BlockBufferLaws.{eight_byte}
+use Rattle.interleaver_spec.proofs.BlockBufferLaws.{eight_byte}
 use borrow.Author.Rules.{rules}
 use Rattle.interleaver_core.proofs.joining.write_eight.Statement.{statement}
 use Rattle.interleaver_core.proofs.joining.write_eight.Tie as tie

@@ -4,7 +4,7 @@ use Prim.Native.Nat.{◌-◌}
 use Rattle.bits.specs.Filling.{Filling, fill}
 use Rattle.blocks.specs.Block.{row_word, block}
 use Rattle.interleaver_spec.specs.BlockBuffer.{line_column}
-use Rattle.interleaver_spec.specs.BlockBufferLaws.{line_word}
+use Rattle.interleaver_spec.proofs.BlockBufferLaws.{line_word}
 use borrow.Author.Rules.{rules}
 use Rattle.interleaver_core.proofs.taking_apart.line_block.Statement.{statement}
 use Rattle.interleaver_core.proofs.taking_apart.line_block.Tie as tie

@@ -2,7 +2,7 @@
 -- Assumes nothing.
 use Prim.Native.Nat.{◌-◌}
 use Rattle.interleaver_spec.specs.BlockBuffer.{restored_block, restored_row}
-use Rattle.interleaver_spec.specs.BlockBufferLaws.{restored_block_lem}
+use Rattle.interleaver_spec.proofs.BlockBufferLaws.{restored_block_lem}
 use Rattle.blocks.specs.Laying.{Laid, laying}
 use borrow.Author.Rules.{rules}
 use Rattle.interleaver_core.proofs.taking_apart.restored_row.Statement.{statement}

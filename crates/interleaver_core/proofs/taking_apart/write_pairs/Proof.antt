@@ -1,7 +1,7 @@
 -- `interleaver_core::taking_apart::write_pairs` meets its contract: row after row.
 -- Assumes nothing.
 use Prim.Native.Nat.{◌-◌}
-use Rattle.interleaver_spec.specs.BlockBufferLaws.{PairRows, by_rows}
+use Rattle.interleaver_spec.proofs.BlockBufferLaws.{PairRows, by_rows}
 use borrow.Author.Rules.{rules}
 use Rattle.interleaver_core.proofs.taking_apart.write_pairs.Statement.{statement}
 use Rattle.interleaver_core.proofs.taking_apart.write_pairs.Tie as tie

@@ -3,7 +3,7 @@
 use Prim.Native.Nat.{◌-◌}
 use lib.ListN.{length}
 use Rattle.bits.specs.Filling.{Filling, fill}
-use Rattle.cells_spec.specs.Qam16Bytes.{byte_at, bits_filled, legal}
+use Rattle.profiles_spec.proofs.Qam16Bytes.{byte_at, bits_filled, legal}
 use borrow.Author.Rules.{rules}
 use Rattle.mapping_core.proofs.qam16.demap.Statement.{statement}
 use Rattle.mapping_core.proofs.qam16.demap.Tie as tie

@@ -3,8 +3,8 @@
 use Prim.Native.Nat.{◌-◌}
 use lib.ListN.{length}
 use Rattle.bits.specs.Filling.{Blocks}
-use Rattle.cells_spec.specs.Qam16Tables.{by_filled_cells, cell_x, cell_y}
-use Rattle.cells_spec.specs.Qam16Bytes.{cells_byte}
+use Rattle.profiles_spec.proofs.Qam16Tables.{by_filled_cells, cell_x, cell_y}
+use Rattle.profiles_spec.proofs.Qam16Bytes.{cells_byte}
 use borrow.Author.Rules.{rules}
 use Rattle.mapping_core.proofs.qam16.map.Statement.{statement}
 use Rattle.mapping_core.proofs.qam16.map.Tie as tie

@@ -1,7 +1,7 @@
 -- `mapping_core::qam16::weave` meets its contract: `weave_is`, from what `bit_pair` ensures.
 -- Assumes nothing.
 use borrow.Author.Rules.{rules}
-use Rattle.cells_spec.specs.Qam16Laws.{weave_is}
+use Rattle.cells_spec.proofs.Qam16Laws.{weave_is}
 use Rattle.mapping_core.proofs.qam16.weave.Statement.{statement}
 use Rattle.mapping_core.proofs.qam16.weave.Tie as tie
 

@@ -3,7 +3,7 @@
 use Prim.Native.Nat.{◌-◌}
 use Rattle.bits.specs.Bits.{bit_of}
 use Rattle.bits.specs.Xor.{◌⊕◌}
-use Rattle.bits.specs.Folding.{Gathering, gather}
+use Rattle.bits.proofs.Folding.{Gathering, gather}
 use Rattle.pair_words_core.specs.BackHalves.{bit_sources}
 use borrow.Author.Rules.{rules}
 use Rattle.pair_words_core.proofs.columns.exchanged.Statement.{statement}

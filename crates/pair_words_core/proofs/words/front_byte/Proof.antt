@@ -2,7 +2,7 @@
 -- Assumes nothing.
 use Prim.Native.Nat.{◌+◌, ◌-◌, ◌*◌}
 use Rattle.bits.specs.Bits.{byte_of}
-use Rattle.bits.specs.Folding.{Gathering, gather}
+use Rattle.bits.proofs.Folding.{Gathering, gather}
 use Rattle.pair_words_core.specs.WordBytes.{front_stored}
 use borrow.Author.Rules.{rules}
 use Rattle.pair_words_core.proofs.words.front_byte.Statement.{statement}

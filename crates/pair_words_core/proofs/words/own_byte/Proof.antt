@@ -3,7 +3,7 @@
 use Prim.Native.Nat.{◌+◌, ◌-◌, ◌*◌}
 use native.Mathlib.Omega.{arith}
 use Rattle.bits.specs.Bits.{byte_of}
-use Rattle.bits.specs.Folding.{Gathering, gather}
+use Rattle.bits.proofs.Folding.{Gathering, gather}
 use Rattle.pair_words_core.specs.WordBytes.{own_bit, own_copied}
 use borrow.Author.Rules.{rules}
 use Rattle.pair_words_core.proofs.words.own_byte.Statement.{statement}

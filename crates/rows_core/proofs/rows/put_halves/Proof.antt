@@ -2,7 +2,7 @@
 -- Assumes nothing.
 use Prim.Native.Nat.{◌-◌}
 use Rattle.bits.specs.Filling.{Blocks, by_blocks}
-use Rattle.bits.specs.PartLaws.{part_long}
+use Rattle.bits.proofs.PartLaws.{part_long}
 use Rattle.rows_core.specs.RowWords.{coded_half, coded_halves}
 use borrow.Author.Rules.{rules}
 use Rattle.rows_core.proofs.rows.put_halves.Statement.{statement}

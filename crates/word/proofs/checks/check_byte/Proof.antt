@@ -2,7 +2,7 @@
 -- Assumes nothing.
 use Prim.Native.Nat.{◌+◌, ◌-◌, ◌*◌}
 use Rattle.bits.specs.Xor.{◌⊕◌}
-use Rattle.bits.specs.Folding.{Summing, summing}
+use Rattle.bits.proofs.Folding.{Summing, summing}
 use Rattle.word.specs.Checking.{check_term, byte_check, checking}
 use borrow.Author.Rules.{rules}
 use Rattle.word.proofs.checks.check_byte.Statement.{statement}

@@ -3,7 +3,7 @@
 use Prim.Native.Nat.{◌-◌}
 use native.Mathlib.Omega.{arith}
 use Rattle.bits.specs.Xor.{◌⊕◌}
-use Rattle.bits.specs.Folding.{Summing, summing}
+use Rattle.bits.proofs.Folding.{Summing, summing}
 use Rattle.word.specs.Checking.{byte_check, checking, summed}
 use borrow.Author.Rules.{rules}
 use Rattle.word.proofs.checks.check_of.Statement.{statement}
