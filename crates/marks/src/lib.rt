@@ -1,4 +1,6 @@
 // What the marks of received words add up to. Over `word_spec`, below `linereceive` and `loopback_core`.
+#![tactic(auto)]
+
 ghost use Rattle.std.specs.Prelude.{◌≡◌, ◌≤◌, length};
 ghost use Rattle.word_spec.specs.Marks.{flips_in, lost_in};
 ghost use Rattle.marks.specs.Marks.{mark_sums};

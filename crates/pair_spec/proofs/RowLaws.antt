@@ -8,7 +8,7 @@ use Rattle.std.specs.Int.Bits.{differ}
 use Rattle.bits.specs.Xor.{◌⊕◌}
 use Rattle.bits.proofs.XorLaws.{sums, ⊕_lt, ⊕_half, ⊕_last, ⊕_zero}
 use Rattle.pair_spec.specs.Rows.{RowBits, front_bit, back_bit, front_counts, checked, Checked, word_of, payload_index}
-use Rattle.pair_spec.specs.RowLaws.{Place, zeros, before, →, own}
+use Rattle.pair_spec.specs.RowLaws.{Place, zeros, before, own}
 
 -- ---- exclusive or of columns and rows
 
