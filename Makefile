@@ -4,7 +4,7 @@
 #     make lib        the library alone
 #     make install    copies what is built: header, library, ofec.pc and programs, to PREFIX (under DESTDIR, if given)
 #     make uninstall  removes it again
-#     make test       the gate: every proof from nothing, every test
+#     make test       the gate: every proof, every test
 #     make bench      the times of docs/BENCHMARKS.md
 
 PREFIX = /usr/local
@@ -21,13 +21,18 @@ PROGRAMS = $(patsubst crates/%/src/main.rt,%,$(wildcard crates/*/src/main.rt))
 VERSION = $(shell sed -n 's/^.define OFEC_VERSION "\(.*\)"/\1/p' include/ofec.h)
 BUILT = target/staticlib/libcapi.a $(PROGRAMS:%=target/bin/%)
 
-all: programs lib
+export RT
+
+all: prove programs lib
+
+prove:
+	$(RT) all check
 
 programs:
-	$(RT) check
+	bash .ci/build programs
 
 lib:
-	$(RT) staticlib capi
+	bash .ci/build library
 
 test:
 	bash .ci/run
@@ -50,4 +55,4 @@ uninstall:
 	rm -f $(PROGRAMS:%="$(DESTDIR)$(BINDIR)/%") "$(DESTDIR)$(BINDIR)/ofec" "$(DESTDIR)$(INCLUDEDIR)/ofec.h" \
 	  "$(DESTDIR)$(LIBDIR)/libcapi.a" "$(DESTDIR)$(LIBDIR)/pkgconfig/ofec.pc"
 
-.PHONY: all programs lib test bench install uninstall
+.PHONY: all prove programs lib test bench install uninstall

@@ -1,4 +1,4 @@
-//! Links the static library under test, as `rt staticlib capi` leaves it.
+//! Links the static library under test, as `.ci/build` leaves it.
 
 use std::path::Path;
 
@@ -10,7 +10,7 @@ fn main() {
     println!("cargo:rerun-if-changed={}", archive.display());
     assert!(
         archive.is_file(),
-        "{} is missing: run `rt staticlib capi` first",
+        "{} is missing: run `bash .ci/build library` first",
         archive.display()
     );
     println!("cargo:rustc-link-search=native={}", folder.display());

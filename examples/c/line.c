@@ -1,6 +1,6 @@
 /* The library from C: a word is repaired, a pair is sent and received, a sub-frame is framed and unframed.
  *
- *     rt staticlib capi
+ *     bash .ci/build library
  *     cc -std=c11 -Wall -Wextra -I include examples/c/line.c target/staticlib/libcapi.a -o line && ./line
  *
  * It prints what stands in line.expected. */

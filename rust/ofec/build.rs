@@ -1,5 +1,5 @@
 //! Links the verified library, `libcapi.a`: from the folder that the environment variable
-//! `OFEC_LIB_DIR` names, or else where `rt staticlib capi` leaves it in the repository.
+//! `OFEC_LIB_DIR` names, or else where `.ci/build` leaves it in the repository.
 
 use std::env;
 use std::path::{Path, PathBuf};
@@ -25,7 +25,7 @@ fn archive(folder: &Path) -> Result<PathBuf, String> {
     match archive.is_file() {
         true => Ok(archive),
         false => Err(format!(
-            "{} is missing: run `rt staticlib capi` first, or set OFEC_LIB_DIR to the library's folder",
+            "{} is missing: run `bash .ci/build library` first, or set OFEC_LIB_DIR to the library's folder",
             archive.display()
         )),
     }

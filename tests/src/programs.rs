@@ -1,4 +1,4 @@
-//! The programs under test, as `rt check` leaves them, and what their tests share.
+//! The programs under test, as `.ci/build` leaves them, and what their tests share.
 
 use std::fs;
 use std::path::{Path, PathBuf};
@@ -13,7 +13,7 @@ pub fn program(name: &str) -> PathBuf {
         .join(name);
     assert!(
         program.is_file(),
-        "{} is missing: run `rt check {name}` first",
+        "{} is missing: run `bash .ci/build programs` first",
         program.display()
     );
     program

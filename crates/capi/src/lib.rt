@@ -1,5 +1,5 @@
-// The library for C and Rust: one exported function for each entry point, buffers as pointer and length. See include/ofec.h. Over the
-// crates of calls (`word`, `encoder`, `receiver`, `interleaver`, `cells`, `frame`, `line_file`).
+// The library for C and Rust: one function for each entry point, over the crates of calls (`word`, `encoder`, `receiver`, `interleaver`,
+// `cells`, `frame`, `line_file`). `capi_c` exports each under the same name, buffers as pointer and length. See include/ofec.h.
 #![tactic(auto)]
 
 ghost use Rattle.std.specs.Prelude.{◌≡◌};
@@ -49,16 +49,14 @@ fn outcome_of(a: Answer, refused: u32) -> Outcome
 }
 
 // Repairs a word of 32 bytes in place; front 0: flips may fall in the back half only. value: flips 0 to 2, or 3 for lost.
-#[unsafe(no_mangle)]
-pub extern "C" fn ofec_repair_word(word: &mut [u8], front: u32) -> Outcome
+pub fn ofec_repair_word(word: &mut [u8], front: u32) -> Outcome
     ensures { exported result word.new ≡ in_numbers 0 (repair_call word.old (flag front)) }
 {
     outcome_of(word::repair_word(word, front != 0), 0)
 }
 
 // Encodes a pair. value: the next pair number, or the one lent in a refusal.
-#[unsafe(no_mangle)]
-pub extern "C" fn ofec_encode_pair(
+pub fn ofec_encode_pair(
     payload: &[u8],
     coded: &mut [u8],
     history: &mut [u8],
@@ -72,8 +70,7 @@ pub extern "C" fn ofec_encode_pair(
 }
 
 // Receives a pair. value: the next pair number, or the one lent in a refusal.
-#[unsafe(no_mangle)]
-pub extern "C" fn ofec_receive_pair(
+pub fn ofec_receive_pair(
     coded: &[u8],
     payload: &mut [u8],
     marks: &mut [u8],
@@ -88,45 +85,35 @@ pub extern "C" fn ofec_receive_pair(
 }
 
 // Interleaves a buffer: 21 pairs of each encoder.
-#[unsafe(no_mangle)]
-pub extern "C" fn ofec_interleave(pairs0: &[u8], pairs1: &[u8], bits: &mut [u8]) -> Outcome
+pub fn ofec_interleave(pairs0: &[u8], pairs1: &[u8], bits: &mut [u8]) -> Outcome
     ensures { exported result bits.new ≡ in_numbers 0 (interleave_call pairs0.now pairs1.now bits.old) }
 {
     outcome_of(interleaver::interleave(pairs0, pairs1, bits), 0)
 }
 
 // Takes a buffer apart.
-#[unsafe(no_mangle)]
-pub extern "C" fn ofec_deinterleave(bits: &[u8], pairs0: &mut [u8], pairs1: &mut [u8]) -> Outcome
+pub fn ofec_deinterleave(bits: &[u8], pairs0: &mut [u8], pairs1: &mut [u8]) -> Outcome
     ensures { exported result (pair_buffers pairs0.new pairs1.new) ≡ in_numbers 0 (deinterleave_call bits.now pairs0.old pairs1.old) }
 {
     outcome_of(interleaver::deinterleave(bits, pairs0, pairs1), 0)
 }
 
 // Maps a buffer's bits to cells.
-#[unsafe(no_mangle)]
-pub extern "C" fn ofec_bits_to_cells(bits: &[u8], cells: &mut [u8]) -> Outcome
+pub fn ofec_bits_to_cells(bits: &[u8], cells: &mut [u8]) -> Outcome
     ensures { exported result cells.new ≡ in_numbers 0 (map_call qam16 bits.now cells.old) }
 {
     outcome_of(cells::bits_to_cells(Profile::Qam16, bits, cells), 0)
 }
 
 // Maps a buffer's cells back to bits.
-#[unsafe(no_mangle)]
-pub extern "C" fn ofec_cells_to_bits(cells: &[u8], bits: &mut [u8]) -> Outcome
+pub fn ofec_cells_to_bits(cells: &[u8], bits: &mut [u8]) -> Outcome
     ensures { exported result bits.new ≡ in_numbers 0 (demap_call qam16 cells.now bits.old) }
 {
     outcome_of(cells::cells_to_bits(Profile::Qam16, cells, bits), 0)
 }
 
 // Frames a sub-frame.
-#[unsafe(no_mangle)]
-pub extern "C" fn ofec_frame(
-    number: u32,
-    payload: &[u8],
-    overhead: &[u8],
-    frame: &mut [u8],
-) -> Outcome
+pub fn ofec_frame(number: u32, payload: &[u8], overhead: &[u8], frame: &mut [u8]) -> Outcome
     ensures { exported result frame.new ≡ in_numbers 0 (frame_call qam16 number payload.now overhead.now frame.old) }
 {
     outcome_of(
@@ -136,13 +123,7 @@ pub extern "C" fn ofec_frame(
 }
 
 // Unframes a sub-frame. value: the number of overhead cells that differ from the lent list.
-#[unsafe(no_mangle)]
-pub extern "C" fn ofec_unframe(
-    number: u32,
-    frame: &[u8],
-    overhead: &[u8],
-    payload: &mut [u8],
-) -> Outcome
+pub fn ofec_unframe(number: u32, frame: &[u8], overhead: &[u8], payload: &mut [u8]) -> Outcome
     ensures { exported result payload.new ≡ in_numbers 0 (unframe_call qam16 number frame.now overhead.now payload.old) }
 {
     outcome_of(
@@ -152,29 +133,21 @@ pub extern "C" fn ofec_unframe(
 }
 
 // Maps a buffer's bits to the cells of QPSK.
-#[unsafe(no_mangle)]
-pub extern "C" fn ofec_bits_to_cells_qpsk(bits: &[u8], cells: &mut [u8]) -> Outcome
+pub fn ofec_bits_to_cells_qpsk(bits: &[u8], cells: &mut [u8]) -> Outcome
     ensures { exported result cells.new ≡ in_numbers 0 (map_call qpsk bits.now cells.old) }
 {
     outcome_of(cells::bits_to_cells(Profile::Qpsk, bits, cells), 0)
 }
 
 // Maps a buffer's cells of QPSK back to bits.
-#[unsafe(no_mangle)]
-pub extern "C" fn ofec_cells_to_bits_qpsk(cells: &[u8], bits: &mut [u8]) -> Outcome
+pub fn ofec_cells_to_bits_qpsk(cells: &[u8], bits: &mut [u8]) -> Outcome
     ensures { exported result bits.new ≡ in_numbers 0 (demap_call qpsk cells.now bits.old) }
 {
     outcome_of(cells::cells_to_bits(Profile::Qpsk, cells, bits), 0)
 }
 
 // Frames a sub-frame of QPSK.
-#[unsafe(no_mangle)]
-pub extern "C" fn ofec_frame_qpsk(
-    number: u32,
-    payload: &[u8],
-    overhead: &[u8],
-    frame: &mut [u8],
-) -> Outcome
+pub fn ofec_frame_qpsk(number: u32, payload: &[u8], overhead: &[u8], frame: &mut [u8]) -> Outcome
     ensures { exported result frame.new ≡ in_numbers 0 (frame_call qpsk number payload.now overhead.now frame.old) }
 {
     outcome_of(
@@ -184,13 +157,7 @@ pub extern "C" fn ofec_frame_qpsk(
 }
 
 // Unframes a sub-frame of QPSK. value: the number of overhead cells that differ from the lent list.
-#[unsafe(no_mangle)]
-pub extern "C" fn ofec_unframe_qpsk(
-    number: u32,
-    frame: &[u8],
-    overhead: &[u8],
-    payload: &mut [u8],
-) -> Outcome
+pub fn ofec_unframe_qpsk(number: u32, frame: &[u8], overhead: &[u8], payload: &mut [u8]) -> Outcome
     ensures { exported result payload.new ≡ in_numbers 0 (unframe_call qpsk number frame.now overhead.now payload.old) }
 {
     outcome_of(
@@ -200,8 +167,7 @@ pub extern "C" fn ofec_unframe_qpsk(
 }
 
 // Opens a line file: its header's numbers, or zeros in a refusal.
-#[unsafe(no_mangle)]
-pub extern "C" fn ofec_open_line(file: &[u8]) -> Line
+pub fn ofec_open_line(file: &[u8]) -> Line
     ensures { result ≡ line_of (header_of file.now) }
 {
     let h = line_file::open_header(file);
@@ -215,8 +181,7 @@ pub extern "C" fn ofec_open_line(file: &[u8]) -> Line
 
 // Where a sub-frame of an open line file stands. index: where its stretch starts; value: the length of the part that the reader hands
 // back, 7,424 bytes; both 0 in a refusal.
-#[unsafe(no_mangle)]
-pub extern "C" fn ofec_read_line(
+pub fn ofec_read_line(
     file: &[u8],
     superframes: u32,
     overhead: u32,
@@ -243,8 +208,7 @@ pub extern "C" fn ofec_read_line(
 }
 
 // Writes a line file's header of 16 bytes.
-#[unsafe(no_mangle)]
-pub extern "C" fn ofec_write_header(superframes: u32, header: &mut [u8]) -> Outcome
+pub fn ofec_write_header(superframes: u32, header: &mut [u8]) -> Outcome
     ensures { exported result header.new ≡ in_numbers 0 (write_call superframes header.old) }
 {
     outcome_of(line_file::write_header(superframes, header), 0)

@@ -1,6 +1,6 @@
 //! A line file of two super-frames made from two payload streams, damaged, and received again.
 //!
-//!     rt staticlib capi
+//!     bash .ci/build library
 //!     cargo run --release --example line
 //!
 //! It prints what stands in line.expected.
