@@ -1,24 +1,13 @@
--- Definitions first; the laws about each stand in the file below it.
+-- Definitions; the laws about them stand in proofs/.
 pub mod Lists
 pub mod ListLaws
 pub mod Bits
-pub mod BitLaws
-pub mod DigitLaws
-pub mod NumberLaws
-pub mod BufferLaws
 pub mod Count
-pub mod CountLaws
 pub mod Xor
-pub mod XorLaws
-pub mod FlipLaws
 pub mod Tests
-pub mod TestLaws
 pub mod Least
 pub mod LeastLaws
 pub mod Parts
-pub mod PartLaws
 pub mod Numbers32
-pub mod Numbers32Laws
 pub mod Filling
-pub mod Folding
 pub mod Seeking

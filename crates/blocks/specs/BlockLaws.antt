@@ -4,7 +4,7 @@ use Rattle.std.specs.Prelude.{◌≡◌, List, ℕ, ◌%◌, ◌^◌, ◌<◌, l
 use Rattle.std.proofs.Common.{sym, ap, ◌∙◌, arith, ext_get_or}
 use Rattle.bits.specs.ListLaws.{length_tabulate, get_d_tabulate, tabulate_below, tabulate_ext}
 use Rattle.bits.specs.Bits.{bit_of}
-use Rattle.bits.specs.BitLaws.{bit_of_lt, bit_of_from_bits, bit_of_equal, from_bits_lt, from_bits_ext}
+use Rattle.bits.proofs.BitLaws.{bit_of_lt, bit_of_from_bits, bit_of_equal, from_bits_lt, from_bits_ext}
 use Rattle.blocks.specs.Block.{bit_at, row_word, block}
 
 -- A list of sixteen 16-bit rows.

@@ -6,7 +6,7 @@ use Rattle.std.proofs.Common.{sym, ap, ◌∙◌, arith, eq-eqb, ne_eqb, length-
 use Rattle.std.proofs.Math.Decide.{ℕ_discrete}
 use Rattle.bits.specs.ListLaws.{length_tabulate, get_d_tabulate, is_tabulate, tabulate_ext}
 use Rattle.bits.specs.Bits.{bit_of, from_bits}
-use Rattle.bits.specs.BitLaws.{bit_of_from_bits, from_bits_ext}
+use Rattle.bits.proofs.BitLaws.{bit_of_from_bits, from_bits_ext}
 use Rattle.blocks.specs.Block.{bit_at, row_word, block}
 use Rattle.blocks.specs.Moves.{turned}
 use Rattle.blocks.specs.SideBySide.{laid_word, laid, laid_at, laid_in, words_block}

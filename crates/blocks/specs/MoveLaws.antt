@@ -8,10 +8,10 @@ use Rattle.std.specs.Int.Bits.{bit_and, bit_or, bit_xor, and_zero_r, and_lt, xor
 use Rattle.std.proofs.lemmas.Nat.{and_shr, and_mod, xor_shr, xor_mod, xor_lt, or_shifted}
 use Rattle.std.proofs.Math.Pow.{high, low}
 use Rattle.bits.specs.Bits.{bit_of, from_bits}
-use Rattle.bits.specs.BitLaws.{bit_of_lt, bit_of_from_bits, from_bits_lt, from_bits_ext, from_bits_bit_of}
+use Rattle.bits.proofs.BitLaws.{bit_of_lt, bit_of_from_bits, from_bits_lt, from_bits_ext, from_bits_bit_of}
 use Rattle.bits.specs.ListLaws.{get_d_tabulate, tabulate_ext}
 use Rattle.bits.specs.Tests.{every, grid}
-use Rattle.bits.specs.NumberLaws.{from_bits_split}
+use Rattle.bits.proofs.NumberLaws.{from_bits_split}
 use Rattle.blocks.specs.Block.{bit_at, row_word, block}
 use Rattle.blocks.specs.BlockLaws.{bit_at_lt, bit_at_block_of}
 use Rattle.blocks.specs.Moves.{turned, pick, chosen, moved_word, moved_in, moved, transposed}

@@ -6,7 +6,7 @@ use native.Mathlib.Omega.{arith}
 use Rattle.bits.specs.Bits.{bit, bit_of, from_bits}
 use Rattle.bits.specs.Filling.{Filling, fill_none, fill_two, fill_done}
 use Rattle.bits.specs.Lists.{tabulate}
-use Rattle.bits.specs.NumberLaws.{half_is, two_bytes}
+use Rattle.bits.proofs.NumberLaws.{half_is, two_bytes}
 use Rattle.blocks.specs.SideBySide.{read_word, row_byte, word_byte}
 
 -- Two bytes as they are read.

@@ -5,7 +5,7 @@ ghost use Rattle.std.specs.Prelude.{◌≡◌};
 ghost use Rattle.calls.specs.Answers.{refusal_of, index_of, value_or};
 
 // The reasons for which a call is refused.
-#[derive(Drop)]
+#[derive(Clone, Copy)]
 pub enum Refusal {
     // A lent buffer is not of the stated length.
     Misfit,
@@ -22,7 +22,7 @@ pub enum Refusal {
 }
 
 // Done, with the call's number where it gives one and 0 otherwise; or refused.
-#[derive(Drop)]
+#[derive(Clone, Copy)]
 pub enum Answer {
     Done(u32),
     Refused(Refusal),

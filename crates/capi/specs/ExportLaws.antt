@@ -8,9 +8,9 @@ use Rattle.calls.specs.Answers.{refusal_of, index_of, value_or}
 use Rattle.calls.specs.Calls.{After, after}
 use Rattle.line_file_spec.specs.declared.Header.{Header}
 use Rattle.line_file_spec.specs.Opening.{header_of, open_refusal}
-use Rattle.line_file_spec.specs.OpeningLaws.{answer_of}
+use Rattle.line_file_spec.proofs.OpeningLaws.{answer_of}
 use Rattle.line_file_spec.specs.Reading.{read_refusal, start_of, read_part}
-use Rattle.line_file_spec.specs.ReadingLaws.{stretch_refused, handed_length, stretch_done}
+use Rattle.line_file_spec.proofs.ReadingLaws.{stretch_refused, handed_length, stretch_done}
 use Rattle.capi.specs.declared.Outcome.{Outcome}
 use Rattle.capi.specs.declared.Line.{Line}
 use Rattle.capi.specs.Outcomes.{outcome, outcome_of, line_of, outcome_in, stretch_of}

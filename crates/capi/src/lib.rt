@@ -5,7 +5,7 @@ ghost use Rattle.word_spec.specs.Calls.{repair_call};
 ghost use Rattle.pair_spec.specs.Calls.{encode_buffers, encode_call, receive_buffers, receive_call};
 ghost use Rattle.interleaver_spec.specs.Calls.{interleave_call, pair_buffers, deinterleave_call};
 ghost use Rattle.cells_spec.specs.Calls.{map_call, demap_call};
-ghost use Rattle.cells_spec.specs.Profiles.{qam16, qpsk};
+ghost use Rattle.profiles_spec.specs.Profiles.{qam16, qpsk};
 ghost use Rattle.frame_spec.specs.Calls.{frame_call, unframe_call};
 ghost use Rattle.line_file_spec.specs.Opening.{header_of};
 ghost use Rattle.line_file_spec.specs.Reading.{read_refusal};
@@ -18,7 +18,7 @@ use profile::Profile;
 
 // What an exported call answers: the refusal's number or 0, the call's own number, and the index of refusal 5.
 #[repr(C)]
-#[derive(Drop)]
+#[derive(Clone, Copy)]
 pub struct Outcome {
     pub refusal: u32,
     pub value: u32,
@@ -27,7 +27,7 @@ pub struct Outcome {
 
 // What opening a line file answers: the refusal's number or 0, and the header's numbers.
 #[repr(C)]
-#[derive(Drop)]
+#[derive(Clone, Copy)]
 pub struct Line {
     pub refusal: u32,
     pub superframes: u32,

@@ -1,9 +1,11 @@
 // The calls `bits_to_cells` and `cells_to_bits`, for either profile: 01, "Cells", and 02, E1. Over `mapping_core` and `cells_core`, by
 // the definitions of `cells_spec`.
+#![tactic(auto)]
+
 ghost use Rattle.std.specs.Prelude.{◌≡◌};
 ghost use Rattle.calls.specs.Calls.{after};
 ghost use Rattle.cells_spec.specs.Calls.{map_call, demap_call};
-ghost use Rattle.cells_spec.specs.Profiles.{modulation};
+ghost use Rattle.profiles_spec.specs.Profiles.{modulation};
 
 use calls::{Answer, Refusal};
 use cells_core::legal::first_illegal_in_buffer;

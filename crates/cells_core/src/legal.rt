@@ -3,7 +3,7 @@ ghost use Rattle.std.specs.Prelude.{◌≡◌, ◌*◌, ◌≤◌, length};
 ghost use Rattle.cells_spec.specs.Modulation.{cells_per_buffer};
 ghost use Rattle.cells_spec.specs.Cells.{overhead_rule, payload_rule, first_illegal};
 ghost use Rattle.cells_spec.specs.Highest.{Highest, flaw};
-ghost use Rattle.cells_spec.specs.Profiles.{qpsk, modulation};
+ghost use Rattle.profiles_spec.specs.Profiles.{qpsk, modulation};
 
 use profile::Profile;
 

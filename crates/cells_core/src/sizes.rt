@@ -1,7 +1,7 @@
 // Sizes that differ from profile to profile.
 ghost use Rattle.std.specs.Prelude.{◌≡◌, ◌*◌, ◌≤◌, ◌<◌};
 ghost use Rattle.cells_spec.specs.Modulation.{cells_per_buffer, pairs_in};
-ghost use Rattle.cells_spec.specs.Profiles.{modulation};
+ghost use Rattle.profiles_spec.specs.Profiles.{modulation};
 
 use profile::Profile;
 

@@ -1,22 +1,12 @@
--- Definitions first; the laws about each stand in the file below it.
+-- Definitions; the laws about them stand in proofs/.
 pub mod Levels
 pub mod Modulation
-pub mod ModulationLaws
 pub mod Cells
-pub mod CellLaws
 pub mod Highest
 pub mod Calls
-pub mod CallLaws
-pub mod ResultLaws
 pub mod Qam16
 pub mod Qam16Inverse
-pub mod LevelLaws
-pub mod Qam16Laws
 pub mod Qpsk
 pub mod QpskLaws
-pub mod Profiles
-pub mod ProfileLaws
-pub mod BenchValues
-pub mod Qam16Bytes
 pub mod Qam16Tables
 pub mod QpskBytes

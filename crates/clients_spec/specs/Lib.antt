@@ -1,5 +1,3 @@
 -- Runs: the four lists of calls as a client of the exported functions sees them. RunLaws: they are lists of demand 3. Meeting: what demand
 -- 3 says of them.
 pub mod Runs
-pub mod RunLaws
-pub mod Meeting

@@ -6,22 +6,22 @@ use Rattle.std.proofs.Common.{◌∙◌, mod-lt, zero-lt-suc, arith, lt-ltb, le-
 use Rattle.std.proofs.Math.Decide.{dec_lt, ℕ_discrete}
 use Rattle.std.proofs.Math.ListN.{get_or}
 use Rattle.bits.specs.Bits.{bit_of, from_bits}
-use Rattle.bits.specs.BitLaws.{bit_of_lt, bit_of_equal, from_bits_lt, bit_of_from_bits}
+use Rattle.bits.proofs.BitLaws.{bit_of_lt, bit_of_equal, from_bits_lt, bit_of_from_bits}
 use Rattle.bits.specs.Lists.{tabulate}
 use Rattle.bits.specs.ListLaws.{length_tabulate, get_d_tabulate, tabulate_ext}
-use Rattle.bits.specs.TestLaws.{either}
+use Rattle.bits.proofs.TestLaws.{either}
 use Rattle.bits.specs.Tests.{grid}
 use Rattle.bits.specs.Xor.{◌⊕◌, xor_sum}
-use Rattle.bits.specs.XorLaws.{⊕_lt, ⊕_zero, zero_⊕}
+use Rattle.bits.proofs.XorLaws.{⊕_lt, ⊕_zero, zero_⊕}
 use Rattle.blocks.specs.Moves.{moved_in, moved_word}
 use Rattle.word_spec.specs.CodeWord.{Word}
 use Rattle.word_spec.specs.Completion.{first_bits, completed}
-use Rattle.word_spec.specs.CompletionLaws.{first_low, first_high, first_bits_lem, completed_first, completed_code}
+use Rattle.word_spec.proofs.CompletionLaws.{first_low, first_high, first_bits_lem, completed_first, completed_code}
 use Rattle.networks_spec.specs.Networks.{network, network_sum, check_columns}
-use Rattle.networks_spec.specs.NetworkLaws.{bit_of_⊕}
+use Rattle.networks_spec.proofs.NetworkLaws.{bit_of_⊕}
 use Rattle.gathering_spec.specs.Sums.{Gathered, Parities, check_place}
-use Rattle.gathering_spec.specs.CheckSums.{place_low, place_mid, place_high, checked, checked_parity}
-use Rattle.gathering_spec.specs.Dirty.{zero_digit}
+use Rattle.gathering_spec.proofs.CheckSums.{place_low, place_mid, place_high, checked, checked_parity}
+use Rattle.gathering_spec.proofs.Dirty.{zero_digit}
 use Rattle.permutation_core.specs.Stages.{two_transposed}
 use Rattle.permutation_core.specs.StageLaws.{cut_bit}
 use Rattle.riffle_core.specs.Riffles.{by_words}

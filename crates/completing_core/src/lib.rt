@@ -1,5 +1,7 @@
 // Workers: the check bits of the words of a pair, from what was gathered of them, as blocks 6 and 7 of the words. Over `check_sums_core`,
 // `permutation_core` and `riffle_core`; `encoding_core` encodes pairs with them.
+#![tactic(auto)]
+
 ghost use Rattle.std.specs.Prelude.{◌≡◌, ◌<◌, length, get_or};
 ghost use Rattle.bits.specs.Filling.{Filling};
 ghost use Rattle.bits.specs.Lists.{tabulate};
@@ -15,7 +17,7 @@ use riffle_core::by_words;
 
 // The check bits of the 32 words of a pair. The upper half of number r has block 7 of word r, its lower half that of word 16+r; bit w of
 // `own` is bit 239 of word w, the last of block 6.
-#[derive(Drop)]
+#[derive(Clone, Copy)]
 pub struct CheckBits {
     pub last: [u32; 16],
     pub own: u32,

@@ -5,11 +5,11 @@ use Rattle.std.proofs.Math.Path.{refl, ap}
 use Rattle.std.proofs.Common.{sym, ◌∙◌}
 use native.Mathlib.Omega.{arith}
 use Rattle.bits.specs.Bits.{bit_of, byte_of, from_bits, pack}
-use Rattle.bits.specs.BitLaws.{bit_of_lt, bit_of_from_bits, from_bits_ext}
+use Rattle.bits.proofs.BitLaws.{bit_of_lt, bit_of_from_bits, from_bits_ext}
 use Rattle.bits.specs.Lists.{tabulate}
 use Rattle.bits.specs.ListLaws.{get_d_tabulate, tabulate_ext}
 use Rattle.bits.specs.Xor.{◌⊕◌}
-use Rattle.bits.specs.XorLaws.{⊕_lt}
+use Rattle.bits.proofs.XorLaws.{⊕_lt}
 use Rattle.blocks.specs.SideBySide.{word_byte}
 use Rattle.word_spec.specs.CodeWord.{Word}
 use Rattle.pair_spec.specs.Pairs.{coded_pair}

@@ -8,24 +8,24 @@ use Rattle.std.proofs.Math.Decide.{dec_lt}
 use borrow.Rule.Slice.PartMut.{put_mid}
 use Rattle.std.specs.Int.Bits.{bit_xor}
 use Rattle.bits.specs.Bits.{bit_of, from_bits}
-use Rattle.bits.specs.BitLaws.{from_bits_ext}
+use Rattle.bits.proofs.BitLaws.{from_bits_ext}
 use Rattle.bits.specs.Lists.{tabulate}
 use Rattle.bits.specs.ListLaws.{get_d_tabulate, tabulate_ext}
 use Rattle.bits.specs.Xor.{◌⊕◌}
 use Rattle.blocks.specs.SideBySide.{word_byte}
 use Rattle.word_spec.specs.CodeWord.{Word}
 use Rattle.word_spec.specs.Completion.{first_bits}
-use Rattle.word_spec.specs.CompletionLaws.{first_bits_lem}
+use Rattle.word_spec.proofs.CompletionLaws.{first_bits_lem}
 use Rattle.networks_spec.specs.Networks.{network, check_columns}
-use Rattle.gathering_spec.specs.Dirty.{gathered_same, parities_same}
+use Rattle.gathering_spec.proofs.Dirty.{gathered_same, parities_same}
 use Rattle.gathering_core.specs.Lanes.{Levelled}
 use Rattle.permutation_core.specs.Stages.{two_transposed}
 use Rattle.riffle_core.specs.Riffles.{by_words}
 use Rattle.pair_spec.specs.History.{depth, shift}
 use Rattle.pair_spec.specs.Encoding.{open_word, encoded_word, encoded}
-use Rattle.pair_spec.specs.EncodingLaws.{open_bits}
+use Rattle.pair_spec.proofs.EncodingLaws.{open_bits}
 use Rattle.pair_spec.specs.Calls.{encode_buffers, encode_pair}
-use Rattle.pair_spec.specs.CallLaws.{encode_written}
+use Rattle.pair_spec.proofs.CallLaws.{encode_written}
 use Rattle.pair_words_core.specs.BackHalves.{back_halves, OfBits, encoded_bits}
 use Rattle.pair_words_core.specs.Halves.{word_half, word_halves, halves_bit}
 use Rattle.pair_words_core.specs.HalvesLaws.{halves_bit_lem}

@@ -1,8 +1,10 @@
 // The calls `frame` and `unframe`, by sub_frame_lem and for either profile: 01, "Super-frame", and 02, E1. Over `frame_core` and
 // `frame_legal_core`, by the definitions of `frame_spec`.
+#![tactic(auto)]
+
 ghost use Rattle.std.specs.Prelude.{◌≡◌};
 ghost use Rattle.calls.specs.Calls.{after, verdict};
-ghost use Rattle.cells_spec.specs.Profiles.{modulation};
+ghost use Rattle.profiles_spec.specs.Profiles.{modulation};
 ghost use Rattle.frame_spec.specs.Calls.{sub_frame_tests, frame_call, unframe_call};
 
 use calls::{Answer, Refusal};

@@ -1,8 +1,10 @@
 // Workers: the first illegal byte of a frame, each byte by the rule of its cell, so that only payload cells are narrowed by the profile.
 // Over `frame_spec`, `cells_core` and `frame_core`; the calls are in `frame`.
+#![tactic(auto)]
+
 ghost use Rattle.std.specs.Prelude.{◌≡◌, ◌*◌, length};
 ghost use Rattle.cells_spec.specs.Cells.{payload_rule, first_illegal};
-ghost use Rattle.cells_spec.specs.Profiles.{qpsk, modulation};
+ghost use Rattle.profiles_spec.specs.Profiles.{qpsk, modulation};
 ghost use Rattle.frame_spec.specs.Frames.{payload_cells, frame_rule, unframed};
 ghost use Rattle.frame_spec.specs.LegalLaws.{cell_flaw, overhead_flaw};
 

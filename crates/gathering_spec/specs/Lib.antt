@@ -1,9 +1,5 @@
--- Definitions first; the laws about each stand in the file below it.
+-- Definitions; the laws about them stand in proofs/.
 pub mod Sums
-pub mod SumLaws
-pub mod ParityLaws
 pub mod Dirty
 pub mod Collecting
-pub mod CheckSums
 pub mod Gathering
-pub mod GatheringLaws

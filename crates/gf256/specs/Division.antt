@@ -4,7 +4,7 @@ use Rattle.std.specs.Prelude.{◌≡◌, List, map, ℕ, suc, ◌+◌, ◌-◌, 
 use Rattle.std.proofs.Common.{sym, ap, ◌∙◌, pow-suc, one-mul, arith, lt-ltb, le-ltb}
 use Rattle.std.proofs.Math.Decide.{dec_lt}
 use Rattle.bits.specs.Xor.{◌⊕◌}
-use Rattle.bits.specs.XorLaws.{⊕_assoc, ⊕_shifted, sums}
+use Rattle.bits.proofs.XorLaws.{⊕_assoc, ⊕_shifted, sums}
 use Rattle.gf256.specs.Polynomials.{polynomial_number, reduce}
 use Rattle.gf256.specs.Linear.{lin, units, lin_linear, linear_agree, lin_top, double}
 

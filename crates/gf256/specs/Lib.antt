@@ -4,4 +4,3 @@ pub mod Linear
 pub mod Division
 pub mod Field
 pub mod Tables
-pub mod PowerLaws

@@ -8,7 +8,7 @@ use Rattle.std.specs.Int.Bits.{bit_xor, xor_shifted}
 use Rattle.std.proofs.lemmas.Nat.{xor_comm}
 use Rattle.bits.specs.Tests.{both, both_left, both_right}
 use Rattle.bits.specs.Xor.{◌⊕◌, xor_sum}
-use Rattle.bits.specs.XorLaws.{⊕_lt, ⊕_half, ⊕_mod, zero_⊕, ⊕_self, ⊕_double, ⊕_four, sums, bits_⊕_times}
+use Rattle.bits.proofs.XorLaws.{⊕_lt, ⊕_half, ⊕_mod, zero_⊕, ⊕_self, ⊕_double, ⊕_four, sums, bits_⊕_times}
 
 -- The sum of the columns at the bits of x.
 unfoldable pub lin : List ℕ → ℕ → ℕ

@@ -1,5 +1,7 @@
 // The call that writes the header of a line file (01, "Line file"). By the definitions of `line_file_spec`; `line_file` gives it
 // out with the others.
+#![tactic(auto)]
+
 ghost use Rattle.std.specs.Prelude.{◌≡◌};
 ghost use Rattle.calls.specs.Calls.{after};
 ghost use Rattle.line_file_spec.specs.Writing.{write_call};

@@ -1,5 +1,7 @@
 // The calls `interleave` and `deinterleave`: 21 pairs of each encoder to the bits of a buffer, and back (01, "Interleaver"). Over
 // `interleaver_core`, by the definitions of `interleaver_spec`.
+#![tactic(auto)]
+
 ghost use Rattle.std.specs.Prelude.{◌≡◌};
 ghost use Rattle.calls.specs.Calls.{after};
 ghost use Rattle.interleaver_spec.specs.Calls.{interleave_call, after_deinterleave, deinterleave_call};

@@ -3,13 +3,13 @@
 #![tactic(auto)]
 
 // A block row of the buffer, 0 to 83.
-#[derive(Drop)]
+#[derive(Clone, Copy)]
 pub struct BlockRow(pub usize);
 
 // A bit row of a block row, 0 to 15.
-#[derive(Drop)]
+#[derive(Clone, Copy)]
 pub struct BitRow(pub usize);
 
 // A bit row of a subset, 0 to 335: 16 for each of its 21 block rows.
-#[derive(Drop)]
+#[derive(Clone, Copy)]
 pub struct SubsetBitRow(pub usize);

@@ -1,5 +1,7 @@
 // Workers: the levels of a bit pair, by a table, and its inverse (01: "A bit pair gives the level: 00 is −3"), and the level of a bit
 // (02, E1: "0 is level −1 and 1 is level 1"). Over `cells_spec`; `mapping_core` makes cells of levels.
+#![tactic(auto)]
+
 ghost use Rattle.std.specs.Prelude.{◌≡◌, ◌/◌, ◌%◌, ◌<◌};
 ghost use Rattle.cells_spec.specs.Levels.{Level, level, ordinal, rails};
 ghost use Rattle.cells_spec.specs.Qpsk.{bit_level};

@@ -1,5 +1,7 @@
 // The calls on a line file: opening it, reading its sub-frames, writing a header (01, "Line file"). Over `opening_core`,
 // `line_file_core` and `header`, by the definitions of `line_file_spec`.
+#![tactic(auto)]
+
 mod line_file;
 
 pub use header::write_header;

@@ -7,7 +7,7 @@ ghost use Rattle.line_file_spec.specs.Reading.{read_refusal_in, read_part_in};
 use line_file_core::reading::{read_at, read_refusal_at};
 use opening_core::{open_header, open_part};
 
-#[derive(Drop)]
+#[derive(Clone, Copy)]
 pub struct LineFile<'a> {
     pub file: &'a [u8],
     pub superframes: u32,

@@ -4,11 +4,11 @@ use Rattle.std.specs.Prelude.{◌≡◌, true, [], ◌∷◌, ℕ, ◌<◌}
 use Rattle.word_spec.specs.Completion.{completed}
 use Rattle.word_spec.specs.Repair.{repaired, mark, repair}
 use Rattle.word_spec.specs.declared.Repair.TheVariants.{Lost}
-use Rattle.word_spec.specs.BenchValues.{set_at}
+use Rattle.word_spec.proofs.BenchValues.{set_at}
 use Rattle.pair_spec.specs.Rows.{RowBits, word_of, payload_index}
-use Rattle.interleaver_spec.specs.BenchValues.{ComesFrom}
+use Rattle.interleaver_spec.proofs.BenchValues.{ComesFrom}
 use Rattle.cells_spec.specs.Cells.{to_cells}
-use Rattle.cells_spec.specs.Profiles.{qam16}
+use Rattle.profiles_spec.specs.Profiles.{qam16}
 
 pub record BenchValues : Type 0 where
   -- "Only bit 238 set among 0 to 238: parity bits set are 240, 241, 243, 244, 245, 246, 248, 249, 253, 254, 255."

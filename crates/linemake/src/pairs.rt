@@ -1,7 +1,7 @@
 // Payload read from its file and encoded, super-frame by super-frame.
 ghost use Rattle.std.specs.Prelude.{◌≡◌, ◌+◌, ◌*◌, ◌≤◌, ◌<◌, length};
 ghost use Rattle.pair_spec.specs.Front.{BeforePair};
-ghost use Rattle.cells_spec.specs.Profiles.{modulation};
+ghost use Rattle.profiles_spec.specs.Profiles.{modulation};
 
 use crate::inputs::MISFIT;
 use cells_core::sizes::pairs;

@@ -1,7 +1,7 @@
 // Super-frame after super-frame, both encoders from fresh.
 ghost use Rattle.std.specs.Prelude.{◌≡◌, ◌+◌, ◌*◌, ◌≤◌, ◌<◌, length};
 ghost use Rattle.pair_spec.specs.Front.{BothBefore};
-ghost use Rattle.cells_spec.specs.Profiles.{modulation};
+ghost use Rattle.profiles_spec.specs.Profiles.{modulation};
 ghost use Rattle.cells_spec.specs.Cells.{overhead_rule, Legal};
 
 use crate::inputs::{Inputs, PAYLOAD0, PAYLOAD1};

@@ -2,7 +2,7 @@
 ghost use Rattle.std.specs.Prelude.{◌≡◌, ◌+◌, ◌*◌, ◌≤◌, ◌<◌, length};
 ghost use Rattle.pair_spec.specs.Front.{BeforePair, BothBefore};
 ghost use Rattle.cells_spec.specs.Modulation.{pairs_in};
-ghost use Rattle.cells_spec.specs.Profiles.{modulation};
+ghost use Rattle.profiles_spec.specs.Profiles.{modulation};
 
 use crate::inputs::{Input, MISFIT};
 use crate::outputs::{Outputs, put};

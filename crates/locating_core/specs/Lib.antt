@@ -1,4 +1,3 @@
 pub mod Roots
 pub mod RootLaws
-pub mod Finding
 pub mod Telling

@@ -3,7 +3,7 @@
 use Rattle.std.specs.Prelude.{◌≡◌, List, ℕ, ◌*◌}
 use Rattle.profile.specs.declared.Profile.{Profile}
 use Rattle.bits.specs.Parts.{end_to_end}
-use Rattle.cells_spec.specs.Profiles.{modulation}
+use Rattle.profiles_spec.specs.Profiles.{modulation}
 use Rattle.superframe_spec.specs.Superframe.{superframe}
 use Rattle.superframe_spec.specs.Apart.{taken_cells, taken_pairs, differing_all}
 use Rattle.loopback_core.specs.Noise.{superframes_of, damaged}

@@ -13,21 +13,21 @@ use Rattle.profile.specs.declared.Profile.{Profile}
 use Rattle.profile.specs.declared.Profile.TheVariants.{Qam16, Qpsk}
 use Rattle.bits.specs.Filling.{Blocks, blocks_none, blocks_next, blocks_done}
 use Rattle.bits.specs.Parts.{part, byte_of_each, end_to_end}
-use Rattle.bits.specs.PartLaws.{part_length, part_long, end_to_end_length, end_to_end_at, each_block}
+use Rattle.bits.proofs.PartLaws.{part_length, part_long, end_to_end_length, end_to_end_at, each_block}
 use Rattle.calls.specs.declared.Answer.{Answer}
 use Rattle.calls.specs.Answers.{value_or}
 use Rattle.interleaver_spec.specs.Calls.{Deinterleaved, after_deinterleave}
 use Rattle.cells_spec.specs.Modulation.{Modulation, cells_per_buffer}
-use Rattle.cells_spec.specs.Profiles.{qam16, qpsk, modulation}
-use Rattle.cells_spec.specs.ModulationLaws.{width_pos, buffer_whole}
+use Rattle.profiles_spec.specs.Profiles.{qam16, qpsk, modulation}
+use Rattle.cells_spec.proofs.ModulationLaws.{width_pos, buffer_whole}
 use Rattle.cells_spec.specs.Cells.{overhead_rule, Legal}
-use Rattle.cells_spec.specs.CellLaws.{none_illegal}
+use Rattle.cells_spec.proofs.CellLaws.{none_illegal}
 use Rattle.frame_spec.specs.Frames.{payload_cells, payload_start, own_overhead, frame_rule}
-use Rattle.frame_spec.specs.FrameLaws.{framed_length, framed_legal, own_length, own_legal}
+use Rattle.frame_spec.proofs.FrameLaws.{framed_length, framed_legal, own_length, own_legal}
 use Rattle.superframe_spec.specs.Superframe.{payload_of_pairs, sub_frame, frames_end_to_end, superframe}
-use Rattle.superframe_spec.specs.SuperframeLaws.{part_legal, payload_legal, payload_within}
+use Rattle.superframe_spec.proofs.SuperframeLaws.{part_legal, payload_legal, payload_within}
 use Rattle.superframe_spec.specs.Apart.{taken_pairs, differing_all, line_rule, taken_apart, take_apart}
-use Rattle.superframe_spec.specs.ApartLaws.{apart_done}
+use Rattle.superframe_spec.proofs.ApartLaws.{apart_done}
 use Rattle.loopback_core.specs.Noise.{superframes_of, damaged}
 use Rattle.loopback_core.specs.NoiseLaws.{buffers_most, damaged_legal}
 use Rattle.loopback_core.specs.StepLaws.{Stepping, step_none, step_more, step_done}

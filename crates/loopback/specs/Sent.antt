@@ -3,7 +3,7 @@
 use Rattle.std.specs.Prelude.{List, ℕ, ◌*◌}
 use Rattle.profile.specs.declared.Profile.{Profile}
 use Rattle.bits.specs.Parts.{part_of, end_to_end}
-use Rattle.cells_spec.specs.Profiles.{modulation}
+use Rattle.profiles_spec.specs.Profiles.{modulation}
 use Rattle.pair_spec.specs.Stream.{pair_encoder, coded_of, history_before}
 use Rattle.loopback_core.specs.Random.{payload_in}
 use Rattle.loopback_core.specs.Steps.{each_step}

@@ -8,12 +8,12 @@ use Rattle.std.proofs.Math.Seq.{take_all}
 use Rattle.bits.specs.Bits.{pack}
 use Rattle.bits.specs.Lists.{tabulate}
 use Rattle.bits.specs.Parts.{part, part_of, byte_of_each}
-use Rattle.bits.specs.PartLaws.{end_to_end_length, each_block}
+use Rattle.bits.proofs.PartLaws.{end_to_end_length, each_block}
 use Rattle.word_spec.specs.Completion.{first_bits}
 use Rattle.word_spec.specs.Marks.{lost_in}
 use Rattle.pair_spec.specs.History.{depth, fresh}
 use Rattle.pair_spec.specs.Front.{behind, held_pairs, history_of, history_bytes, fresh_history}
-use Rattle.pair_spec.specs.FrontLaws.{pairs_of}
+use Rattle.pair_spec.proofs.FrontLaws.{pairs_of}
 use Rattle.pair_spec.specs.Encoding.{open_word}
 use Rattle.pair_spec.specs.Receiving.{held_word}
 use Rattle.pair_spec.specs.Calls.{EncodeBuffers, encode_buffers, ReceiveBuffers, receive_buffers}

@@ -2,7 +2,7 @@
 ghost use Rattle.std.specs.Prelude.{◌≡◌, ◌-◌, ◌*◌, ◌<◌, length, replicate};
 ghost use Rattle.calls.specs.declared.Answer.TheVariants.{Refused};
 ghost use Rattle.calls.specs.declared.Refusal.TheVariants.{NoSuchFrame, OffGrid};
-ghost use Rattle.cells_spec.specs.Profiles.{modulation};
+ghost use Rattle.profiles_spec.specs.Profiles.{modulation};
 ghost use Rattle.cells_spec.specs.Cells.{overhead_rule, Legal};
 ghost use Rattle.superframe_spec.specs.Apart.{differing_all};
 ghost use Rattle.loopback_core.specs.Noise.{superframes_of};

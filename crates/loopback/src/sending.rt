@@ -1,7 +1,7 @@
 // Sending: the pairs of an encoder, in two halves of 168.
 ghost use Rattle.std.specs.Prelude.{◌≡◌, ◌+◌, ◌*◌, ◌<◌, length, replicate};
 ghost use Rattle.bits.specs.Parts.{end_to_end};
-ghost use Rattle.cells_spec.specs.Profiles.{modulation};
+ghost use Rattle.profiles_spec.specs.Profiles.{modulation};
 ghost use Rattle.pair_spec.specs.Front.{held_pairs, history_of, BeforePair};
 ghost use Rattle.pair_spec.specs.Stream.{pair_encoder, coded_of, history_over};
 ghost use Rattle.loopback_core.specs.Noise.{superframes_of};

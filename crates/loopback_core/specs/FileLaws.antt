@@ -8,16 +8,16 @@ use Rattle.std.proofs.Math.ListN.{length-drop, length-append}
 use Rattle.std.proofs.Math.Seq.{take_at, drop_at, drop-length, take_all}
 use Rattle.bits.specs.Lists.{tabulate}
 use Rattle.bits.specs.Parts.{byte_of_each, end_to_end}
-use Rattle.bits.specs.PartLaws.{each_block}
+use Rattle.bits.proofs.PartLaws.{each_block}
 use Rattle.calls.specs.declared.Answer.{Answer}
 use Rattle.calls.specs.Calls.{After, after}
 use Rattle.line_file_spec.specs.Opening.{open_call}
 use Rattle.line_file_spec.specs.Reading.{read_refusal_in, read_part_in}
-use Rattle.line_file_spec.specs.ReadingLaws.{stretch_length}
+use Rattle.line_file_spec.proofs.ReadingLaws.{stretch_length}
 use Rattle.bits.specs.Numbers32.{bytes32}
-use Rattle.bits.specs.Numbers32Laws.{bytes32_length}
+use Rattle.bits.proofs.Numbers32Laws.{bytes32_length}
 use Rattle.line_file_spec.specs.Writing.{numbers_for, write_call}
-use Rattle.line_file_spec.specs.WritingLaws.{write_done, written_reads, written_whole}
+use Rattle.line_file_spec.proofs.WritingLaws.{write_done, written_reads, written_whole}
 use Rattle.loopback_core.specs.File.{line_file, OneSuperframe, frames_in, taken_when}
 
 -- ---- the file

@@ -4,7 +4,7 @@ use Rattle.std.specs.Prelude.{ℕ, ◌+◌, ◌-◌, ◌*◌, ◌/◌, ◌%◌, 
 use Rattle.profile.specs.declared.Profile.{Profile}
 use Rattle.profile.specs.declared.Profile.TheVariants.{Qam16, Qpsk}
 use Rattle.cells_spec.specs.Modulation.{Modulation, cells_per_buffer}
-use Rattle.cells_spec.specs.Profiles.{modulation}
+use Rattle.profiles_spec.specs.Profiles.{modulation}
 use Rattle.frame_spec.specs.Frames.{sub_frame_of, cell_of}
 use Rattle.loopback_core.specs.Steps.{each_step}
 

@@ -10,12 +10,12 @@ use Rattle.std.specs.Int.{w64}
 use Rattle.profile.specs.declared.Profile.{Profile}
 use Rattle.profile.specs.declared.Profile.TheVariants.{Qam16, Qpsk}
 use Rattle.bits.specs.Tests.{each}
-use Rattle.bits.specs.TestLaws.{either}
+use Rattle.bits.proofs.TestLaws.{either}
 use Rattle.cells_spec.specs.Modulation.{Modulation, cells_per_buffer}
-use Rattle.cells_spec.specs.Profiles.{qam16, qpsk, modulation}
-use Rattle.cells_spec.specs.ProfileLaws.{is_qam16, is_qpsk}
+use Rattle.profiles_spec.specs.Profiles.{qam16, qpsk, modulation}
+use Rattle.profiles_spec.proofs.ProfileLaws.{is_qam16, is_qpsk}
 use Rattle.cells_spec.specs.Qpsk.{outer, illegal}
-use Rattle.cells_spec.specs.QpskLaws.{low}
+use Rattle.cells_spec.proofs.QpskLaws.{low}
 use Rattle.cells_spec.specs.Levels.{ordinal}
 use Rattle.cells_spec.specs.Cells.{Legal}
 use Rattle.frame_spec.specs.Frames.{is_overhead, cell_rule, frame_rule}

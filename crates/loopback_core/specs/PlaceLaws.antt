@@ -5,9 +5,9 @@ use Rattle.std.proofs.Common.{sym, ap, ap₂, ◌∙◌, arith}
 use Rattle.std.proofs.Math.Decide.{dec_lt}
 use Rattle.frame_spec.specs.Frames.{payload_cells, payload_start, payload_cell, sub_frame_of, cell_of}
 use Rattle.frame_spec.specs.Layout.{gap, payload_position}
-use Rattle.frame_spec.specs.LayoutLaws.{payload_start_closed, payload_zeroth, sizes_zeroth, sizes_other}
+use Rattle.frame_spec.proofs.LayoutLaws.{payload_start_closed, payload_zeroth, sizes_zeroth, sizes_other}
 use Rattle.loopback_core.specs.Noise.{carrier}
-use Rattle.frame_spec.specs.PlaceLaws.{payload_start_next, sub_frame_of_is, payload_cell_position}
+use Rattle.frame_spec.proofs.PlaceLaws.{payload_start_next, sub_frame_of_is, payload_cell_position}
 
 -- Place k of the cells of a sub-frame that are no pilots.
 abbrev off : ℕ → ℕ

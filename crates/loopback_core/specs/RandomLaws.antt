@@ -8,7 +8,7 @@ use Rattle.bits.specs.Filling.{Filling, fill_none, fill_more, fill_done}
 use Rattle.bits.specs.Lists.{tabulate}
 use Rattle.bits.specs.ListLaws.{length_tabulate, get_d_tabulate}
 use Rattle.bits.specs.Parts.{byte_of_each, end_to_end}
-use Rattle.bits.specs.PartLaws.{each_block}
+use Rattle.bits.proofs.PartLaws.{each_block}
 use Rattle.cells_spec.specs.Cells.{overhead_rule, Legal}
 use Rattle.loopback_core.specs.Random.{state_at, drawn, pair_payload, payload_in, drawn_list}
 

@@ -2,7 +2,7 @@
 -- Assumes nothing.
 use Rattle.std.specs.Prelude.{◌≡◌, ℕ, zero, suc, ◌+◌, ◌<◌, ◌≤◌, List, refl}
 use Rattle.std.proofs.Common.{ap, ◌∙◌}
-use Rattle.bits.specs.Folding.{Folding, fold_none, fold_more, fold_done}
+use Rattle.bits.proofs.Folding.{Folding, fold_none, fold_more, fold_done}
 use Rattle.loopback_core.specs.Steps.{each_step}
 
 -- Of n steps from `before` on, k are made.

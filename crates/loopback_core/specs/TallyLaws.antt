@@ -7,8 +7,8 @@ use Rattle.std.proofs.Math.Decide.{ℕ_discrete}
 use Rattle.std.specs.Int.{w64}
 use Rattle.bits.specs.Bits.{bit}
 use Rattle.bits.specs.Count.{count, distance}
-use Rattle.bits.specs.CountLaws.{count_le, differs_le, differs_same, differs_other}
-use Rattle.bits.specs.Folding.{Counting, count_done}
+use Rattle.bits.proofs.CountLaws.{count_le, differs_le, differs_same, differs_other}
+use Rattle.bits.proofs.Folding.{Counting, count_done}
 use Rattle.calls.specs.declared.Answer.{Answer}
 use Rattle.calls.specs.declared.Answer.TheVariants.{Refused}
 use Rattle.calls.specs.declared.Refusal.TheVariants.{Misfit, CountSpent}

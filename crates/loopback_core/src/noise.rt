@@ -7,7 +7,7 @@
 // word one bit at most. So words of a buffer's first pair have no wrong bit in front, those of its eleventh have at most one, of its
 // first, and others have at most one, and none in the back half. No word has more than three.
 ghost use Rattle.std.specs.Prelude.{◌≡◌, ◌*◌, ◌<◌, ◌≤◌, length};
-ghost use Rattle.cells_spec.specs.Profiles.{modulation};
+ghost use Rattle.profiles_spec.specs.Profiles.{modulation};
 ghost use Rattle.loopback_core.specs.Noise.{superframes_of, legal_byte, replaced, struck_byte, struck, carrier, strike_one, strike, strike_cell, damaged};
 ghost use Rattle.loopback_core.specs.Steps.{each_step};
 

@@ -9,18 +9,18 @@ use Rattle.calls.specs.declared.Answer.{Answer}
 use Rattle.calls.specs.declared.Answer.TheVariants.{Refused}
 use Rattle.calls.specs.declared.Refusal.TheVariants.{Misfit, CountSpent, NoSuchFrame, OffGrid}
 use Rattle.calls.specs.Calls.{After, after}
-use Rattle.calls.specs.CallLaws.{Own, is_misfit, no_misfit, no_sub_frame_lem, sub_frame_lem, tests, call_refused}
+use Rattle.calls.proofs.CallLaws.{Own, is_misfit, no_misfit, no_sub_frame_lem, sub_frame_lem, tests, call_refused}
 use Rattle.bits.specs.Count.{count}
 use Rattle.bits.specs.Seeking.{seek_none, seek_hit}
 use Rattle.cells_spec.specs.Modulation.{Modulation}
 use Rattle.cells_spec.specs.Cells.{overhead_rule, first_illegal}
 use Rattle.frame_spec.specs.Frames.{payload_cells, overhead_start, own_overhead}
-use Rattle.frame_spec.specs.FrameLaws.{own_length, own_at}
-use Rattle.frame_spec.specs.LayoutLaws.{overhead_zeroth, payload_zeroth}
+use Rattle.frame_spec.proofs.FrameLaws.{own_length, own_at}
+use Rattle.frame_spec.proofs.LayoutLaws.{overhead_zeroth, payload_zeroth}
 use Rattle.frame_spec.specs.Calls.{sub_frame_tests, frame_call}
-use Rattle.frame_spec.specs.CallLaws.{payload_unmeasured, payload_measured, overhead_illegal_lem}
+use Rattle.frame_spec.proofs.CallLaws.{payload_unmeasured, payload_measured, overhead_illegal_lem}
 use Rattle.pair_spec.specs.Front.{encoder_of, next_pair, BeforePair}
-use Rattle.pair_spec.specs.FrontLaws.{own_before}
+use Rattle.pair_spec.proofs.FrontLaws.{own_before}
 use Rattle.pair_spec.specs.Calls.{Encoded, after_encode, encode_call, Received, after_receive, receive_call}
 
 -- A history that shows the count spent is not stray to a call that names it.

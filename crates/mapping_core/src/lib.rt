@@ -1,11 +1,13 @@
 // Workers: bits to cells and back, for 16-QAM and for either profile. Over `levels_core` and `mapping_qpsk_core`, by the definitions of
 // `cells_spec`; the calls are in `cells`.
+#![tactic(auto)]
+
 pub mod qam16;
 
 ghost use Rattle.std.specs.Prelude.{◌≡◌, ◌*◌, length};
 ghost use Rattle.cells_spec.specs.Modulation.{cells_per_buffer};
 ghost use Rattle.cells_spec.specs.Cells.{payload_rule, Legal, to_cells, to_bits};
-ghost use Rattle.cells_spec.specs.Profiles.{modulation};
+ghost use Rattle.profiles_spec.specs.Profiles.{modulation};
 
 use profile::Profile;
 

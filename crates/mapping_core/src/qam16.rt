@@ -4,7 +4,7 @@ ghost use Rattle.cells_spec.specs.Cells.{payload_rule, Legal, to_cells, to_bits}
 ghost use Rattle.cells_spec.specs.Qam16.{cell_byte};
 ghost use Rattle.cells_spec.specs.Qam16Inverse.{level_at, first_bit, second_bit, byte_of_cell};
 ghost use Rattle.cells_spec.specs.Qam16Tables.{cell_bytes, symbol_cells, cell_symbols};
-ghost use Rattle.cells_spec.specs.Profiles.{qam16};
+ghost use Rattle.profiles_spec.specs.Profiles.{qam16};
 
 use levels_core::{bit_pair, level, rails};
 

@@ -1,11 +1,13 @@
 // Workers for QPSK: a byte's two symbols to their cells and back, and the same for buffers of any number of bytes. Over `levels_core`,
 // by the definitions of `cells_spec`; `mapping_core` has 16-QAM and either profile.
+#![tactic(auto)]
+
 ghost use Rattle.std.specs.Prelude.{◌≡◌, ◌*◌, ◌<◌, length};
 ghost use Rattle.cells_spec.specs.Cells.{payload_rule, Legal, to_cells, to_bits};
 ghost use Rattle.cells_spec.specs.Qpsk.{cell_byte};
 ghost use Rattle.cells_spec.specs.QpskLaws.{symbol_of_cell};
 ghost use Rattle.cells_spec.specs.QpskBytes.{half_of, quarter};
-ghost use Rattle.cells_spec.specs.Profiles.{qpsk};
+ghost use Rattle.profiles_spec.specs.Profiles.{qpsk};
 
 use levels_core::{bit_level, rails};
 

@@ -3,7 +3,7 @@
 use Rattle.std.specs.Prelude.{◌≡◌, List, ℕ, ◌+◌, ◌*◌, ◌<◌, ◌≤◌, length, get_or}
 use Rattle.std.proofs.Common.{ap₂, arith, Fits}
 use Rattle.std.specs.Int.{w32}
-use Rattle.bits.specs.Folding.{Counting, count_start, count_more, count_done}
+use Rattle.bits.proofs.Folding.{Counting, count_start, count_more, count_done}
 use Rattle.word_spec.specs.Marks.{flips_in, lost_in}
 use Rattle.marks.specs.Marks.{sum_of, mark_sums}
 

@@ -1,10 +1,12 @@
 // What the marks of received words add up to. Over `word_spec`, below `linereceive` and `loopback_core`.
+#![tactic(auto)]
+
 ghost use Rattle.std.specs.Prelude.{◌≡◌, ◌≤◌, length};
 ghost use Rattle.word_spec.specs.Marks.{flips_in, lost_in};
 ghost use Rattle.marks.specs.Marks.{mark_sums};
 
 // The flips in words that were repaired, and the number of lost words.
-#[derive(Drop)]
+#[derive(Clone, Copy)]
 pub struct Sums {
     pub flips: u32,
     pub lost: u32,

@@ -6,13 +6,13 @@ use Rattle.std.proofs.Math.Path.{ap}
 use native.Mathlib.Omega.{arith}
 use Rattle.std.proofs.Math.ListN.{get_or}
 use Rattle.bits.specs.Bits.{bit_of, from_bits}
-use Rattle.bits.specs.BitLaws.{from_bits_ext, from_bits_bit_of}
+use Rattle.bits.proofs.BitLaws.{from_bits_ext, from_bits_bit_of}
 use Rattle.bits.specs.ListLaws.{get_d_tabulate}
 use Rattle.blocks.specs.MoveLaws.{moved_bit_lem}
 use Rattle.permutation_core.specs.Stages.{eight_transposed}
 use Rattle.permutation_core.specs.StageLaws.{cut_bit}
 use Rattle.gathering_spec.specs.Collecting.{sum_bit, sum_of, paired_sum, paired_sums, S1In, S3In, ByWords}
-use Rattle.gathering_spec.specs.SumLaws.{upper_bit, lower_bit}
+use Rattle.gathering_spec.proofs.SumLaws.{upper_bit, lower_bit}
 
 -- Byte B of a number of 64 bits.
 byte_number : (v B : ℕ) → B < 8 → v / 2 ^ (56 - 8 * B) % 2 ^ 8 ≡ from_bits 8 (λ k. bit_of 64 v (8 * B + k))

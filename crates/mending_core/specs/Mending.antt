@@ -7,7 +7,7 @@ use Rattle.bits.specs.Lists.{tabulate}
 use Rattle.bits.specs.Xor.{◌⊕◌}
 use Rattle.word_spec.specs.CodeWord.{Word}
 use Rattle.word_spec.specs.Repair.{repair, repaired, mark}
-use Rattle.word_spec.specs.RepairLaws.{Bits}
+use Rattle.word_spec.proofs.RepairLaws.{Bits}
 use Rattle.word_spec.specs.declared.Repair.{Repair}
 use Rattle.word_spec.specs.declared.Repair.TheVariants.{Sound, One, Two, Lost}
 use Rattle.pair_spec.specs.Pairs.{coded_pair}

@@ -12,27 +12,30 @@ use Rattle.std.proofs.Math.Pow.{pow-lt}
 use Rattle.std.proofs.Math.Seq.{get_or-set_other}
 use Rattle.std.proofs.lemmas.List.{set-get_or}
 use Rattle.bits.specs.Bits.{bit_of, bit, from_bits, pack, flipped}
-use Rattle.bits.specs.BitLaws.{length_pack, pack_ext, bit_pack, bit_of_lt, bit_of_from_bits, from_bits_ext, from_bits_bit_of, flipped_at, flipped_off}
-use Rattle.bits.specs.FlipLaws.{flip_byte}
+use Rattle.bits.proofs.BitLaws.{length_pack, pack_ext, bit_pack, bit_of_lt, bit_of_from_bits, from_bits_ext, from_bits_bit_of, flipped_at, flipped_off}
+use Rattle.bits.proofs.FlipLaws.{flip_byte}
 use Rattle.bits.specs.Lists.{tabulate}
 use Rattle.bits.specs.ListLaws.{length_tabulate, get_d_tabulate, is_tabulate, tabulate_ext}
 use Rattle.bits.specs.Xor.{◌⊕◌}
-use Rattle.bits.specs.XorLaws.{⊕_self, ⊕_zero, zero_⊕, ⊕_lt}
+use Rattle.bits.proofs.XorLaws.{⊕_self, ⊕_zero, zero_⊕, ⊕_lt}
 use Rattle.word_spec.specs.CodeWord.{Word, CodeWord}
 use Rattle.word_spec.specs.Repair.{repair, repaired, places, flip_all, mark}
-use Rattle.word_spec.specs.RepairLaws.{Bits, repaired_bits, flipped_ext}
-use Rattle.word_spec.specs.RepairTheorems.{repair_is}
+use Rattle.word_spec.proofs.RepairLaws.{Bits, repaired_bits, flipped_ext}
+use Rattle.word_spec.proofs.RepairTheorems.{repair_is}
 use Rattle.word_spec.specs.declared.Repair.{Repair}
 use Rattle.word_spec.specs.declared.Repair.TheVariants.{Sound, One, Two, Lost}
 use Rattle.word_spec.specs.declared.Syndromes.{Syndromes}
 use Rattle.locating_core.specs.Telling.{Told, Inside}
 use Rattle.pair_spec.specs.Pairs.{laid_out, coded_index, coded_pair}
-use Rattle.pair_spec.specs.PairLaws.{coded_place, coded_place_lt, coded_index_is, coded_from, coded_back, coded_laid, length_coded_pair}
+use Rattle.pair_spec.specs.PairLaws.{length_coded_pair}
+use Rattle.pair_spec.proofs.PairLaws.{coded_place, coded_place_lt, coded_index_is, coded_from, coded_back, coded_laid}
 use Rattle.pair_words_core.specs.Halves.{word_half, word_halves}
-use Rattle.networks_spec.specs.NetworkLaws.{bit_of_⊕}
+use Rattle.networks_spec.proofs.NetworkLaws.{bit_of_⊕}
 use Rattle.gathering_spec.specs.Sums.{Parities}
-use Rattle.gathering_spec.specs.Dirty.{Dirty, zero_digit}
-use Rattle.gathering_spec.specs.Collecting.{syndromes_in, ByWords, Collected, by_words_collected, syndromes_collected}
+use Rattle.gathering_spec.specs.Dirty.{Dirty}
+use Rattle.gathering_spec.proofs.Dirty.{zero_digit}
+use Rattle.gathering_spec.specs.Collecting.{syndromes_in, ByWords, Collected}
+use Rattle.gathering_spec.proofs.Collecting.{by_words_collected, syndromes_collected}
 use Rattle.mending_core.specs.Sets.{bit_of_power, Removed, pass_set, pass_first, pass_second}
 use Rattle.mending_core.specs.Mending.{flipped_number, flipped_if, buffer_flipped_if, flipped_back, coded_bit, flipped_coded, mended_by, updated, Holding}
 use Rattle.mending_core.specs.Mending.{repaired_by, in_set, Handled, HandledSet, HandledDirty, HandledAll}

@@ -10,8 +10,8 @@ use Rattle.std.proofs.lemmas.Nat.{leading_le, leading_top}
 use Rattle.bits.specs.Bits.{bit_of}
 use Rattle.bits.specs.Tests.{grid}
 use Rattle.bits.specs.Xor.{◌⊕◌}
-use Rattle.bits.specs.XorLaws.{⊕_shifted}
-use Rattle.networks_spec.specs.NetworkLaws.{bit_of_⊕}
+use Rattle.bits.proofs.XorLaws.{⊕_shifted}
+use Rattle.networks_spec.proofs.NetworkLaws.{bit_of_⊕}
 
 -- The first word of a set.
 pub record First (left w : ℕ) : Type 0 where

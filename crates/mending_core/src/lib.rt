@@ -1,4 +1,6 @@
 // Workers: the words of a pair repaired where one needs it, by syndromes gathered side by side. Over `locating_core`, `pair_words_core` and
 // `permutation_core`; `receiving_core` receives pairs with them.
+#![tactic(auto)]
+
 mod collecting;
 pub mod mending;

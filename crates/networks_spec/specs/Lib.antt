@@ -1,6 +1,3 @@
--- Definitions first; the laws about each stand in the file below it.
+-- Definitions; the laws about them stand in proofs/.
 pub mod Networks
-pub mod NetworkLaws
-pub mod ColumnLaws
 pub mod Circuits
-pub mod CircuitLaws

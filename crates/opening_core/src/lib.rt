@@ -1,5 +1,7 @@
 // Workers: a lent file opened as a line file: its header, the refusal, and the part that an open file holds. Over `header_core`, by the
 // definitions of `line_file_spec`; `line_file_core` reads its sub-frames, and the calls are in `line_file`.
+#![tactic(auto)]
+
 ghost use Rattle.std.specs.Prelude.{◌≡◌};
 ghost use Rattle.line_file_spec.specs.Opening.{header_of, open_refusal, open_part};
 

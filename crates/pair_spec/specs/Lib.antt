@@ -1,26 +1,15 @@
--- Definitions first; the laws about each stand in the file below it.
+-- Definitions; the laws about them stand in proofs/.
 pub mod Rows
 pub mod RowLaws
-pub mod Bench
 pub mod Pairs
 pub mod PairLaws
 pub mod History
-pub mod HistoryLaws
 pub mod Front
-pub mod FrontLaws
-pub mod WordLaws
 pub mod Encoding
 pub mod EncodingLaws
 pub mod Sent
-pub mod SentLaws
 pub mod Receiving
 pub mod ReceivingLaws
 pub mod Calls
-pub mod CallLaws
-pub mod StateLaws
-pub mod ResultLaws
 pub mod Promise
-pub mod PromiseLaws
 pub mod Stream
-pub mod StreamLaws
-pub mod StreamRunLaws

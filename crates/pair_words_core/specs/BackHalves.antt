@@ -6,17 +6,17 @@ use Rattle.std.proofs.Common.{ap, ◌∙◌, mod-lt, zero-lt-suc, lt-ltb, le-ltb
 use native.Mathlib.Omega.{arith}
 use Rattle.std.proofs.lemmas.Nat.{xor_block}
 use Rattle.bits.specs.Bits.{bit, bit_of, byte_of, from_bits, pack}
-use Rattle.bits.specs.BitLaws.{from_bits_ext, pack_ext}
+use Rattle.bits.proofs.BitLaws.{from_bits_ext, pack_ext}
 use Rattle.bits.specs.Tests.{grid}
 use Rattle.bits.specs.Xor.{◌⊕◌}
-use Rattle.bits.specs.XorLaws.{⊕_lt}
+use Rattle.bits.proofs.XorLaws.{⊕_lt}
 use Rattle.word_spec.specs.CodeWord.{Word}
 use Rattle.pair_spec.specs.Pairs.{laid_out, coded_index, own_index, coded_pair, payload_of}
-use Rattle.pair_spec.specs.PairLaws.{coded_place, coded_place_lt, coded_laid, own_word, own_place, own_from, payload_laid}
+use Rattle.pair_spec.proofs.PairLaws.{coded_place, coded_place_lt, coded_laid, own_word, own_place, own_from, payload_laid}
 use Rattle.pair_spec.specs.Encoding.{encoded_word}
-use Rattle.pair_spec.specs.EncodingLaws.{encoded_code}
+use Rattle.pair_spec.proofs.EncodingLaws.{encoded_code}
 use Rattle.pair_spec.specs.Receiving.{repaired_word}
-use Rattle.pair_spec.specs.ReceivingLaws.{repaired_word_bits}
+use Rattle.pair_spec.proofs.ReceivingLaws.{repaired_word_bits}
 
 -- The back halves of all words: bit m is bit 128 + m mod 128 of word m div 128.
 unfoldable pub back_halves : (ℕ → Word) → ℕ → ℕ

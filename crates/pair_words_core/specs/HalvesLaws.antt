@@ -3,7 +3,7 @@
 use Rattle.std.specs.Prelude.{◌≡◌, List, ℕ, ◌+◌, ◌*◌, ◌/◌, ◌%◌, ◌<◌, get_or}
 use Rattle.std.proofs.Common.{ap, ◌∙◌, arith}
 use Rattle.bits.specs.Bits.{bit_of}
-use Rattle.bits.specs.BitLaws.{bit_of_from_bits}
+use Rattle.bits.proofs.BitLaws.{bit_of_from_bits}
 use Rattle.bits.specs.ListLaws.{get_d_tabulate}
 use Rattle.word_spec.specs.CodeWord.{Word}
 use Rattle.pair_spec.specs.Receiving.{repaired_word, payload_out}

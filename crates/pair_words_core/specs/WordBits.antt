@@ -12,14 +12,15 @@ use Rattle.bits.specs.Bits.{bit}
 use Rattle.bits.specs.Xor.{◌⊕◌}
 use Rattle.word_spec.specs.Completion.{first_bits}
 use Rattle.pair_spec.specs.Rows.{front_bit, back_bit, front_counts, checked, word_of}
-use Rattle.pair_spec.specs.RowLaws.{reach, xor_16, other_pair, other_row, word_start, word_front, word_back, Place, zeros, before, own}
-use Rattle.pair_spec.specs.RowLaws.{place}
+use Rattle.pair_spec.specs.RowLaws.{reach, Place, zeros, before, own}
+use Rattle.pair_spec.proofs.RowLaws.{xor_16, other_pair, other_row, word_start, word_front, word_back}
+use Rattle.pair_spec.proofs.RowLaws.{place}
 use Rattle.pair_spec.specs.Pairs.{pair_index, pair_bit, word_row, word_bit_row, own_index}
-use Rattle.pair_spec.specs.PairLaws.{own_index_low, own_index_high}
+use Rattle.pair_spec.proofs.PairLaws.{own_index_low, own_index_high}
 use Rattle.pair_spec.specs.History.{depth, held_bits}
-use Rattle.pair_spec.specs.HistoryLaws.{held_before, held_newest}
+use Rattle.pair_spec.proofs.HistoryLaws.{held_before, held_newest}
 use Rattle.pair_spec.specs.Encoding.{open_word}
-use Rattle.pair_spec.specs.EncodingLaws.{of_pair, open_front, open_back, open_bits}
+use Rattle.pair_spec.proofs.EncodingLaws.{of_pair, open_front, open_back, open_bits}
 use Rattle.pair_spec.specs.Receiving.{held_word}
 
 -- ---- the front half

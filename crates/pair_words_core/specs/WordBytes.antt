@@ -7,15 +7,15 @@ use native.Mathlib.Omega.{arith}
 use Rattle.std.proofs.Math.Decide.{dec_lt}
 use Rattle.std.proofs.lemmas.List.{get_or-replicate}
 use Rattle.bits.specs.Bits.{bit, bit_of, byte_of, from_bits}
-use Rattle.bits.specs.BitLaws.{from_bits_ext}
+use Rattle.bits.proofs.BitLaws.{from_bits_ext}
 use Rattle.bits.specs.Filling.{Filling, fill_ext}
 use Rattle.bits.specs.Xor.{◌⊕◌}
 use Rattle.word_spec.specs.Completion.{first_bits}
 use Rattle.pair_spec.specs.History.{depth}
-use Rattle.pair_spec.specs.HistoryLaws.{deep}
+use Rattle.pair_spec.proofs.HistoryLaws.{deep}
 use Rattle.pair_spec.specs.Encoding.{open_word}
 use Rattle.pair_spec.specs.Receiving.{held_word}
-use Rattle.bits.specs.NumberLaws.{byte_of_ext, byte_copied}
+use Rattle.bits.proofs.NumberLaws.{byte_of_ext, byte_copied}
 use Rattle.pair_words_core.specs.WordBits.{front_held, front_none, front_held_lem, held_front, held_back, open_front_bit, open_low}
 use Rattle.pair_words_core.specs.WordBits.{open_high, open_none}
 use Rattle.pair_words_core.specs.BackHalves.{coded_source}

@@ -8,11 +8,11 @@ use Rattle.std.proofs.lemmas.Nat.{mod-pow-add}
 use Rattle.std.specs.Int.{Width}
 use mir.Val.{Fits, bits}
 use Rattle.bits.specs.Bits.{bit_of, byte_of, from_bits, pack}
-use Rattle.bits.specs.BitLaws.{from_bits_lt, from_bits_ext, from_bits_bit_of, bit_of_from_bits, bit_of_half, bit_of_last}
+use Rattle.bits.proofs.BitLaws.{from_bits_lt, from_bits_ext, from_bits_bit_of, bit_of_from_bits, bit_of_half, bit_of_last}
 use Rattle.bits.specs.Filling.{fill_none, fill_ext, fill_part, fill_done}
 use Rattle.bits.specs.Lists.{tabulate}
 use Rattle.bits.specs.ListLaws.{tabulate_ext}
-use Rattle.bits.specs.NumberLaws.{from_bits_split}
+use Rattle.bits.proofs.NumberLaws.{from_bits_split}
 
 -- The bits f without the first n,
 unfoldable pub behind : ℕ → (ℕ → ℕ) → ℕ → ℕ

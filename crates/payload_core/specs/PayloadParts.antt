@@ -6,7 +6,7 @@ use Rattle.std.proofs.Math.Path.{refl, ap}
 use Rattle.std.proofs.Common.{sym, ap₂, ◌∙◌, arith, shr-shr}
 use borrow.Rule.Slice.PartMut.{put_mid}
 use Rattle.bits.specs.Bits.{bit_of, byte_of, from_bits, pack}
-use Rattle.bits.specs.BitLaws.{from_bits_lt, from_bits_ext, from_bits_bit_of}
+use Rattle.bits.proofs.BitLaws.{from_bits_lt, from_bits_ext, from_bits_bit_of}
 use Rattle.bits.specs.Lists.{tabulate}
 use Rattle.bits.specs.ListLaws.{tabulate_ext}
 use Rattle.bits.specs.Tests.{grid}

@@ -1,5 +1,7 @@
 // Workers: from the back halves of a pair's 32 words in numbers of sixteen bits, number 8w+C of block C of word w, to its payload. Over
 // `pair_words_core` and `riffle_core`, below `receiving_core`.
+#![tactic(auto)]
+
 ghost use Rattle.std.specs.Prelude.{◌≡◌, ◌+◌, ◌*◌, ◌/◌, ◌^◌, ◌<◌, ◌≤◌, length, get_or};
 ghost use Rattle.bits.specs.Bits.{bit_of, from_bits, pack};
 ghost use Rattle.bits.specs.Lists.{tabulate};

@@ -10,7 +10,7 @@ use Rattle.std.proofs.lemmas.Nat.{or_shifted, mod-pow-add, shl-shr}
 use Rattle.std.proofs.lemmas.List.{get_or-replicate}
 use Rattle.std.proofs.Math.Pow.{high, low}
 use Rattle.bits.specs.Bits.{bit, bit_of, from_bits}
-use Rattle.bits.specs.BitLaws.{from_bits_lt, from_bits_ext, bit_of_from_bits}
+use Rattle.bits.proofs.BitLaws.{from_bits_lt, from_bits_ext, bit_of_from_bits}
 use Rattle.bits.specs.Filling.{Filling, fill_none, fill_more, fill_part, fill_ext}
 use Rattle.bits.specs.Lists.{tabulate}
 use Rattle.bits.specs.ListLaws.{length_tabulate, get_d_tabulate, is_tabulate, tabulate_ext}

@@ -1,6 +1,8 @@
 // Workers: from the payload of a pair to the back halves of its 32 words before their completion, in numbers of sixteen bits, number 8w+C
 // of block C of word w, their bytes exchanged, with zeros where the check bits will be. Over `riffle_core` and
 // `payload_core`.
+#![tactic(auto)]
+
 ghost use Rattle.std.specs.Prelude.{◌≡◌, ◌+◌, ◌*◌, ◌<◌, length, get_or};
 ghost use Rattle.bits.specs.Filling.{Filling};
 ghost use Rattle.bits.specs.Lists.{tabulate};

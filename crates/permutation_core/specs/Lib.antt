@@ -1,3 +1,3 @@
--- Definitions first; the laws about each stand in the file below it.
+-- Definitions; the laws about them stand in proofs/.
 pub mod Stages
 pub mod StageLaws

@@ -10,7 +10,7 @@ use Rattle.std.proofs.lemmas.Nat.{xor_comm, xor_lt, shl-shr}
 use Rattle.std.proofs.Math.ListN.{get_or}
 use Rattle.std.proofs.Math.Pow.{field, mod-mod-pow}
 use Rattle.bits.specs.Bits.{bit_of, from_bits}
-use Rattle.bits.specs.BitLaws.{bit_of_lt, from_bits_ext, from_bits_bit_of}
+use Rattle.bits.proofs.BitLaws.{bit_of_lt, from_bits_ext, from_bits_bit_of}
 use Rattle.bits.specs.Filling.{Filling, fill_none, fill_two, fill_done}
 use Rattle.bits.specs.Lists.{tabulate}
 use Rattle.bits.specs.ListLaws.{get_d_tabulate}

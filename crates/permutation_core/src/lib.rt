@@ -12,7 +12,7 @@ ghost use Rattle.permutation_core.specs.StageLaws.{Mask};
 use blocks::choose;
 
 // Four bit rows.
-#[derive(Drop)]
+#[derive(Clone, Copy)]
 struct FourRows {
     a: u16,
     b: u16,
@@ -81,19 +81,19 @@ fn columns_stage(b: [u16; 16], m: u16, n: usize) -> [u16; 16]
 }
 
 // Two rows, two numbers of 32 bits, and two of 64.
-#[derive(Drop)]
+#[derive(Clone, Copy)]
 struct Rows {
     first: u16,
     second: u16,
 }
 
-#[derive(Drop)]
+#[derive(Clone, Copy)]
 struct TwoRows {
     first: u32,
     second: u32,
 }
 
-#[derive(Drop)]
+#[derive(Clone, Copy)]
 struct EightRows {
     first: u64,
     second: u64,

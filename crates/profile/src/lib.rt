@@ -2,7 +2,7 @@
 #![tactic(auto)]
 
 // 16-QAM, eight bits a symbol (01), or QPSK, four (02, E1).
-#[derive(Drop)]
+#[derive(Clone, Copy)]
 pub enum Profile {
     Qam16,
     Qpsk,

@@ -9,7 +9,7 @@ use borrow.Rule.Slice.PartMut.{put_mid}
 use Rattle.std.proofs.lemmas.Bool.{lt-leb}
 use Rattle.std.proofs.Math.Seq.{take-append_seam, drop-append_seam, drop-append-le}
 use Rattle.bits.specs.Bits.{bit_of, bit}
-use Rattle.bits.specs.BitLaws.{pack_ext, pack_bit}
+use Rattle.bits.proofs.BitLaws.{pack_ext, pack_bit}
 use Rattle.bits.specs.Lists.{tabulate}
 use Rattle.bits.specs.Parts.{part}
 use Rattle.bits.specs.ListLaws.{tabulate_ext}
@@ -19,17 +19,18 @@ use Rattle.word_spec.specs.Repair.{repair, repaired, mark}
 use Rattle.word_spec.specs.declared.Repair.TheVariants.{Sound}
 use Rattle.pair_spec.specs.Rows.{front_counts, checked}
 use Rattle.pair_spec.specs.Pairs.{word_row, laid_out, coded_index, coded_pair}
-use Rattle.pair_spec.specs.PairLaws.{coded_place, coded_place_lt, coded_index_is, coded_from, coded_laid}
-use Rattle.pair_spec.specs.CallLaws.{receive_written}
+use Rattle.pair_spec.proofs.PairLaws.{coded_place, coded_place_lt, coded_index_is, coded_from, coded_laid}
+use Rattle.pair_spec.proofs.CallLaws.{receive_written}
 use Rattle.pair_spec.specs.Calls.{receive_buffers, receive_pair}
 use Rattle.pair_spec.specs.History.{depth, shift}
 use Rattle.pair_spec.specs.Receiving.{held_word, repair_of, repaired_word, newest_pair, marks}
-use Rattle.pair_spec.specs.ReceivingLaws.{held_bits_lem}
+use Rattle.pair_spec.proofs.ReceivingLaws.{held_bits_lem}
 use Rattle.pair_words_core.specs.Halves.{word_halves, payload_in}
 use Rattle.pair_words_core.specs.HalvesLaws.{payload_of_halves}
 use Rattle.pair_words_core.specs.WordBits.{held_back}
 use Rattle.gathering_spec.specs.Sums.{Gathered, Parities}
-use Rattle.gathering_spec.specs.Dirty.{Dirty, Joining, dirty_of, zero_digit}
+use Rattle.gathering_spec.specs.Dirty.{Dirty, Joining}
+use Rattle.gathering_spec.proofs.Dirty.{dirty_of, zero_digit}
 use Rattle.rows_core.specs.RowWords.{coded_halves}
 use Rattle.rows_core.specs.Held.{halves_word}
 use Rattle.rows_core.specs.HeldLaws.{halves_held, gathered_held, parities_held}

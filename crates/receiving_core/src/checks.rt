@@ -10,7 +10,7 @@ use syndromes_core::gather_row;
 
 // Number i of the sums has digit i of S1, number 8+i digit i of S3; bit w of each, and of the parities, is that of word w, word 0 the
 // most significant.
-#[derive(Drop)]
+#[derive(Clone, Copy)]
 pub struct Checks {
     pub sums: [u32; 16],
     pub odd: u32,

@@ -7,18 +7,18 @@ use Rattle.std.proofs.Math.Bool.{cond}
 use native.Mathlib.Omega.{arith}
 use Rattle.std.proofs.Math.Decide.{dec_lt}
 use Rattle.bits.specs.Bits.{bit, bit_of}
-use Rattle.bits.specs.BitLaws.{bit_lt, bit_of_from_bits, from_bits_ext}
+use Rattle.bits.proofs.BitLaws.{bit_lt, bit_of_from_bits, from_bits_ext}
 use Rattle.bits.specs.ListLaws.{get_d_tabulate, tabulate_ext}
 use Rattle.bits.specs.Xor.{◌⊕◌}
 use Rattle.gathering_spec.specs.Sums.{bit_in, word_in, both_rows, Gathered, Parities}
-use Rattle.gathering_spec.specs.Dirty.{gathered_same, parities_same, zero_digit}
+use Rattle.gathering_spec.proofs.Dirty.{gathered_same, parities_same, zero_digit}
 use Rattle.gathering_spec.specs.Gathering.{GatheredRows}
-use Rattle.gathering_spec.specs.GatheringLaws.{rows_gathered}
+use Rattle.gathering_spec.proofs.GatheringLaws.{rows_gathered}
 use Rattle.pair_spec.specs.History.{depth}
 use Rattle.pair_spec.specs.Receiving.{held_word}
 use Rattle.pair_words_core.specs.Halves.{word_half, word_halves, halves_bit}
 use Rattle.pair_words_core.specs.WordBits.{front_held, front_none, front_held_lem, held_front, held_back}
-use Rattle.pair_spec.specs.HistoryLaws.{deep}
+use Rattle.pair_spec.proofs.HistoryLaws.{deep}
 use Rattle.rows_core.specs.RowWords.{front_words, fronts_in, coded_half, coded_halves, columns_of}
 use Rattle.rows_core.specs.RowWordLaws.{fronts_bit, columns_bit}
 use Rattle.rows_core.specs.Held.{halves_word, Fronts, Backs}

@@ -1,4 +1,4 @@
--- Definitions first; the laws about each stand in the file below it.
+-- Definitions; the laws about them stand in proofs/.
 pub mod RowWords
 pub mod RowWordLaws
 pub mod Held

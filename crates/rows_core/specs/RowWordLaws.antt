@@ -3,11 +3,11 @@
 use Rattle.std.specs.Prelude.{◌≡◌, List, ℕ, ◌+◌, ◌-◌, ◌*◌, ◌/◌, ◌%◌, ◌<◌, ◌≤◌, length, get_or}
 use Rattle.std.proofs.Common.{sym, ap, ◌∙◌, arith}
 use Rattle.bits.specs.Bits.{bit, bit_of, from_bits}
-use Rattle.bits.specs.BitLaws.{bit_lt, bit_of_from_bits, from_bits_ext}
+use Rattle.bits.proofs.BitLaws.{bit_lt, bit_of_from_bits, from_bits_ext}
 use Rattle.bits.specs.Lists.{tabulate}
 use Rattle.bits.specs.ListLaws.{length_tabulate, get_d_tabulate, tabulate_ext}
 use Rattle.bits.specs.Xor.{◌⊕◌}
-use Rattle.bits.specs.XorLaws.{⊕_lt}
+use Rattle.bits.proofs.XorLaws.{⊕_lt}
 use Rattle.bits.specs.Tests.{grid}
 use Rattle.blocks.specs.Block.{bit_at, row_word, block}
 use Rattle.blocks.specs.BlockLaws.{bit_at_lt, bit_at_block_of}

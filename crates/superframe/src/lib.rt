@@ -3,7 +3,7 @@
 // and coded pairs. Over `cells_core`, `superframe_buffers_core` and `superframe_core`; by the definitions of `superframe_spec`.
 ghost use Rattle.std.specs.Prelude.{◌≡◌};
 ghost use Rattle.calls.specs.declared.Answer.TheVariants.{Done};
-ghost use Rattle.cells_spec.specs.Profiles.{modulation};
+ghost use Rattle.profiles_spec.specs.Profiles.{modulation};
 ghost use Rattle.interleaver_spec.specs.Calls.{after_deinterleave};
 ghost use Rattle.superframe_spec.specs.Superframe.{superframe};
 ghost use Rattle.superframe_spec.specs.Apart.{taken_apart, take_apart};

@@ -3,7 +3,7 @@
 // `cells`; `superframe_core` has the frames, and the steps are in `superframe`.
 ghost use Rattle.std.specs.Prelude.{◌≡◌, ◌*◌, ◌<◌};
 ghost use Rattle.cells_spec.specs.Modulation.{cells_per_buffer};
-ghost use Rattle.cells_spec.specs.Profiles.{modulation};
+ghost use Rattle.profiles_spec.specs.Profiles.{modulation};
 ghost use Rattle.superframe_spec.specs.Superframe.{buffer_cells, payload_of_pairs};
 ghost use Rattle.superframe_spec.specs.Apart.{buffer_pairs, taken_pairs};
 ghost use Rattle.superframe_spec.specs.Lent.{PairsToCells, CellsToPairs};

@@ -3,7 +3,7 @@
 ghost use Rattle.std.specs.Prelude.{◌≡◌, ◌≤◌, ◌<◌, ◌*◌, length};
 ghost use Rattle.bits.specs.Parts.{part_of};
 ghost use Rattle.cells_spec.specs.Cells.{first_illegal};
-ghost use Rattle.cells_spec.specs.Profiles.{modulation};
+ghost use Rattle.profiles_spec.specs.Profiles.{modulation};
 ghost use Rattle.frame_spec.specs.Frames.{payload_cells, payload_start, unframed};
 ghost use Rattle.superframe_spec.specs.Superframe.{frames_end_to_end, sub_frame};
 ghost use Rattle.superframe_spec.specs.Apart.{taken_cells, differing_in, differing_all, line_rule};

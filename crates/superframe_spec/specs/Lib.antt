@@ -1,9 +1,3 @@
 pub mod Superframe
-pub mod SuperframeLaws
 pub mod Apart
-pub mod ApartLaws
 pub mod Lent
-pub mod LentLaws
-pub mod LegalLaws
-pub mod LineLaws
-pub mod BackLaws

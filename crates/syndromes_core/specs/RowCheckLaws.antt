@@ -2,8 +2,8 @@
 -- Assumes nothing.
 use Rattle.std.specs.Prelude.{◌≡◌, refl, List, ℕ, ◌+◌, ◌*◌, ◌%◌}
 use Rattle.gathering_spec.specs.Sums.{joined_rows, Gathered, Parities}
-use Rattle.gathering_spec.specs.SumLaws.{gathered}
-use Rattle.gathering_spec.specs.ParityLaws.{parities}
+use Rattle.gathering_spec.proofs.SumLaws.{gathered}
+use Rattle.gathering_spec.proofs.ParityLaws.{parities}
 use Rattle.rows_core.specs.Held.{halves_word}
 use Rattle.rows_core.specs.HeldLaws.{gathered_joined, parities_joined}
 use Rattle.gathering_core.specs.Lanes.{Levelled}

@@ -1,5 +1,7 @@
 // Workers: what is gathered of the sixteen words of a row, whose front halves a history holds: S1 and S3 block by block, and parities,
 // side by side. Over `rows_core` and `gathering_core`; pairs are encoded and received with it.
+#![tactic(auto)]
+
 ghost use Rattle.std.specs.Prelude.{◌≡◌, ◌*◌, ◌<◌, length};
 ghost use Rattle.pair_spec.specs.History.{depth};
 ghost use Rattle.syndromes_core.specs.RowChecks.{RowChecked};
@@ -8,7 +10,7 @@ use gathering_core::lanes;
 use rows_core::rows;
 
 // The sums of the eight blocks of a row, and its parities: of each sum, and of the parities, bit r is that of word r.
-#[derive(Drop)]
+#[derive(Clone, Copy)]
 pub struct RowChecks {
     pub sums: [u16; 128],
     pub odd: u16,

@@ -3,18 +3,18 @@
 use Rattle.std.specs.Prelude.{◌≡◌, refl, List, Bool, ℕ, ◌*◌, ◌<◌, length, get_or}
 use Rattle.std.proofs.Common.{sym, ap, ◌∙◌, arith}
 use Rattle.bits.specs.Bits.{bit, pack, flipped}
-use Rattle.bits.specs.BitLaws.{bit_lt, bit_pack_of, flipped_lt, length_pack, pack_bit, pack_ext}
+use Rattle.bits.proofs.BitLaws.{bit_lt, bit_pack_of, flipped_lt, length_pack, pack_bit, pack_ext}
 use Rattle.bits.specs.Xor.{◌⊕◌}
-use Rattle.bits.specs.XorLaws.{⊕_zero}
+use Rattle.bits.proofs.XorLaws.{⊕_zero}
 use Rattle.word_spec.specs.CodeWord.{Word}
 use Rattle.word_spec.specs.Repair.{places, flip_all, repaired, repair}
-use Rattle.word_spec.specs.RepairLaws.{Bits, code_ext, flipped_ext}
-use Rattle.word_spec.specs.RepairTheorems.{repair_is}
+use Rattle.word_spec.proofs.RepairLaws.{Bits, code_ext, flipped_ext}
+use Rattle.word_spec.proofs.RepairTheorems.{repair_is}
 use Rattle.word_spec.specs.Syndromes.{syndromes_of}
-use Rattle.word_spec.specs.RemainderLaws.{added}
+use Rattle.word_spec.proofs.RemainderLaws.{added}
 use Rattle.word_spec.specs.Checks.{check, tail}
-use Rattle.word_spec.specs.CheckLaws.{checked_code}
-use Rattle.word_spec.specs.CompletionLaws.{tail_zero}
+use Rattle.word_spec.proofs.CheckLaws.{checked_code}
+use Rattle.word_spec.proofs.CompletionLaws.{tail_zero}
 use Rattle.word_spec.specs.declared.Repair.{Repair}
 use Rattle.word_spec.specs.declared.Repair.TheVariants.{Sound, One, Two, Lost}
 use Rattle.word_spec.specs.declared.Syndromes.{Syndromes}

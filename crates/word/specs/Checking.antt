@@ -3,17 +3,17 @@
 use Rattle.std.specs.Prelude.{◌≡◌, refl, List, ℕ, zero, suc, ◌+◌, ◌-◌, ◌*◌, ◌/◌, ◌%◌, ◌^◌, ◌<◌, ◌≤◌, get_or}
 use Rattle.std.proofs.Common.{sym, ap, ap₂, ◌∙◌, zero-mul, one-mul, arith}
 use Rattle.bits.specs.Bits.{bit}
-use Rattle.bits.specs.BitLaws.{bit_lt}
-use Rattle.bits.specs.CountLaws.{count_none}
-use Rattle.bits.specs.Folding.{Summing, sum_done}
+use Rattle.bits.proofs.BitLaws.{bit_lt}
+use Rattle.bits.proofs.CountLaws.{count_none}
+use Rattle.bits.proofs.Folding.{Summing, sum_done}
 use Rattle.bits.specs.Xor.{◌⊕◌, xor_sum}
-use Rattle.bits.specs.XorLaws.{xor_sum_none, xor_sum_split}
+use Rattle.bits.proofs.XorLaws.{xor_sum_none, xor_sum_split}
 use Rattle.gf256.specs.Field.{cube}
 use Rattle.word_spec.specs.CodeWord.{Word}
 use Rattle.word_spec.specs.Syndromes.{locator, syndromes_of}
 use Rattle.word_spec.specs.Checks.{checks, check, tail}
-use Rattle.word_spec.specs.CompletionLaws.{tail_low, tail_high}
-use Rattle.word_spec.specs.CheckLaws.{check_lt, check_syndromes}
+use Rattle.word_spec.proofs.CompletionLaws.{tail_low, tail_high}
+use Rattle.word_spec.proofs.CheckLaws.{check_lt, check_syndromes}
 use Rattle.word_spec.specs.declared.Syndromes.{Syndromes}
 use Rattle.word.specs.Partial.{Absorbing, partial, syndromes, syndromes_eq}
 

@@ -3,10 +3,10 @@
 use Rattle.std.specs.Prelude.{◌≡◌, cond, ℕ, zero, suc, ◌+◌, ◌-◌, ◌*◌, ◌%◌, ◌<◌, ◌≤◌, eqb}
 use Rattle.std.proofs.Common.{sym, ap, ◌∙◌, zero-mul, one-mul, arith, eq-eqb, ne_eqb}
 use Rattle.bits.specs.Count.{count}
-use Rattle.bits.specs.CountLaws.{count_suc}
-use Rattle.bits.specs.Folding.{Folding, fold_more, fold_done}
+use Rattle.bits.proofs.CountLaws.{count_suc}
+use Rattle.bits.proofs.Folding.{Folding, fold_more, fold_done}
 use Rattle.bits.specs.Xor.{◌⊕◌, xor_sum}
-use Rattle.bits.specs.XorLaws.{⊕_zero}
+use Rattle.bits.proofs.XorLaws.{⊕_zero}
 use Rattle.gf256.specs.Field.{cube}
 use Rattle.word_spec.specs.CodeWord.{Word, parity}
 use Rattle.word_spec.specs.Syndromes.{locator, S1, S3, syndromes_of}

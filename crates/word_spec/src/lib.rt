@@ -2,7 +2,7 @@
 #![tactic(auto)]
 
 // What the repair of a word flips: nothing, one place, two places (rising); or no code word is within two flips.
-#[derive(Drop)]
+#[derive(Clone, Copy)]
 pub enum Repair {
     Sound,
     One(usize),
@@ -11,7 +11,7 @@ pub enum Repair {
 }
 
 // The syndromes of a word, at a and at a^3, and its parity.
-#[derive(Drop)]
+#[derive(Clone, Copy)]
 pub struct Syndromes {
     pub s1: u8,
     pub s3: u8,

@@ -1,8 +1,8 @@
--- `bits::flip` meets its contract: specs/FlipLaws.antt.
+-- `bits::flip` meets its contract: proofs/FlipLaws.antt.
 -- Assumes nothing.
 use borrow.Author.Rules.{rules}
 use Rattle.bits.specs.Xor.{◌⊕◌}
-use Rattle.bits.specs.FlipLaws.{flip_byte}
+use Rattle.bits.proofs.FlipLaws.{flip_byte}
 use Rattle.bits.proofs.flip.Statement.{statement}
 use Rattle.bits.proofs.flip.Tie as tie
 

@@ -3,7 +3,7 @@
 use Rattle.bits.specs.Lists.{tabulate}
 use Rattle.bits.specs.Xor.{◌⊕◌}
 use Rattle.networks_spec.specs.Circuits.{run, circuit, back_steps, back_sums}
-use Rattle.networks_spec.specs.CircuitLaws.{back_circuit}
+use Rattle.networks_spec.proofs.CircuitLaws.{back_circuit}
 use borrow.Author.Rules.{rules}
 use Rattle.block_sums_core.proofs.back.Statement.{statement}
 use Rattle.block_sums_core.proofs.back.Tie as tie

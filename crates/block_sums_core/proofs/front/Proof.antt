@@ -3,7 +3,7 @@
 use Rattle.bits.specs.Lists.{tabulate}
 use Rattle.bits.specs.Xor.{◌⊕◌}
 use Rattle.networks_spec.specs.Circuits.{run, circuit, front_steps, front_sums}
-use Rattle.networks_spec.specs.CircuitLaws.{front_circuit}
+use Rattle.networks_spec.proofs.CircuitLaws.{front_circuit}
 use borrow.Author.Rules.{rules}
 use Rattle.block_sums_core.proofs.front.Statement.{statement}
 use Rattle.block_sums_core.proofs.front.Tie as tie

@@ -1,6 +1,6 @@
 -- `capi::ofec_unframe_qpsk` meets its contract: the answer of the library in numbers, and its buffers.
 -- Assumes nothing.
-use Rattle.cells_spec.specs.Profiles.{modulation}
+use Rattle.profiles_spec.specs.Profiles.{modulation}
 use Rattle.capi.specs.ExportLaws.{exported_is}
 use borrow.Author.Rules.{rules}
 use Rattle.capi.proofs.ofec_unframe_qpsk.Statement.{statement}

@@ -1,7 +1,7 @@
 -- `cells::bits_to_cells` meets its contract: the tests in their order, and what it does.
 -- Assumes nothing.
-use Rattle.calls.specs.CallLaws.{cases, misfit_of}
-use Rattle.cells_spec.specs.CallLaws.{map_done}
+use Rattle.calls.proofs.CallLaws.{cases, misfit_of}
+use Rattle.cells_spec.proofs.CallLaws.{map_done}
 use borrow.Author.Rules.{rules}
 use Rattle.cells.proofs.bits_to_cells.Statement.{statement}
 use Rattle.cells.proofs.bits_to_cells.Tie as tie

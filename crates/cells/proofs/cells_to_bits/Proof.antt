@@ -1,7 +1,7 @@
 -- `cells::cells_to_bits` meets its contract: the tests in their order, and what it does.
 -- Assumes nothing.
-use Rattle.calls.specs.CallLaws.{cases, misfit_of, fits_of}
-use Rattle.cells_spec.specs.CallLaws.{legality, demap_legal, demap_done}
+use Rattle.calls.proofs.CallLaws.{cases, misfit_of, fits_of}
+use Rattle.cells_spec.proofs.CallLaws.{legality, demap_legal, demap_done}
 use borrow.Author.Rules.{rules}
 use Rattle.cells.proofs.cells_to_bits.Statement.{statement}
 use Rattle.cells.proofs.cells_to_bits.Tie as tie

@@ -3,7 +3,7 @@
 use Rattle.bits.specs.Lists.{tabulate}
 use Rattle.bits.specs.Xor.{◌⊕◌}
 use Rattle.networks_spec.specs.Circuits.{run, circuit, check_steps, check_sums}
-use Rattle.networks_spec.specs.CircuitLaws.{check_circuit}
+use Rattle.networks_spec.proofs.CircuitLaws.{check_circuit}
 use borrow.Author.Rules.{rules}
 use Rattle.check_sums_core.proofs.check_bits.Statement.{statement}
 use Rattle.check_sums_core.proofs.check_bits.Tie as tie

@@ -10,18 +10,18 @@ use Rattle.completing_core.proofs.put_last.Tie as tie
 
 ruleset kit = (rules, fill, completing)
 
-abbrev invariant-loop : tie.invariant-loop
-invariant-loop last s out₀ r₀ out r = Filling (last_number last s) 16 r out
+abbrev invariant-loop-r : tie.invariant-loop-r
+invariant-loop-r last s out₀ r₀ out r = Filling (last_number last s) 16 r out
 
-abbrev decreases-loop : tie.decreases-loop
-decreases-loop last s out₀ r₀ out r = 16 - r
+abbrev decreases-loop-r : tie.decreases-loop-r
+decreases-loop-r last s out₀ r₀ out r = 16 - r
 
 pub put_last_spec : {M : Type 1} → statement M
 put_last_spec =
     tie.close
     (tie.spec
-    invariant-loop
-    decreases-loop
+    invariant-loop-r
+    decreases-loop-r
     (λ c. search kit)  -- loop-holds
     (λ c. search kit)  -- mul-half
     (λ c. search kit)  -- element-copy-out-half

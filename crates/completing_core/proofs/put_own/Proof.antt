@@ -10,18 +10,18 @@ use Rattle.completing_core.proofs.put_own.Tie as tie
 
 ruleset kit = (rules, fill, completing)
 
-abbrev invariant-loop : tie.invariant-loop
-invariant-loop own out₀ r₀ out r = Filling (own_number own) 16 r out
+abbrev invariant-loop-r : tie.invariant-loop-r
+invariant-loop-r own out₀ r₀ out r = Filling (own_number own) 16 r out
 
-abbrev decreases-loop : tie.decreases-loop
-decreases-loop own out₀ r₀ out r = 16 - r
+abbrev decreases-loop-r : tie.decreases-loop-r
+decreases-loop-r own out₀ r₀ out r = 16 - r
 
 pub put_own_spec : {M : Type 1} → statement M
 put_own_spec =
     tie.close
     (tie.spec
-    invariant-loop
-    decreases-loop
+    invariant-loop-r
+    decreases-loop-r
     (λ c. search kit)  -- loop-holds
     (λ c. search kit)  -- sub-out
     (λ c. search kit)  -- cast-out

@@ -1,7 +1,7 @@
 -- `encoder::encode_pair` meets its contract: the tests in their order, and what it does.
 -- Assumes nothing.
-use Rattle.calls.specs.CallLaws.{cases, stray_of}
-use Rattle.pair_spec.specs.CallLaws.{encode_done_lem, encode_put}
+use Rattle.calls.proofs.CallLaws.{cases, stray_of}
+use Rattle.pair_spec.proofs.CallLaws.{encode_done_lem, encode_put}
 use borrow.Author.Rules.{rules}
 use Rattle.encoder.proofs.encode_pair.Statement.{statement}
 use Rattle.encoder.proofs.encode_pair.Tie as tie

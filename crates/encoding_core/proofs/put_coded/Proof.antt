@@ -2,7 +2,7 @@
 -- Assumes nothing.
 use Prim.Native.Nat.{◌-◌}
 use Rattle.bits.specs.Filling.{Blocks, by_blocks}
-use Rattle.bits.specs.PartLaws.{part_long}
+use Rattle.bits.proofs.PartLaws.{part_long}
 use Rattle.encoding_core.specs.CodedPairs.{coded_byte}
 use borrow.Author.Rules.{rules}
 use Rattle.encoding_core.proofs.put_coded.Statement.{statement}

@@ -1,9 +1,9 @@
 -- `frame::frame` meets its contract.
 -- Assumes nothing.
 use borrow.Author.Rules.{rules}
-use Rattle.calls.specs.CallLaws.{cases}
-use Rattle.cells_spec.specs.CallLaws.{legality}
-use Rattle.frame_spec.specs.CallLaws.{judging, frame_done}
+use Rattle.calls.proofs.CallLaws.{cases}
+use Rattle.cells_spec.proofs.CallLaws.{legality}
+use Rattle.frame_spec.proofs.CallLaws.{judging, frame_done}
 use Rattle.frame.proofs.frame.Statement.{statement}
 use Rattle.frame.proofs.frame.Tie as tie
 

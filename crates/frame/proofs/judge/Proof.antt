@@ -1,9 +1,9 @@
 -- `frame::judge` meets its contract: the tests in their order.
 -- Assumes nothing.
 use borrow.Author.Rules.{rules}
-use Rattle.calls.specs.CallLaws.{tests}
+use Rattle.calls.proofs.CallLaws.{tests}
 use Rattle.frame_spec.specs.Calls.{sub_frame_tests}
-use Rattle.frame_spec.specs.CallLaws.{sub_frame_tests_lem}
+use Rattle.frame_spec.proofs.CallLaws.{sub_frame_tests_lem}
 use Rattle.frame.proofs.judge.Statement.{statement}
 use Rattle.frame.proofs.judge.Tie as tie
 

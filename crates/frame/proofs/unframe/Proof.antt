@@ -1,9 +1,9 @@
 -- `frame::unframe` meets its contract.
 -- Assumes nothing.
 use borrow.Author.Rules.{rules}
-use Rattle.calls.specs.CallLaws.{cases}
-use Rattle.cells_spec.specs.CallLaws.{legality}
-use Rattle.frame_spec.specs.CallLaws.{judging, unframe_done}
+use Rattle.calls.proofs.CallLaws.{cases}
+use Rattle.cells_spec.proofs.CallLaws.{legality}
+use Rattle.frame_spec.proofs.CallLaws.{judging, unframe_done}
 use Rattle.frame.proofs.unframe.Statement.{statement}
 use Rattle.frame.proofs.unframe.Tie as tie
 

@@ -1,6 +1,6 @@
 -- `frame_legal_core::first_flaw_of` meets its contract: what is searched is the payload.
 -- Assumes nothing.
-use Rattle.frame_spec.specs.LegalLaws.{first_in_payload}
+use Rattle.frame_spec.proofs.LegalLaws.{first_in_payload}
 use borrow.Author.Rules.{rules}
 use Rattle.frame_legal_core.proofs.first_flaw_of.Statement.{statement}
 use Rattle.frame_legal_core.proofs.first_flaw_of.Tie as tie

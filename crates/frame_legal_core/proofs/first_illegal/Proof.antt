@@ -1,7 +1,7 @@
 -- `frame_legal_core::first_illegal` meets its contract, profile by profile.
 -- Assumes nothing.
-use Rattle.cells_spec.specs.ProfileLaws.{by_profile}
-use Rattle.frame_spec.specs.LegalLaws.{flat}
+use Rattle.profiles_spec.proofs.ProfileLaws.{by_profile}
+use Rattle.frame_spec.proofs.LegalLaws.{flat}
 use borrow.Author.Rules.{rules}
 use Rattle.frame_legal_core.proofs.first_illegal.Statement.{statement}
 use Rattle.frame_legal_core.proofs.first_illegal.Tie as tie

@@ -1,8 +1,8 @@
 -- `frame_legal_core::first_illegal_qpsk` meets its contract: where both searches end past the end, all bytes are legal.
 -- Assumes nothing.
-use Rattle.cells_spec.specs.CallLaws.{demap_legal}
-use Rattle.cells_spec.specs.Profiles.{qpsk}
-use Rattle.frame_spec.specs.LegalLaws.{sound_payload, sound_frame}
+use Rattle.cells_spec.proofs.CallLaws.{demap_legal}
+use Rattle.profiles_spec.specs.Profiles.{qpsk}
+use Rattle.frame_spec.proofs.LegalLaws.{sound_payload, sound_frame}
 use borrow.Author.Rules.{rules}
 use Rattle.frame_legal_core.proofs.first_illegal_qpsk.Statement.{statement}
 use Rattle.frame_legal_core.proofs.first_illegal_qpsk.Tie as tie

@@ -1,6 +1,6 @@
 -- `frame_legal_core::overhead_flaw` meets its contract: one law for either way out.
 -- Assumes nothing.
-use Rattle.frame_spec.specs.LegalLaws.{cell_flaws}
+use Rattle.frame_spec.proofs.LegalLaws.{cell_flaws}
 use borrow.Author.Rules.{rules}
 use Rattle.frame_legal_core.proofs.overhead_flaw.Statement.{statement}
 use Rattle.frame_legal_core.proofs.overhead_flaw.Tie as tie

@@ -1,7 +1,7 @@
 -- `gf256::cube_in` meets its contract.
 -- Assumes nothing.
 use borrow.Author.Rules.{rules}
-use Rattle.gf256.specs.PowerLaws.{cube_in}
+use Rattle.gf256.proofs.PowerLaws.{cube_in}
 use Rattle.gf256.proofs.cube_in.Statement.{statement}
 use Rattle.gf256.proofs.cube_in.Tie as tie
 

@@ -2,7 +2,7 @@
 -- Assumes nothing.
 use native.Mathlib.Omega.{arith}
 use borrow.Author.Rules.{rules}
-use Rattle.gf256.specs.PowerLaws.{log_in}
+use Rattle.gf256.proofs.PowerLaws.{log_in}
 use Rattle.gf256.proofs.log_in.Statement.{statement}
 use Rattle.gf256.proofs.log_in.Tie as tie
 

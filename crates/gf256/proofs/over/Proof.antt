@@ -1,6 +1,6 @@
 -- `gf256::over` meets its contract: exponents are subtracted, and a^255 is 1.
 -- Assumes nothing.
-use Rattle.gf256.specs.PowerLaws.{dividing}
+use Rattle.gf256.proofs.PowerLaws.{dividing}
 use borrow.Author.Rules.{rules}
 use Rattle.gf256.proofs.over.Statement.{statement}
 use Rattle.gf256.proofs.over.Tie as tie

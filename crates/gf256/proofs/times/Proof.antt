@@ -1,6 +1,6 @@
 -- `gf256::times` meets its contract: exponents add up, and a^255 is 1.
 -- Assumes nothing.
-use Rattle.gf256.specs.PowerLaws.{multiplying}
+use Rattle.gf256.proofs.PowerLaws.{multiplying}
 use borrow.Author.Rules.{rules}
 use Rattle.gf256.proofs.times.Statement.{statement}
 use Rattle.gf256.proofs.times.Tie as tie

@@ -1,7 +1,7 @@
 -- `header::write_header` meets its contract: the cases of the call.
 -- Assumes nothing.
-use Rattle.calls.specs.CallLaws.{cases}
-use Rattle.line_file_spec.specs.WritingLaws.{n_rule, write_done}
+use Rattle.calls.proofs.CallLaws.{cases}
+use Rattle.line_file_spec.proofs.WritingLaws.{n_rule, write_done}
 use borrow.Author.Rules.{rules}
 use Rattle.header.proofs.write_header.Statement.{statement}
 use Rattle.header.proofs.write_header.Tie as tie

@@ -1,6 +1,6 @@
 -- `history_core::fresh` meets its contract: zeros with a front.
 -- Assumes nothing.
-use Rattle.pair_spec.specs.FrontLaws.{fresh_put}
+use Rattle.pair_spec.proofs.FrontLaws.{fresh_put}
 use borrow.Author.Rules.{rules}
 use Rattle.history_core.proofs.fresh.Statement.{statement}
 use Rattle.history_core.proofs.fresh.Tie as tie

@@ -1,6 +1,6 @@
 -- `history_core::stray` meets its contract: by the encoder, the pair number, and whether the encoder is above 1.
 -- Assumes nothing.
-use Rattle.calls.specs.CallLaws.{stray_cases}
+use Rattle.calls.proofs.CallLaws.{stray_cases}
 use Rattle.pair_spec.specs.Front.{encoder_of, next_pair}
 use borrow.Author.Rules.{rules}
 use Rattle.history_core.proofs.stray.Statement.{statement}

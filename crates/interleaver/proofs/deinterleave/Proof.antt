@@ -1,7 +1,7 @@
 -- `interleaver::deinterleave` meets its contract: the tests in their order, and what it does.
 -- Assumes nothing.
-use Rattle.calls.specs.CallLaws.{cases}
-use Rattle.interleaver_spec.specs.CallLaws.{part_done}
+use Rattle.calls.proofs.CallLaws.{cases}
+use Rattle.interleaver_spec.proofs.CallLaws.{part_done}
 use borrow.Author.Rules.{rules}
 use Rattle.interleaver.proofs.deinterleave.Statement.{statement}
 use Rattle.interleaver.proofs.deinterleave.Tie as tie

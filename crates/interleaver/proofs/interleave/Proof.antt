@@ -1,8 +1,8 @@
 -- `interleaver::interleave` meets its contract: the tests in their order, and what it does.
 -- Assumes nothing.
-use Rattle.interleaver_spec.specs.BlockBufferLaws.{interleaved_rows}
-use Rattle.calls.specs.CallLaws.{cases}
-use Rattle.interleaver_spec.specs.CallLaws.{join_done}
+use Rattle.interleaver_spec.proofs.BlockBufferLaws.{interleaved_rows}
+use Rattle.calls.proofs.CallLaws.{cases}
+use Rattle.interleaver_spec.proofs.CallLaws.{join_done}
 use borrow.Author.Rules.{rules}
 use Rattle.interleaver.proofs.interleave.Statement.{statement}
 use Rattle.interleaver.proofs.interleave.Tie as tie

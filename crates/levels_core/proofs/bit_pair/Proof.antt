@@ -1,7 +1,7 @@
 -- `levels_core::bit_pair` meets its contract: the table's rule, `bit_pair_read`.
 -- Assumes nothing.
 use borrow.Author.Rules.{rules}
-use Rattle.cells_spec.specs.LevelLaws.{bit_pair_read}
+use Rattle.cells_spec.proofs.LevelLaws.{bit_pair_read}
 use Rattle.levels_core.proofs.bit_pair.Statement.{statement}
 use Rattle.levels_core.proofs.bit_pair.Tie as tie
 

@@ -1,7 +1,7 @@
 -- `levels_core::level` meets its contract: the table's rule, `level_read`.
 -- Assumes nothing.
 use borrow.Author.Rules.{rules}
-use Rattle.cells_spec.specs.LevelLaws.{level_read}
+use Rattle.cells_spec.proofs.LevelLaws.{level_read}
 use Rattle.levels_core.proofs.level.Statement.{statement}
 use Rattle.levels_core.proofs.level.Tie as tie
 

@@ -2,7 +2,7 @@
 -- Assumes nothing.
 use borrow.Author.Rules.{rules}
 use Rattle.cells_spec.specs.Levels.{ordinal}
-use Rattle.cells_spec.specs.LevelLaws.{by_level}
+use Rattle.cells_spec.proofs.LevelLaws.{by_level}
 use Rattle.levels_core.proofs.ordinal.Statement.{statement}
 use Rattle.levels_core.proofs.ordinal.Tie as tie
 

@@ -1,6 +1,6 @@
 -- `levels_core::rails` meets its contract: the definition, from what `ordinal` ensures.
 -- Assumes nothing.
-use Rattle.cells_spec.specs.LevelLaws.{rails_is}
+use Rattle.cells_spec.proofs.LevelLaws.{rails_is}
 use borrow.Author.Rules.{rules}
 use Rattle.levels_core.proofs.rails.Statement.{statement}
 use Rattle.levels_core.proofs.rails.Tie as tie

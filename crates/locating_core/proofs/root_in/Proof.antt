@@ -1,6 +1,6 @@
 -- `locating_core::root_in` meets its contract.
 -- Assumes nothing.
-use Rattle.locating_core.specs.RootLaws.{root_in}
+use Rattle.locating_core.proofs.RootLaws.{root_in}
 use borrow.Author.Rules.{rules}
 use Rattle.locating_core.proofs.root_in.Statement.{statement}
 use Rattle.locating_core.proofs.root_in.Tie as tie

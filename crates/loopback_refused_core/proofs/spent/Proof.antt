@@ -1,6 +1,6 @@
 -- `loopback_refused_core::spent` meets its contract: zeros with a front.
 -- Assumes nothing.
-use Rattle.pair_spec.specs.FrontLaws.{zeros_put}
+use Rattle.pair_spec.proofs.FrontLaws.{zeros_put}
 use borrow.Author.Rules.{rules}
 use Rattle.loopback_refused_core.proofs.spent.Statement.{statement}
 use Rattle.loopback_refused_core.proofs.spent.Tie as tie

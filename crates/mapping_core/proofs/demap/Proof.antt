@@ -1,6 +1,6 @@
 -- `mapping_core::demap` meets its contract, profile by profile.
 -- Assumes nothing.
-use Rattle.cells_spec.specs.ProfileLaws.{by_profile, profile_fits}
+use Rattle.profiles_spec.proofs.ProfileLaws.{by_profile, profile_fits}
 use borrow.Author.Rules.{rules}
 use Rattle.mapping_core.proofs.demap.Statement.{statement}
 use Rattle.mapping_core.proofs.demap.Tie as tie

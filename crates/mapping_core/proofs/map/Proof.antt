@@ -1,6 +1,6 @@
 -- `mapping_core::map` meets its contract, profile by profile.
 -- Assumes nothing.
-use Rattle.cells_spec.specs.ProfileLaws.{by_profile, profile_fits}
+use Rattle.profiles_spec.proofs.ProfileLaws.{by_profile, profile_fits}
 use borrow.Author.Rules.{rules}
 use Rattle.mapping_core.proofs.map.Statement.{statement}
 use Rattle.mapping_core.proofs.map.Tie as tie

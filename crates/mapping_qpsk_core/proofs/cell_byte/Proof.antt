@@ -1,6 +1,6 @@
 -- `mapping_qpsk_core::cell_byte` meets its contract: one law for X and one for Y.
 -- Assumes nothing.
-use Rattle.cells_spec.specs.QpskLaws.{halves}
+use Rattle.cells_spec.proofs.QpskLaws.{halves}
 use borrow.Author.Rules.{rules}
 use Rattle.mapping_qpsk_core.proofs.cell_byte.Statement.{statement}
 use Rattle.mapping_qpsk_core.proofs.cell_byte.Tie as tie

@@ -1,6 +1,6 @@
 -- `mapping_qpsk_core::half` meets its contract: one law for either half.
 -- Assumes nothing.
-use Rattle.cells_spec.specs.QpskBytes.{upper_half, lower_half}
+use Rattle.profiles_spec.proofs.QpskBytes.{upper_half, lower_half}
 use borrow.Author.Rules.{rules}
 use Rattle.mapping_qpsk_core.proofs.half.Statement.{statement}
 use Rattle.mapping_qpsk_core.proofs.half.Tie as tie

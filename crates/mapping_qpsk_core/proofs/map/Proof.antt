@@ -3,25 +3,26 @@
 use Prim.Native.Nat.{◌-◌}
 use lib.ListN.{length}
 use Rattle.bits.specs.Filling.{Blocks}
-use Rattle.cells_spec.specs.QpskBytes.{cells_byte, by_filled_cells}
+use Rattle.cells_spec.specs.QpskBytes.{cells_byte}
+use Rattle.profiles_spec.proofs.QpskBytes.{by_filled_cells}
 use borrow.Author.Rules.{rules}
 use Rattle.mapping_qpsk_core.proofs.map.Statement.{statement}
 use Rattle.mapping_qpsk_core.proofs.map.Tie as tie
 
 ruleset kit = (rules, by_filled_cells)
 
-abbrev invariant-loop : tie.invariant-loop
-invariant-loop bits cells₀ i₀ i-end cells i = Blocks (cells_byte bits) 4 (length bits) i cells
+abbrev invariant-loop-i : tie.invariant-loop-i
+invariant-loop-i bits cells₀ i₀ i-end cells i = Blocks (cells_byte bits) 4 (length bits) i cells
 
-abbrev decreases-loop : tie.decreases-loop
-decreases-loop bits cells₀ i₀ i-end cells i = length bits - i
+abbrev decreases-loop-i : tie.decreases-loop-i
+decreases-loop-i bits cells₀ i₀ i-end cells i = length bits - i
 
 pub map_spec : {M : Type 1} → statement M
 map_spec =
     tie.close
     (tie.spec
-    invariant-loop
-    decreases-loop
+    invariant-loop-i
+    decreases-loop-i
     (λ c. search kit)  -- loop-holds
     (λ c. search kit)  -- shared-slice-read-b
     (λ c κs. search kit)  -- quarter-requires

@@ -1,6 +1,6 @@
 -- `mapping_qpsk_core::quarter` meets its contract: the definition.
 -- Assumes nothing.
-use Rattle.cells_spec.specs.QpskBytes.{quarter_made}
+use Rattle.profiles_spec.proofs.QpskBytes.{quarter_made}
 use borrow.Author.Rules.{rules}
 use Rattle.mapping_qpsk_core.proofs.quarter.Statement.{statement}
 use Rattle.mapping_qpsk_core.proofs.quarter.Tie as tie

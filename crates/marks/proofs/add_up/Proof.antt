@@ -10,18 +10,18 @@ use Rattle.marks.proofs.add_up.Tie as tie
 
 ruleset kit = (rules, mark_summing)
 
-abbrev invariant-loop : tie.invariant-loop
-invariant-loop marks flips₀ lost₀ i₀ i-end flips lost i = MarkSum flips_in marks i flips × MarkSum lost_in marks i lost
+abbrev invariant-loop-i : tie.invariant-loop-i
+invariant-loop-i marks flips₀ lost₀ i₀ i-end flips lost i = MarkSum flips_in marks i flips × MarkSum lost_in marks i lost
 
-abbrev decreases-loop : tie.decreases-loop
-decreases-loop marks flips₀ lost₀ i₀ i-end flips lost i = length marks - i
+abbrev decreases-loop-i : tie.decreases-loop-i
+decreases-loop-i marks flips₀ lost₀ i₀ i-end flips lost i = length marks - i
 
 pub add_up_spec : {M : Type 1} → statement M
 add_up_spec =
     tie.close
     (tie.spec
-    invariant-loop
-    decreases-loop
+    invariant-loop-i
+    decreases-loop-i
     (λ c. search kit)  -- loop-holds
     (λ c. search kit)  -- shared-slice-read-mark
     (λ c κs. search kit)  -- flips-in-requires

@@ -1,6 +1,6 @@
 -- `marks::flips_in` meets its contract.
 -- Assumes nothing.
-use Rattle.word_spec.specs.MarkLaws.{marks_telling}
+use Rattle.word_spec.proofs.MarkLaws.{marks_telling}
 use borrow.Author.Rules.{rules}
 use Rattle.marks.proofs.flips_in.Statement.{statement}
 use Rattle.marks.proofs.flips_in.Tie as tie

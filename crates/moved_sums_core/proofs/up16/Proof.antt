@@ -3,7 +3,7 @@
 use Rattle.bits.specs.Lists.{tabulate}
 use Rattle.bits.specs.Xor.{◌⊕◌}
 use Rattle.networks_spec.specs.Circuits.{run, circuit, up16_steps, up16_sums}
-use Rattle.networks_spec.specs.CircuitLaws.{up16_circuit}
+use Rattle.networks_spec.proofs.CircuitLaws.{up16_circuit}
 use borrow.Author.Rules.{rules}
 use Rattle.moved_sums_core.proofs.up16.Statement.{statement}
 use Rattle.moved_sums_core.proofs.up16.Tie as tie

@@ -3,7 +3,7 @@
 use Rattle.bits.specs.Lists.{tabulate}
 use Rattle.bits.specs.Xor.{◌⊕◌}
 use Rattle.networks_spec.specs.Circuits.{run, circuit, up32_steps, up32_sums}
-use Rattle.networks_spec.specs.CircuitLaws.{up32_circuit}
+use Rattle.networks_spec.proofs.CircuitLaws.{up32_circuit}
 use borrow.Author.Rules.{rules}
 use Rattle.moved_sums_core.proofs.up32.Statement.{statement}
 use Rattle.moved_sums_core.proofs.up32.Tie as tie

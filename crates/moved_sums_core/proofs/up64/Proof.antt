@@ -3,7 +3,7 @@
 use Rattle.bits.specs.Lists.{tabulate}
 use Rattle.bits.specs.Xor.{◌⊕◌}
 use Rattle.networks_spec.specs.Circuits.{run, circuit, up64_steps, up64_sums}
-use Rattle.networks_spec.specs.CircuitLaws.{up64_circuit}
+use Rattle.networks_spec.proofs.CircuitLaws.{up64_circuit}
 use borrow.Author.Rules.{rules}
 use Rattle.moved_sums_core.proofs.up64.Statement.{statement}
 use Rattle.moved_sums_core.proofs.up64.Tie as tie

@@ -1,6 +1,6 @@
 -- `opening_core::open_header` meets its contract: the judgement of the file.
 -- Assumes nothing.
-use Rattle.line_file_spec.specs.HeaderLaws.{header_cases}
+use Rattle.line_file_spec.proofs.HeaderLaws.{header_cases}
 use borrow.Author.Rules.{rules}
 use Rattle.opening_core.proofs.open_header.Statement.{statement}
 use Rattle.opening_core.proofs.open_header.Tie as tie

@@ -1,6 +1,6 @@
 -- `opening_core::open_part` meets its contract: the whole or nothing.
 -- Assumes nothing.
-use Rattle.line_file_spec.specs.OpeningLaws.{open_parts}
+use Rattle.line_file_spec.proofs.OpeningLaws.{open_parts}
 use borrow.Author.Rules.{rules}
 use Rattle.opening_core.proofs.open_part.Statement.{statement}
 use Rattle.opening_core.proofs.open_part.Tie as tie

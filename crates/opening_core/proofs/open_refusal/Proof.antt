@@ -1,7 +1,7 @@
 -- `opening_core::open_refusal` meets its contract: the number of the header's answer.
 -- Assumes nothing.
-use Rattle.calls.specs.AnswerLaws.{refusal_eq}
-use Rattle.line_file_spec.specs.OpeningLaws.{answer_of}
+use Rattle.calls.proofs.AnswerLaws.{refusal_eq}
+use Rattle.line_file_spec.proofs.OpeningLaws.{answer_of}
 use borrow.Author.Rules.{rules}
 use Rattle.opening_core.proofs.open_refusal.Statement.{statement}
 use Rattle.opening_core.proofs.open_refusal.Tie as tie

@@ -9,7 +9,7 @@ use Rattle.pair_spec.specs.Front.{held_pairs}
 use Rattle.pair_spec.specs.Encoding.{encoded}
 use Rattle.pair_spec.specs.Calls.{EncodeBuffers, encode_buffers}
 use Rattle.pair_spec.specs.Stream.{pair_encoder, given_at}
-use Rattle.pair_spec.specs.StreamLaws.{Streaming, streaming, stream_more, coded_block}
+use Rattle.pair_spec.proofs.StreamLaws.{Streaming, streaming, stream_more, coded_block}
 use borrow.Author.Rules.{rules}
 use Rattle.pair_stream.proofs.encode.Statement.{statement}
 use Rattle.pair_stream.proofs.encode.Tie as tie

@@ -1,7 +1,7 @@
 -- `pair_stream::encode_next` meets its contract.
 -- Assumes nothing.
 use borrow.Author.Rules.{rules}
-use Rattle.pair_spec.specs.StreamLaws.{pair_calls}
+use Rattle.pair_spec.proofs.StreamLaws.{pair_calls}
 use Rattle.pair_stream.proofs.encode_next.Statement.{statement}
 use Rattle.pair_stream.proofs.encode_next.Tie as tie
 

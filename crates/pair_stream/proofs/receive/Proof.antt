@@ -8,9 +8,9 @@ use Rattle.pair_spec.specs.History.{depth}
 use Rattle.pair_spec.specs.Front.{held_pairs}
 use Rattle.pair_spec.specs.Receiving.{payload_out, marks as pairMarks}
 use Rattle.pair_spec.specs.Calls.{ReceiveBuffers}
-use Rattle.pair_spec.specs.CallLaws.{receive_written}
+use Rattle.pair_spec.proofs.CallLaws.{receive_written}
 use Rattle.pair_spec.specs.Stream.{pair_receiver, given_at}
-use Rattle.pair_spec.specs.StreamLaws.{Streaming, streaming, stream_more, payload_block, marks_block}
+use Rattle.pair_spec.proofs.StreamLaws.{Streaming, streaming, stream_more, payload_block, marks_block}
 use borrow.Author.Rules.{rules}
 use Rattle.pair_stream.proofs.receive.Statement.{statement}
 use Rattle.pair_stream.proofs.receive.Tie as tie

@@ -1,6 +1,6 @@
 -- `pair_stream::receive_next` meets its contract.
 -- Assumes nothing.
-use Rattle.pair_spec.specs.StreamLaws.{pair_calls}
+use Rattle.pair_spec.proofs.StreamLaws.{pair_calls}
 use borrow.Author.Rules.{rules}
 use Rattle.pair_stream.proofs.receive_next.Statement.{statement}
 use Rattle.pair_stream.proofs.receive_next.Tie as tie

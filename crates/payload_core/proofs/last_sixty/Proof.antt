@@ -9,18 +9,18 @@ use Rattle.payload_core.proofs.last_sixty.Tie as tie
 
 ruleset kit = (rules, digits, lastwise)
 
-abbrev invariant-loop : tie.invariant-loop
-invariant-loop halves w v₀ i₀ v i = Digits 15 (behind (w * 15) (last_bit halves)) 4 i v
+abbrev invariant-loop-i : tie.invariant-loop-i
+invariant-loop-i halves w v₀ i₀ v i = Digits 15 (behind (w * 15) (last_bit halves)) 4 i v
 
-abbrev decreases-loop : tie.decreases-loop
-decreases-loop halves w v₀ i₀ v i = 4 - i
+abbrev decreases-loop-i : tie.decreases-loop-i
+decreases-loop-i halves w v₀ i₀ v i = 4 - i
 
 pub last_sixty_spec : {M : Type 1} → statement M
 last_sixty_spec =
     tie.close
     (tie.spec
-    invariant-loop
-    decreases-loop
+    invariant-loop-i
+    decreases-loop-i
     (λ c. search kit)  -- loop-holds
     (λ c. search kit)  -- mul-v
     (λ c. search kit)  -- add-last-fifteen

@@ -9,18 +9,18 @@ use Rattle.payload_core.proofs.put_half.Tie as tie
 
 ruleset kit = (rules, twos, blockwise)
 
-abbrev invariant-loop : tie.invariant-loop
-invariant-loop row block out₀ r₀ out r = Twos (half_byte row block) 16 r out
+abbrev invariant-loop-r : tie.invariant-loop-r
+invariant-loop-r row block out₀ r₀ out r = Twos (half_byte row block) 16 r out
 
-abbrev decreases-loop : tie.decreases-loop
-decreases-loop row block out₀ r₀ out r = 16 - r
+abbrev decreases-loop-r : tie.decreases-loop-r
+decreases-loop-r row block out₀ r₀ out r = 16 - r
 
 pub put_half_spec : {M : Type 1} → statement M
 put_half_spec =
     tie.close
     (tie.spec
-    invariant-loop
-    decreases-loop
+    invariant-loop-r
+    decreases-loop-r
     (λ c. search kit)  -- loop-holds
     (λ c. search kit)  -- mul-in-row
     (λ c. search kit)  -- add-in-row

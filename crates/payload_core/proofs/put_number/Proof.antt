@@ -10,19 +10,19 @@ use Rattle.payload_core.proofs.put_number.Tie as tie
 
 ruleset kit = (rules, fill, lastwise)
 
-abbrev invariant-loop : tie.invariant-loop
-invariant-loop v out₀ j₀ out j = Filling (byte_of (bit_of 64 v)) 8 j out
+abbrev invariant-loop-j : tie.invariant-loop-j
+invariant-loop-j v out₀ j₀ out j = Filling (byte_of (bit_of 64 v)) 8 j out
 
-abbrev decreases-loop : tie.decreases-loop
-decreases-loop v out₀ j₀ out j = 8 - j
+abbrev decreases-loop-j : tie.decreases-loop-j
+decreases-loop-j v out₀ j₀ out j = 8 - j
 
 pub put_number_spec : {M : Type 1} → statement M
 unfolding pack
 put_number_spec =
     tie.close
     (tie.spec
-    invariant-loop
-    decreases-loop
+    invariant-loop-j
+    decreases-loop-j
     (λ c. search kit)  -- loop-holds
     (λ c. search kit)  -- mul-out
     (λ c. search kit)  -- sub-out

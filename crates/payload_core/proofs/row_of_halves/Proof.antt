@@ -10,19 +10,19 @@ use Rattle.payload_core.proofs.row_of_halves.Tie as tie
 
 ruleset kit = (rules, fill)
 
-abbrev invariant-loop : tie.invariant-loop
-invariant-loop halves s x₀ n₀ x n = Filling (λ n. get_or halves (128 * s + n) 0) 128 n x
+abbrev invariant-loop-n : tie.invariant-loop-n
+invariant-loop-n halves s x₀ n₀ x n = Filling (λ n. get_or halves (128 * s + n) 0) 128 n x
 
-abbrev decreases-loop : tie.decreases-loop
-decreases-loop halves s x₀ n₀ x n = 128 - n
+abbrev decreases-loop-n : tie.decreases-loop-n
+decreases-loop-n halves s x₀ n₀ x n = 128 - n
 
 pub row_of_halves_spec : {M : Type 1} → statement M
 unfolding row_of_halves
 row_of_halves_spec =
     tie.close
     (tie.spec
-    invariant-loop
-    decreases-loop
+    invariant-loop-n
+    decreases-loop-n
     (λ c. search kit)  -- loop-holds
     (λ c. search kit)  -- mul-x
     (λ c. search kit)  -- add-x

@@ -10,18 +10,18 @@ use Rattle.payload_rows_core.proofs.end_of.Tie as tie
 
 ruleset kit = (rules, endwise)
 
-abbrev invariant-loop : tie.invariant-loop
-invariant-loop payload end₀ i₀ end i = Filling (λ k. get_or payload (428 + k) 0) 18 i end
+abbrev invariant-loop-i : tie.invariant-loop-i
+invariant-loop-i payload end₀ i₀ end i = Filling (λ k. get_or payload (428 + k) 0) 18 i end
 
-abbrev decreases-loop : tie.decreases-loop
-decreases-loop payload end₀ i₀ end i = 16 - i
+abbrev decreases-loop-i : tie.decreases-loop-i
+decreases-loop-i payload end₀ i₀ end i = 16 - i
 
 pub end_of_spec : {M : Type 1} → statement M
 end_of_spec =
     tie.close
     (tie.spec
-    invariant-loop
-    decreases-loop
+    invariant-loop-i
+    decreases-loop-i
     (λ c. search kit)  -- loop-holds
     (λ c. search kit)  -- add-end
     (λ c. search kit)  -- shared-slice-read-end

@@ -10,18 +10,18 @@ use Rattle.payload_rows_core.proofs.lasts.Tie as tie
 
 ruleset kit = (rules, lastwise)
 
-abbrev invariant-loop : tie.invariant-loop
-invariant-loop payload end out₀ n₀ out n = FourFronts (last_number payload) n out
+abbrev invariant-loop-n : tie.invariant-loop-n
+invariant-loop-n payload end out₀ n₀ out n = FourFronts (last_number payload) n out
 
-abbrev decreases-loop : tie.decreases-loop
-decreases-loop payload end out₀ n₀ out n = 8 - n
+abbrev decreases-loop-n : tie.decreases-loop-n
+decreases-loop-n payload end out₀ n₀ out n = 8 - n
 
 pub lasts_spec : {M : Type 1} → statement M
 lasts_spec =
     tie.close
     (tie.spec
-    invariant-loop
-    decreases-loop
+    invariant-loop-n
+    decreases-loop-n
     (λ c κs. search kit)  -- end-of-requires
     (λ c. search kit)  -- loop-holds
     (λ c κs. search kit)  -- fifteen-requires

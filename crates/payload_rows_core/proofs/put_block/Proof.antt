@@ -10,18 +10,18 @@ use Rattle.payload_rows_core.proofs.put_block.Tie as tie
 
 ruleset kit = (rules, fill, read_row)
 
-abbrev invariant-loop : tie.invariant-loop
-invariant-loop payload s block out₀ r₀ out r = Filling (λ i. row_number payload s (block * 16 + i)) 16 r out
+abbrev invariant-loop-r : tie.invariant-loop-r
+invariant-loop-r payload s block out₀ r₀ out r = Filling (λ i. row_number payload s (block * 16 + i)) 16 r out
 
-abbrev decreases-loop : tie.decreases-loop
-decreases-loop payload s block out₀ r₀ out r = 16 - r
+abbrev decreases-loop-r : tie.decreases-loop-r
+decreases-loop-r payload s block out₀ r₀ out r = 16 - r
 
 pub put_block_spec : {M : Type 1} → statement M
 put_block_spec =
     tie.close
     (tie.spec
-    invariant-loop
-    decreases-loop
+    invariant-loop-r
+    decreases-loop-r
     (λ c. search kit)  -- loop-holds
     (λ c. search kit)  -- mul-read-word
     (λ c. search kit)  -- mul-read-word-2

@@ -9,18 +9,18 @@ use Rattle.payload_rows_core.proofs.put_lasts.Tie as tie
 
 ruleset kit = (rules, fill)
 
-abbrev invariant-loop : tie.invariant-loop
-invariant-loop last s out₀ i₀ out i = Filling (λ k. get_or last (16 * s + k) 0) 16 i out
+abbrev invariant-loop-i : tie.invariant-loop-i
+invariant-loop-i last s out₀ i₀ out i = Filling (λ k. get_or last (16 * s + k) 0) 16 i out
 
-abbrev decreases-loop : tie.decreases-loop
-decreases-loop last s out₀ i₀ out i = 16 - i
+abbrev decreases-loop-i : tie.decreases-loop-i
+decreases-loop-i last s out₀ i₀ out i = 16 - i
 
 pub put_lasts_spec : {M : Type 1} → statement M
 put_lasts_spec =
     tie.close
     (tie.spec
-    invariant-loop
-    decreases-loop
+    invariant-loop-i
+    decreases-loop-i
     (λ c. search kit)  -- loop-holds
     (λ c. search kit)  -- mul-out
     (λ c. search kit)  -- add-out

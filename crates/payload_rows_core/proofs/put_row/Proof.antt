@@ -10,18 +10,18 @@ use Rattle.payload_rows_core.proofs.put_row.Tie as tie
 
 ruleset kit = (rules, fill, rowwise)
 
-abbrev invariant-loop : tie.invariant-loop
-invariant-loop payload last s out₀ from i₀ out i = Filling (λ i. open_number payload (s * 128 + i)) 128 i out
+abbrev invariant-loop-i : tie.invariant-loop-i
+invariant-loop-i payload last s out₀ from i₀ out i = Filling (λ i. open_number payload (s * 128 + i)) 128 i out
 
-abbrev decreases-loop : tie.decreases-loop
-decreases-loop payload last s out₀ from i₀ out i = 128 - i
+abbrev decreases-loop-i : tie.decreases-loop-i
+decreases-loop-i payload last s out₀ from i₀ out i = 128 - i
 
 pub put_row_spec : {M : Type 1} → statement M
 put_row_spec =
     tie.close
     (tie.spec
-    invariant-loop
-    decreases-loop
+    invariant-loop-i
+    decreases-loop-i
     (λ c κs. search kit)  -- payload-row-requires
     (λ c κs. search kit)  -- by-words-requires
     (λ c. search kit)  -- loop-holds

@@ -2,7 +2,7 @@
 -- Assumes nothing.
 use Prim.Native.Nat.{◌-◌}
 use Rattle.bits.specs.Filling.{Blocks, by_blocks}
-use Rattle.bits.specs.PartLaws.{part_long}
+use Rattle.bits.proofs.PartLaws.{part_long}
 use Rattle.payload_rows_core.specs.PayloadRows.{open_number}
 use borrow.Author.Rules.{rules}
 use Rattle.payload_rows_core.proofs.put_rows.Statement.{statement}
@@ -10,18 +10,18 @@ use Rattle.payload_rows_core.proofs.put_rows.Tie as tie
 
 ruleset kit = (rules, by_blocks, part_long)
 
-abbrev invariant-loop : tie.invariant-loop
-invariant-loop payload halves₀ last s₀ halves s = Blocks (open_number payload) 128 2 s halves
+abbrev invariant-loop-s : tie.invariant-loop-s
+invariant-loop-s payload halves₀ last s₀ halves s = Blocks (open_number payload) 128 2 s halves
 
-abbrev decreases-loop : tie.decreases-loop
-decreases-loop payload halves₀ last s₀ halves s = 2 - s
+abbrev decreases-loop-s : tie.decreases-loop-s
+decreases-loop-s payload halves₀ last s₀ halves s = 2 - s
 
 pub put_rows_spec : {M : Type 1} → statement M
 put_rows_spec =
     tie.close
     (tie.spec
-    invariant-loop
-    decreases-loop
+    invariant-loop-s
+    decreases-loop-s
     (λ c κs. search kit)  -- lasts-requires
     (λ c. search kit)  -- loop-holds
     (λ c. search kit)  -- mul-a

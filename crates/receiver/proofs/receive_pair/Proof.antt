@@ -1,7 +1,7 @@
 -- `receiver::receive_pair` meets its contract: the tests in their order, and what it does.
 -- Assumes nothing.
-use Rattle.calls.specs.CallLaws.{cases, stray_of}
-use Rattle.pair_spec.specs.CallLaws.{receive_done_lem, receive_put}
+use Rattle.calls.proofs.CallLaws.{cases, stray_of}
+use Rattle.pair_spec.proofs.CallLaws.{receive_done_lem, receive_put}
 use borrow.Author.Rules.{rules}
 use Rattle.receiver.proofs.receive_pair.Statement.{statement}
 use Rattle.receiver.proofs.receive_pair.Tie as tie

@@ -1,7 +1,7 @@
 -- `superframe::make` meets its contract.
 -- Assumes nothing.
 use borrow.Author.Rules.{rules}
-use Rattle.superframe_spec.specs.SuperframeLaws.{payload_legal, superframe_is}
+use Rattle.superframe_spec.proofs.SuperframeLaws.{payload_legal, superframe_is}
 use Rattle.superframe.proofs.make.Statement.{statement}
 use Rattle.superframe.proofs.make.Tie as tie
 

@@ -1,6 +1,6 @@
 -- `superframe::take` meets its contract.
 -- Assumes nothing.
-use Rattle.superframe_spec.specs.ApartLaws.{taken_legal, taken_is}
+use Rattle.superframe_spec.proofs.ApartLaws.{taken_legal, taken_is}
 use borrow.Author.Rules.{rules}
 use Rattle.superframe.proofs.take.Statement.{statement}
 use Rattle.superframe.proofs.take.Tie as tie

@@ -1,8 +1,8 @@
 -- `superframe::take_apart` meets its contract.
 -- Assumes nothing.
-use Rattle.calls.specs.CallLaws.{cases}
-use Rattle.cells_spec.specs.CallLaws.{legality, demap_legal}
-use Rattle.superframe_spec.specs.ApartLaws.{apart_done}
+use Rattle.calls.proofs.CallLaws.{cases}
+use Rattle.cells_spec.proofs.CallLaws.{legality, demap_legal}
+use Rattle.superframe_spec.proofs.ApartLaws.{apart_done}
 use borrow.Author.Rules.{rules}
 use Rattle.superframe.proofs.take_apart.Statement.{statement}
 use Rattle.superframe.proofs.take_apart.Tie as tie

@@ -2,8 +2,8 @@
 -- Assumes nothing.
 use borrow.Author.Rules.{rules}
 use Rattle.cells_spec.specs.Modulation.{cells_per_buffer}
-use Rattle.cells_spec.specs.Profiles.{qam16}
-use Rattle.superframe_spec.specs.SuperframeLaws.{buffering}
+use Rattle.profiles_spec.specs.Profiles.{qam16}
+use Rattle.superframe_spec.proofs.SuperframeLaws.{buffering}
 use Rattle.superframe_buffers_core.proofs.buffer.Statement.{statement}
 use Rattle.superframe_buffers_core.proofs.buffer.Tie as tie
 

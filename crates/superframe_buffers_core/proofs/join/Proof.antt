@@ -1,8 +1,8 @@
 -- `superframe_buffers_core::join` meets its contract: one buffer a turn.
 -- Assumes nothing.
 use Prim.Native.Nat.{◌-◌}
-use Rattle.cells_spec.specs.Profiles.{modulation}
-use Rattle.superframe_spec.specs.SuperframeLaws.{Joining, joining}
+use Rattle.profiles_spec.specs.Profiles.{modulation}
+use Rattle.superframe_spec.proofs.SuperframeLaws.{Joining, joining}
 use borrow.Author.Rules.{rules}
 use Rattle.superframe_buffers_core.proofs.join.Statement.{statement}
 use Rattle.superframe_buffers_core.proofs.join.Tie as tie

@@ -1,9 +1,9 @@
 -- `superframe_buffers_core::part` meets its contract: one buffer a turn.
 -- Assumes nothing.
 use Prim.Native.Nat.{◌-◌}
-use Rattle.cells_spec.specs.Profiles.{modulation}
-use Rattle.superframe_spec.specs.ApartLaws.{Parting, parting}
-use Rattle.superframe_spec.specs.LentLaws.{pairs_lent}
+use Rattle.profiles_spec.specs.Profiles.{modulation}
+use Rattle.superframe_spec.proofs.ApartLaws.{Parting, parting}
+use Rattle.superframe_spec.proofs.LentLaws.{pairs_lent}
 use borrow.Author.Rules.{rules}
 use Rattle.superframe_buffers_core.proofs.part.Statement.{statement}
 use Rattle.superframe_buffers_core.proofs.part.Tie as tie

@@ -1,7 +1,7 @@
 -- `superframe_buffers_core::part_buffer` meets its contract.
 -- Assumes nothing.
-use Rattle.superframe_spec.specs.SuperframeLaws.{buffer_sizes}
-use Rattle.superframe_spec.specs.ApartLaws.{part_blocks}
+use Rattle.superframe_spec.proofs.SuperframeLaws.{buffer_sizes}
+use Rattle.superframe_spec.proofs.ApartLaws.{part_blocks}
 use borrow.Author.Rules.{rules}
 use Rattle.superframe_buffers_core.proofs.part_buffer.Statement.{statement}
 use Rattle.superframe_buffers_core.proofs.part_buffer.Tie as tie

@@ -1,8 +1,8 @@
 -- `superframe_core::first_illegal` meets its contract: one sub-frame a turn.
 -- Assumes nothing.
 use Prim.Native.Nat.{◌-◌}
-use Rattle.cells_spec.specs.Profiles.{modulation}
-use Rattle.superframe_spec.specs.LegalLaws.{Judged, judging_line}
+use Rattle.profiles_spec.specs.Profiles.{modulation}
+use Rattle.superframe_spec.proofs.LegalLaws.{Judged, judging_line}
 use borrow.Author.Rules.{rules}
 use Rattle.superframe_core.proofs.first_illegal.Statement.{statement}
 use Rattle.superframe_core.proofs.first_illegal.Tie as tie

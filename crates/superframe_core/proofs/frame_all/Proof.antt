@@ -5,8 +5,8 @@ use Rattle.bits.specs.Filling.{Blocks, by_blocks}
 use borrow.Author.Rules.{rules}
 use Rattle.bits.specs.Parts.{byte_of_each}
 use Rattle.superframe_spec.specs.Superframe.{sub_frame}
-use Rattle.superframe_spec.specs.SuperframeLaws.{frame_blocks}
-use Rattle.superframe_spec.specs.LentLaws.{frames_lent}
+use Rattle.superframe_spec.proofs.SuperframeLaws.{frame_blocks}
+use Rattle.superframe_spec.proofs.LentLaws.{frames_lent}
 use Rattle.superframe_core.proofs.frame_all.Statement.{statement}
 use Rattle.superframe_core.proofs.frame_all.Tie as tie
 

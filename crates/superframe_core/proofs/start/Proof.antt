@@ -1,7 +1,7 @@
 -- `superframe_core::start` meets its contract.
 -- Assumes nothing.
 use borrow.Author.Rules.{rules}
-use Rattle.superframe_spec.specs.SuperframeLaws.{starting}
+use Rattle.superframe_spec.proofs.SuperframeLaws.{starting}
 use Rattle.superframe_core.proofs.start.Statement.{statement}
 use Rattle.superframe_core.proofs.start.Tie as tie
 

@@ -1,7 +1,7 @@
 -- `superframe_core::sub_frame` meets its contract.
 -- Assumes nothing.
 use borrow.Author.Rules.{rules}
-use Rattle.superframe_spec.specs.SuperframeLaws.{sub_frame_placing}
+use Rattle.superframe_spec.proofs.SuperframeLaws.{sub_frame_placing}
 use Rattle.superframe_core.proofs.sub_frame.Statement.{statement}
 use Rattle.superframe_core.proofs.sub_frame.Tie as tie
 

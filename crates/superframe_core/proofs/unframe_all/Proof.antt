@@ -1,11 +1,11 @@
 -- `superframe_core::unframe_all` meets its contract: one sub-frame a turn.
 -- Assumes nothing.
 use Prim.Native.Nat.{◌-◌}
-use Rattle.bits.specs.Folding.{Counting, counting}
+use Rattle.bits.proofs.Folding.{Counting, counting}
 use Rattle.superframe_spec.specs.Apart.{differing_in}
-use Rattle.superframe_spec.specs.SuperframeLaws.{start_order}
-use Rattle.superframe_spec.specs.ApartLaws.{Unframing, unframing_all}
-use Rattle.superframe_spec.specs.LentLaws.{cells_lent}
+use Rattle.superframe_spec.proofs.SuperframeLaws.{start_order}
+use Rattle.superframe_spec.proofs.ApartLaws.{Unframing, unframing_all}
+use Rattle.superframe_spec.proofs.LentLaws.{cells_lent}
 use borrow.Author.Rules.{rules}
 use Rattle.superframe_core.proofs.unframe_all.Statement.{statement}
 use Rattle.superframe_core.proofs.unframe_all.Tie as tie

@@ -1,6 +1,6 @@
 -- `superframe_core::unframe_next` meets its contract.
 -- Assumes nothing.
-use Rattle.superframe_spec.specs.ApartLaws.{unframe_blocks}
+use Rattle.superframe_spec.proofs.ApartLaws.{unframe_blocks}
 use borrow.Author.Rules.{rules}
 use Rattle.superframe_core.proofs.unframe_next.Statement.{statement}
 use Rattle.superframe_core.proofs.unframe_next.Tie as tie

@@ -18,9 +18,9 @@ apply_spec =
     (λ c κs. search kit)  -- flip-requires-2
     (λ c κs. search kit)  -- flip-requires-3
     (λ c. search kit)  -- enum-told-2
-    (λ c. apply_none c.before.before.before.args.w.now c.before.before.before.args.r c.before.before.before.requires.0 (λ j. (c.before.before.slice-known.given j).fits) (sound_none c.before.before.before.args.r c.enum_told.given.1))  -- returns
+    (λ c. apply_none c.before.before.args.w.now c.before.before.args.r c.before.before.requires.0 (λ j. (c.before.slice_known-1.given j).fits) (sound_none c.before.before.args.r c.in-Sound.is))  -- returns
     (λ c. search kit)  -- same-length
     (λ c. search kit)  -- returns-2
     (λ c. search kit)  -- same-length-2
     (λ c. search kit)  -- returns-3
-    (λ c. apply_none c.before.before.before.args.w.now c.before.before.before.args.r c.before.before.before.requires.0 (λ j. (c.before.before.slice-known.given j).fits) (lost_none c.before.before.before.args.r c.enum-told2.given.1)))  -- returns-4
+    (λ c. apply_none c.before.before.args.w.now c.before.before.args.r c.before.before.requires.0 (λ j. (c.before.slice_known-1.given j).fits) (lost_none c.before.before.args.r c.in-Lost.is)))  -- returns-4

@@ -1,6 +1,6 @@
 -- `word::mark_of` meets its contract: one law for each case.
 -- Assumes nothing.
-use Rattle.word_spec.specs.CallLaws.{marking}
+use Rattle.word_spec.proofs.CallLaws.{marking}
 use borrow.Author.Rules.{rules}
 use Rattle.word.proofs.mark_of.Statement.{statement}
 use Rattle.word.proofs.mark_of.Tie as tie

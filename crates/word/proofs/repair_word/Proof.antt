@@ -1,7 +1,7 @@
 -- `word::repair_word` meets its contract: the tests in their order, and what it does.
 -- Assumes nothing.
-use Rattle.calls.specs.CallLaws.{cases}
-use Rattle.word_spec.specs.CallLaws.{repair_done}
+use Rattle.calls.proofs.CallLaws.{cases}
+use Rattle.word_spec.proofs.CallLaws.{repair_done}
 use borrow.Author.Rules.{rules}
 use Rattle.word.proofs.repair_word.Statement.{statement}
 use Rattle.word.proofs.repair_word.Tie as tie

@@ -1,6 +1,6 @@
 -- `bits::numbers::number` meets its contract: two halves are one number.
 -- Assumes nothing.
-use Rattle.bits.specs.Numbers32Laws.{by_halves}
+use Rattle.bits.proofs.Numbers32Laws.{by_halves}
 use borrow.Author.Rules.{rules}
 use Rattle.bits.proofs.numbers.number.Statement.{statement}
 use Rattle.bits.proofs.numbers.number.Tie as tie

@@ -4,7 +4,7 @@ use Prim.Native.Nat.{◌-◌, ◌/◌, ◌%◌}
 use lib.ListN.{get_or}
 use Rattle.bits.specs.Filling.{Filling, fill}
 use Rattle.bits.specs.Numbers32.{byte32}
-use Rattle.bits.specs.Numbers32Laws.{bytes_filled}
+use Rattle.bits.proofs.Numbers32Laws.{bytes_filled}
 use borrow.Author.Rules.{rules}
 use Rattle.bits.proofs.numbers.put_numbers.Statement.{statement}
 use Rattle.bits.proofs.numbers.put_numbers.Tie as tie

@@ -4,7 +4,7 @@ use Prim.Native.Nat.{◌-◌}
 use Rattle.bits.specs.Filling.{Filling, fill}
 use Rattle.blocks.specs.Block.{row_word, block}
 use Rattle.interleaver_spec.specs.Moves.{moved_bit}
-use Rattle.interleaver_spec.specs.MoveLaws.{move_row}
+use Rattle.interleaver_spec.proofs.MoveLaws.{move_row}
 use borrow.Author.Rules.{rules}
 use Rattle.block_core.proofs.block.move_columns.Statement.{statement}
 use Rattle.block_core.proofs.block.move_columns.Tie as tie

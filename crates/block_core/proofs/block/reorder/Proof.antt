@@ -1,6 +1,6 @@
 -- `block_core::block::reorder` meets its contract: where the moves take each of the 256 bits.
 -- Assumes nothing.
-use Rattle.interleaver_spec.specs.MoveLaws.{reorder_is}
+use Rattle.interleaver_spec.proofs.MoveLaws.{reorder_is}
 use borrow.Author.Rules.{rules}
 use Rattle.block_core.proofs.block.reorder.Statement.{statement}
 use Rattle.block_core.proofs.block.reorder.Tie as tie

@@ -1,6 +1,6 @@
 -- `block_core::block::restore` meets its contract: where the moves take each of the 256 bits.
 -- Assumes nothing.
-use Rattle.interleaver_spec.specs.MoveLaws.{restore_is}
+use Rattle.interleaver_spec.proofs.MoveLaws.{restore_is}
 use borrow.Author.Rules.{rules}
 use Rattle.block_core.proofs.block.restore.Statement.{statement}
 use Rattle.block_core.proofs.block.restore.Tie as tie

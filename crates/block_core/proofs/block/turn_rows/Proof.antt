@@ -4,7 +4,7 @@ use Prim.Native.Nat.{◌-◌}
 use Rattle.bits.specs.Filling.{Filling, fill}
 use Rattle.blocks.specs.Block.{row_word, block}
 use Rattle.interleaver_spec.specs.Moves.{turned_bit}
-use Rattle.interleaver_spec.specs.MoveLaws.{turn_fits, turn_row}
+use Rattle.interleaver_spec.proofs.MoveLaws.{turn_fits, turn_row}
 use borrow.Author.Rules.{rules}
 use Rattle.block_core.proofs.block.turn_rows.Statement.{statement}
 use Rattle.block_core.proofs.block.turn_rows.Tie as tie

@@ -1,6 +1,6 @@
 -- `cells_core::legal::first_flaw` meets its contract: where the worst byte has no flaw, none has.
 -- Assumes nothing.
-use Rattle.cells_spec.specs.Highest.{flawed}
+use Rattle.cells_spec.proofs.Highest.{flawed}
 use borrow.Author.Rules.{rules}
 use Rattle.cells_core.proofs.legal.first_flaw.Statement.{statement}
 use Rattle.cells_core.proofs.legal.first_flaw.Tie as tie

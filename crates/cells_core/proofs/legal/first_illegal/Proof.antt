@@ -1,6 +1,6 @@
 -- `cells_core::legal::first_illegal` meets its contract: where the highest byte is legal, all are.
 -- Assumes nothing.
-use Rattle.cells_spec.specs.Highest.{all_low}
+use Rattle.cells_spec.proofs.Highest.{all_low}
 use borrow.Author.Rules.{rules}
 use Rattle.cells_core.proofs.legal.first_illegal.Statement.{statement}
 use Rattle.cells_core.proofs.legal.first_illegal.Tie as tie

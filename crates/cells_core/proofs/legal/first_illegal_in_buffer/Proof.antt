@@ -1,6 +1,6 @@
 -- `cells_core::legal::first_illegal_in_buffer` meets its contract, profile by profile: the part that is searched is the whole.
 -- Assumes nothing.
-use Rattle.cells_spec.specs.ProfileLaws.{buffer_searched}
+use Rattle.profiles_spec.proofs.ProfileLaws.{buffer_searched}
 use borrow.Author.Rules.{rules}
 use Rattle.cells_core.proofs.legal.first_illegal_in_buffer.Statement.{statement}
 use Rattle.cells_core.proofs.legal.first_illegal_in_buffer.Tie as tie

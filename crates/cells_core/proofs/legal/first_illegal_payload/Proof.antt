@@ -1,8 +1,8 @@
 -- `cells_core::legal::first_illegal_payload` meets its contract, profile by profile; for 16-QAM the rule is that of overhead.
 -- Assumes nothing.
 use Rattle.cells_spec.specs.Cells.{overhead_rule, payload_rule}
-use Rattle.cells_spec.specs.Profiles.{qam16}
-use Rattle.cells_spec.specs.ProfileLaws.{by_profile}
+use Rattle.profiles_spec.specs.Profiles.{qam16}
+use Rattle.profiles_spec.proofs.ProfileLaws.{by_profile}
 use borrow.Author.Rules.{rules}
 use Rattle.cells_core.proofs.legal.first_illegal_payload.Statement.{statement}
 use Rattle.cells_core.proofs.legal.first_illegal_payload.Tie as tie

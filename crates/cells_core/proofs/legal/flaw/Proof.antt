@@ -1,6 +1,6 @@
 -- `cells_core::legal::flaw` meets its contract: one law for each way out.
 -- Assumes nothing.
-use Rattle.cells_spec.specs.QpskBytes.{flaws}
+use Rattle.profiles_spec.proofs.QpskBytes.{flaws}
 use borrow.Author.Rules.{rules}
 use Rattle.cells_core.proofs.legal.flaw.Statement.{statement}
 use Rattle.cells_core.proofs.legal.flaw.Tie as tie

@@ -11,19 +11,19 @@ use Rattle.cells_core.proofs.legal.search.Tie as tie
 
 ruleset kit = (rules, seek, le-leb, lt-leb)
 
-abbrev invariant-loop : tie.invariant-loop
-invariant-loop cells i₀ i-end i = Seeking 0 overhead_rule cells i
+abbrev invariant-loop-i : tie.invariant-loop-i
+invariant-loop-i cells i₀ i-end i = Seeking 0 overhead_rule cells i
 
-abbrev decreases-loop : tie.decreases-loop
-decreases-loop cells i₀ i-end i = length cells - i
+abbrev decreases-loop-i : tie.decreases-loop-i
+decreases-loop-i cells i₀ i-end i = length cells - i
 
 pub search_spec : {M : Type 1} → statement M
 unfolding first_illegal overhead_rule
 search_spec =
     tie.close
     (tie.spec
-    invariant-loop
-    decreases-loop
+    invariant-loop-i
+    decreases-loop-i
     (λ c. search kit)  -- loop-holds
     (λ c. search kit)  -- shared-slice-read-if1
     (λ c. search kit)  -- returns

@@ -1,7 +1,7 @@
 -- `cells_core::sizes::buffers` meets its contract, profile by profile.
 -- Assumes nothing.
-use Rattle.cells_spec.specs.Profiles.{qam16, qpsk}
-use Rattle.cells_spec.specs.ProfileLaws.{by_profile}
+use Rattle.profiles_spec.specs.Profiles.{qam16, qpsk}
+use Rattle.profiles_spec.proofs.ProfileLaws.{by_profile}
 use borrow.Author.Rules.{rules}
 use Rattle.cells_core.proofs.sizes.buffers.Statement.{statement}
 use Rattle.cells_core.proofs.sizes.buffers.Tie as tie

@@ -1,8 +1,8 @@
 -- `cells_core::sizes::cell_bytes` meets its contract, profile by profile.
 -- Assumes nothing.
 use Rattle.cells_spec.specs.Modulation.{cells_per_buffer}
-use Rattle.cells_spec.specs.Profiles.{qam16, qpsk}
-use Rattle.cells_spec.specs.ProfileLaws.{by_profile}
+use Rattle.profiles_spec.specs.Profiles.{qam16, qpsk}
+use Rattle.profiles_spec.proofs.ProfileLaws.{by_profile}
 use borrow.Author.Rules.{rules}
 use Rattle.cells_core.proofs.sizes.cell_bytes.Statement.{statement}
 use Rattle.cells_core.proofs.sizes.cell_bytes.Tie as tie

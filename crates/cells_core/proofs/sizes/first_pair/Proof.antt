@@ -1,6 +1,6 @@
 -- `cells_core::sizes::first_pair` meets its contract, profile by profile.
 -- Assumes nothing.
-use Rattle.cells_spec.specs.ProfileLaws.{first_pairs}
+use Rattle.profiles_spec.proofs.ProfileLaws.{first_pairs}
 use borrow.Author.Rules.{rules}
 use Rattle.cells_core.proofs.sizes.first_pair.Statement.{statement}
 use Rattle.cells_core.proofs.sizes.first_pair.Tie as tie

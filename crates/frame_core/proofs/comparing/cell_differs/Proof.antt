@@ -1,6 +1,6 @@
 -- `frame_core::comparing::cell_differs` meets its contract: one law for each answer.
 -- Assumes nothing.
-use Rattle.frame_spec.specs.ByteLaws.{cell_by_cell}
+use Rattle.frame_spec.proofs.ByteLaws.{cell_by_cell}
 use borrow.Author.Rules.{rules}
 use Rattle.frame_core.proofs.comparing.cell_differs.Statement.{statement}
 use Rattle.frame_core.proofs.comparing.cell_differs.Tie as tie

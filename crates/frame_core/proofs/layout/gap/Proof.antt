@@ -1,7 +1,7 @@
 -- `frame_core::layout::gap` meets its contract: the numbers of sub-frame 0 and of the others.
 -- Assumes nothing.
 use native.Mathlib.Omega.{arith}
-use Rattle.frame_spec.specs.LayoutLaws.{sizes_zeroth, sizes_other}
+use Rattle.frame_spec.proofs.LayoutLaws.{sizes_zeroth, sizes_other}
 use Rattle.frame_core.proofs.layout.gap.Statement.{statement}
 use Rattle.frame_core.proofs.layout.gap.Tie as tie
 
@@ -9,5 +9,5 @@ pub gap_spec : {M : Type 1} → statement M
 gap_spec =
     tie.close
     (tie.spec
-    (λ c. omega (arith, sizes_zeroth c.if1.true))  -- returns
-    (λ c. omega (arith, sizes_other c.if1.false)))  -- returns-2
+    (λ c. omega (arith, sizes_zeroth c.if-number-eq0.true))  -- returns
+    (λ c. omega (arith, sizes_other c.if-number-eq0.false)))  -- returns-2

@@ -1,6 +1,6 @@
 -- `frame_core::layout::own_overhead` meets its contract: the part that it lends is the definition's.
 -- Assumes nothing.
-use Rattle.frame_spec.specs.ByteLaws.{own_part}
+use Rattle.frame_spec.proofs.ByteLaws.{own_part}
 use borrow.Author.Rules.{rules}
 use Rattle.frame_core.proofs.layout.own_overhead.Statement.{statement}
 use Rattle.frame_core.proofs.layout.own_overhead.Tie as tie
@@ -17,4 +17,4 @@ own_overhead_spec =
     (λ c. search rules)  -- sub-result
     (λ c. search rules)  -- part-result-start
     (λ c. search rules)  -- part-result-end
-    (λ c. own_part c.before.before.before.before.args.number c.before.before.before.before.args.overhead.now _ _ c.before.before.overhead-start.ensures.0 c.before.overhead-cells.ensures c.before.before.before.before.requires.0 c.before.before.before.before.requires.1))  -- returns
+    (λ c. own_part c.before.before.before.before.args.number c.before.before.before.before.args.overhead.now _ _ c.before.before.overhead_start-a.ensures.0 c.before.overhead_cells.ensures c.before.before.before.before.requires.0 c.before.before.before.before.requires.1))  -- returns

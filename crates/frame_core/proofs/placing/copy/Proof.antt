@@ -9,18 +9,18 @@ use Rattle.frame_core.proofs.placing.copy.Tie as tie
 
 ruleset kit = (rules, fill)
 
-abbrev invariant-loop : tie.invariant-loop
-invariant-loop from at n to₀ k₀ to k = Filling (λ j. get_or from (at + j) 0) n k to
+abbrev invariant-loop-k : tie.invariant-loop-k
+invariant-loop-k from at n to₀ k₀ to k = Filling (λ j. get_or from (at + j) 0) n k to
 
-abbrev decreases-loop : tie.decreases-loop
-decreases-loop from at n to₀ k₀ to k = n - k
+abbrev decreases-loop-k : tie.decreases-loop-k
+decreases-loop-k from at n to₀ k₀ to k = n - k
 
 pub copy_spec : {M : Type 1} → statement M
 copy_spec =
     tie.close
     (tie.spec
-    invariant-loop
-    decreases-loop
+    invariant-loop-k
+    decreases-loop-k
     (λ c. search kit)  -- loop-holds
     (λ c. search kit)  -- add-to
     (λ c. search kit)  -- shared-slice-read-to

@@ -1,6 +1,6 @@
 -- `frame_core::placing::copy_run` meets its contract: what is put is what was read.
 -- Assumes nothing.
-use Rattle.frame_spec.specs.RunLaws.{copied}
+use Rattle.frame_spec.proofs.RunLaws.{copied}
 use borrow.Author.Rules.{rules}
 use Rattle.frame_core.proofs.placing.copy_run.Statement.{statement}
 use Rattle.frame_core.proofs.placing.copy_run.Tie as tie

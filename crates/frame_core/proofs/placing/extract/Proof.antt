@@ -1,25 +1,26 @@
 -- `frame_core::placing::extract` meets its contract: the runs are taken one after the other.
 -- Assumes nothing.
 use Prim.Native.Nat.{◌-◌}
-use Rattle.frame_spec.specs.RunLaws.{Runs, by_runs}
+use Rattle.frame_spec.specs.RunLaws.{Runs}
+use Rattle.frame_spec.proofs.RunLaws.{by_runs}
 use borrow.Author.Rules.{rules}
 use Rattle.frame_core.proofs.placing.extract.Statement.{statement}
 use Rattle.frame_core.proofs.placing.extract.Tie as tie
 
 ruleset kit = (rules, by_runs)
 
-abbrev invariant-loop : tie.invariant-loop
-invariant-loop number frame payload₀ g w i₀ payload i = Runs number frame i payload
+abbrev invariant-loop-i : tie.invariant-loop-i
+invariant-loop-i number frame payload₀ g w i₀ payload i = Runs number frame i payload
 
-abbrev decreases-loop : tie.decreases-loop
-decreases-loop number frame payload₀ g w i₀ payload i = 116 - i
+abbrev decreases-loop-i : tie.decreases-loop-i
+decreases-loop-i number frame payload₀ g w i₀ payload i = 116 - i
 
 pub extract_spec : {M : Type 1} → statement M
 extract_spec =
     tie.close
     (tie.spec
-    invariant-loop
-    decreases-loop
+    invariant-loop-i
+    decreases-loop-i
     (λ c κs. search kit)  -- gap-requires
     (λ c κs. search kit)  -- extract-rest-requires
     (λ c. search kit)  -- loop-holds

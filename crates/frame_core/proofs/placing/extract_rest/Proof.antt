@@ -1,6 +1,6 @@
 -- `frame_core::placing::extract_rest` meets its contract: all is payload from the edge to the first whole group.
 -- Assumes nothing.
-use Rattle.frame_spec.specs.RunLaws.{by_runs}
+use Rattle.frame_spec.proofs.RunLaws.{by_runs}
 use borrow.Author.Rules.{rules}
 use Rattle.frame_core.proofs.placing.extract_rest.Statement.{statement}
 use Rattle.frame_core.proofs.placing.extract_rest.Tie as tie

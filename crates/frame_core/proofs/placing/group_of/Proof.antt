@@ -9,18 +9,18 @@ use Rattle.frame_core.proofs.placing.group_of.Tie as tie
 
 ruleset kit = (rules, fill)
 
-abbrev invariant-loop : tie.invariant-loop
-invariant-loop from at group₀ k₀ group k = Filling (λ n. get_or from (at + n) 0) 64 k group
+abbrev invariant-loop-k : tie.invariant-loop-k
+invariant-loop-k from at group₀ k₀ group k = Filling (λ n. get_or from (at + n) 0) 64 k group
 
-abbrev decreases-loop : tie.decreases-loop
-decreases-loop from at group₀ k₀ group k = 64 - k
+abbrev decreases-loop-k : tie.decreases-loop-k
+decreases-loop-k from at group₀ k₀ group k = 64 - k
 
 pub group_of_spec : {M : Type 1} → statement M
 group_of_spec =
     tie.close
     (tie.spec
-    invariant-loop
-    decreases-loop
+    invariant-loop-k
+    decreases-loop-k
     (λ c. search kit)  -- loop-holds
     (λ c. search kit)  -- add-group
     (λ c. search kit)  -- shared-slice-read-group

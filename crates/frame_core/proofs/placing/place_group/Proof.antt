@@ -2,7 +2,7 @@
 -- Assumes nothing.
 use native.Mathlib.Omega.{arith}
 use lib.ListN.{length-set}
-use Rattle.frame_spec.specs.RunLaws.{by_groups}
+use Rattle.frame_spec.proofs.RunLaws.{by_groups}
 use borrow.Author.Rules.{rules}
 use Rattle.frame_core.proofs.placing.place_group.Statement.{statement}
 use Rattle.frame_core.proofs.placing.place_group.Tie as tie

@@ -1,6 +1,6 @@
 -- `frame_core::placing::place_rest` meets its contract: overhead up to the edge, then payload.
 -- Assumes nothing.
-use Rattle.frame_spec.specs.RunLaws.{by_framing}
+use Rattle.frame_spec.proofs.RunLaws.{by_framing}
 use borrow.Author.Rules.{rules}
 use Rattle.frame_core.proofs.placing.place_rest.Statement.{statement}
 use Rattle.frame_core.proofs.placing.place_rest.Tie as tie

@@ -9,18 +9,18 @@ use Rattle.frame_core.proofs.placing.put_group.Tie as tie
 
 ruleset kit = (rules, fill)
 
-abbrev invariant-loop : tie.invariant-loop
-invariant-loop to₀ group k₀ to k = Filling (λ n. get_or group n 0) 64 k to
+abbrev invariant-loop-k : tie.invariant-loop-k
+invariant-loop-k to₀ group k₀ to k = Filling (λ n. get_or group n 0) 64 k to
 
-abbrev decreases-loop : tie.decreases-loop
-decreases-loop to₀ group k₀ to k = 64 - k
+abbrev decreases-loop-k : tie.decreases-loop-k
+decreases-loop-k to₀ group k₀ to k = 64 - k
 
 pub put_group_spec : {M : Type 1} → statement M
 put_group_spec =
     tie.close
     (tie.spec
-    invariant-loop
-    decreases-loop
+    invariant-loop-k
+    decreases-loop-k
     (λ c. search kit)  -- loop-holds
     (λ c. search kit)  -- array-read-to
     (λ c. search kit)  -- slice-write-to

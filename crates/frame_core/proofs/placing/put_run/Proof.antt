@@ -9,18 +9,18 @@ use Rattle.frame_core.proofs.placing.put_run.Tie as tie
 
 ruleset kit = (rules, fill)
 
-abbrev invariant-loop : tie.invariant-loop
-invariant-loop to₀ run k₀ to k = Filling (λ n. get_or run n 0) 62 k to
+abbrev invariant-loop-k : tie.invariant-loop-k
+invariant-loop-k to₀ run k₀ to k = Filling (λ n. get_or run n 0) 62 k to
 
-abbrev decreases-loop : tie.decreases-loop
-decreases-loop to₀ run k₀ to k = 62 - k
+abbrev decreases-loop-k : tie.decreases-loop-k
+decreases-loop-k to₀ run k₀ to k = 62 - k
 
 pub put_run_spec : {M : Type 1} → statement M
 put_run_spec =
     tie.close
     (tie.spec
-    invariant-loop
-    decreases-loop
+    invariant-loop-k
+    decreases-loop-k
     (λ c. search kit)  -- loop-holds
     (λ c. search kit)  -- array-read-to
     (λ c. search kit)  -- slice-write-to

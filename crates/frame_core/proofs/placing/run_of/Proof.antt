@@ -9,18 +9,18 @@ use Rattle.frame_core.proofs.placing.run_of.Tie as tie
 
 ruleset kit = (rules, fill)
 
-abbrev invariant-loop : tie.invariant-loop
-invariant-loop from at run₀ k₀ run k = Filling (λ n. get_or from (at + n) 0) 62 k run
+abbrev invariant-loop-k : tie.invariant-loop-k
+invariant-loop-k from at run₀ k₀ run k = Filling (λ n. get_or from (at + n) 0) 62 k run
 
-abbrev decreases-loop : tie.decreases-loop
-decreases-loop from at run₀ k₀ run k = 62 - k
+abbrev decreases-loop-k : tie.decreases-loop-k
+decreases-loop-k from at run₀ k₀ run k = 62 - k
 
 pub run_of_spec : {M : Type 1} → statement M
 run_of_spec =
     tie.close
     (tie.spec
-    invariant-loop
-    decreases-loop
+    invariant-loop-k
+    decreases-loop-k
     (λ c. search kit)  -- loop-holds
     (λ c. search kit)  -- add-run
     (λ c. search kit)  -- shared-slice-read-run

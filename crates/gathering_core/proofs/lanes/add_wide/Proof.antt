@@ -11,19 +11,19 @@ use Rattle.gathering_core.proofs.lanes.add_wide.Tie as tie
 
 ruleset kit = (rules, fill)
 
-abbrev invariant-loop : tie.invariant-loop
-invariant-loop a b v₀ i₀ v i = Filling (λ i. get_or a i 0 ⊕ get_or b i 0) 16 i v
+abbrev invariant-loop-i : tie.invariant-loop-i
+invariant-loop-i a b v₀ i₀ v i = Filling (λ i. get_or a i 0 ⊕ get_or b i 0) 16 i v
 
-abbrev decreases-loop : tie.decreases-loop
-decreases-loop a b v₀ i₀ v i = 16 - i
+abbrev decreases-loop-i : tie.decreases-loop-i
+decreases-loop-i a b v₀ i₀ v i = 16 - i
 
 pub add_wide_spec : {M : Type 1} → statement M
 unfolding added ◌⊕◌
 add_wide_spec =
     tie.close
     (tie.spec
-    invariant-loop
-    decreases-loop
+    invariant-loop-i
+    decreases-loop-i
     (λ c. search kit)  -- loop-holds
     (λ c. search kit)  -- mul-v
     (λ c. search kit)  -- element-copy-out-v

@@ -10,18 +10,18 @@ use Rattle.gathering_core.proofs.lanes.by_eight.Tie as tie
 
 ruleset kit = (rules, lanes_laid)
 
-abbrev invariant-loop : tie.invariant-loop
-invariant-loop x y z₀ c₀ z c = Laid (halves_lane x y) c z
+abbrev invariant-loop-c : tie.invariant-loop-c
+invariant-loop-c x y z₀ c₀ z c = Laid (halves_lane x y) c z
 
-abbrev decreases-loop : tie.decreases-loop
-decreases-loop x y z₀ c₀ z c = 8 - c
+abbrev decreases-loop-c : tie.decreases-loop-c
+decreases-loop-c x y z₀ c₀ z c = 8 - c
 
 pub by_eight_spec : {M : Type 1} → statement M
 by_eight_spec =
     tie.close
     (tie.spec
-    invariant-loop
-    decreases-loop
+    invariant-loop-c
+    decreases-loop-c
     (λ c. search kit)  -- loop-holds
     (λ c. search kit)  -- slice-aggregate-lay
     (λ c κs. search kit)  -- halves-lane-requires

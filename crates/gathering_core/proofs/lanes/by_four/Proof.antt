@@ -10,18 +10,18 @@ use Rattle.gathering_core.proofs.lanes.by_four.Tie as tie
 
 ruleset kit = (rules, lanes_laid)
 
-abbrev invariant-loop : tie.invariant-loop
-invariant-loop x z₀ c₀ z c = Laid (lane64 x) c z
+abbrev invariant-loop-c : tie.invariant-loop-c
+invariant-loop-c x z₀ c₀ z c = Laid (lane64 x) c z
 
-abbrev decreases-loop : tie.decreases-loop
-decreases-loop x z₀ c₀ z c = 4 - c
+abbrev decreases-loop-c : tie.decreases-loop-c
+decreases-loop-c x z₀ c₀ z c = 4 - c
 
 pub by_four_spec : {M : Type 1} → statement M
 by_four_spec =
     tie.close
     (tie.spec
-    invariant-loop
-    decreases-loop
+    invariant-loop-c
+    decreases-loop-c
     (λ c. search kit)  -- loop-holds
     (λ c. search kit)  -- slice-aggregate-put-lane
     (λ c κs. search kit)  -- lane-64-requires

@@ -9,19 +9,19 @@ use Rattle.gathering_core.proofs.lanes.join_rows.Tie as tie
 
 ruleset kit = (rules, fill)
 
-abbrev invariant-loop : tie.invariant-loop
-invariant-loop a b x₀ n₀ x n = Filling (joined_number a b) 128 n x
+abbrev invariant-loop-n : tie.invariant-loop-n
+invariant-loop-n a b x₀ n₀ x n = Filling (joined_number a b) 128 n x
 
-abbrev decreases-loop : tie.decreases-loop
-decreases-loop a b x₀ n₀ x n = 128 - n
+abbrev decreases-loop-n : tie.decreases-loop-n
+decreases-loop-n a b x₀ n₀ x n = 128 - n
 
 pub join_rows_spec : {M : Type 1} → statement M
 unfolding joined_rows joined_number
 join_rows_spec =
     tie.close
     (tie.spec
-    invariant-loop
-    decreases-loop
+    invariant-loop-n
+    decreases-loop-n
     (λ c. search kit)  -- loop-holds
     (λ c. search kit)  -- mul-join
     (λ c. search kit)  -- element-copy-out-join

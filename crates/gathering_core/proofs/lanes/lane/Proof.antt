@@ -10,19 +10,19 @@ use Rattle.gathering_core.proofs.lanes.lane.Tie as tie
 
 ruleset kit = (rules, fill)
 
-abbrev invariant-loop : tie.invariant-loop
-invariant-loop x c v₀ i₀ v i = Filling (λ i. get_or x (8 * i + c) 0) 16 i v
+abbrev invariant-loop-i : tie.invariant-loop-i
+invariant-loop-i x c v₀ i₀ v i = Filling (λ i. get_or x (8 * i + c) 0) 16 i v
 
-abbrev decreases-loop : tie.decreases-loop
-decreases-loop x c v₀ i₀ v i = 16 - i
+abbrev decreases-loop-i : tie.decreases-loop-i
+decreases-loop-i x c v₀ i₀ v i = 16 - i
 
 pub lane_spec : {M : Type 1} → statement M
 unfolding lane
 lane_spec =
     tie.close
     (tie.spec
-    invariant-loop
-    decreases-loop
+    invariant-loop-i
+    decreases-loop-i
     (λ c. search kit)  -- loop-holds
     (λ c. search kit)  -- mul-v
     (λ c. search kit)  -- add-v

@@ -10,19 +10,19 @@ use Rattle.gathering_core.proofs.lanes.lower_halves.Tie as tie
 
 ruleset kit = (rules, fill)
 
-abbrev invariant-loop : tie.invariant-loop
-invariant-loop z v₀ i₀ v i = Filling (λ i. get_or z i 0 % 4294967296) 16 i v
+abbrev invariant-loop-i : tie.invariant-loop-i
+invariant-loop-i z v₀ i₀ v i = Filling (λ i. get_or z i 0 % 4294967296) 16 i v
 
-abbrev decreases-loop : tie.decreases-loop
-decreases-loop z v₀ i₀ v i = 16 - i
+abbrev decreases-loop-i : tie.decreases-loop-i
+decreases-loop-i z v₀ i₀ v i = 16 - i
 
 pub lower_halves_spec : {M : Type 1} → statement M
 unfolding lower_halves
 lower_halves_spec =
     tie.close
     (tie.spec
-    invariant-loop
-    decreases-loop
+    invariant-loop-i
+    decreases-loop-i
     (λ c. search kit)  -- loop-holds
     (λ c. search kit)  -- mul-lower-half
     (λ c. search kit)  -- element-copy-out-lower-half

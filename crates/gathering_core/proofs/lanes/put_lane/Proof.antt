@@ -8,18 +8,18 @@ use Rattle.gathering_core.proofs.lanes.put_lane.Tie as tie
 
 ruleset kit = (rules, lay)
 
-abbrev invariant-loop : tie.invariant-loop
-invariant-loop z₀ c v i₀ z i = Laying z₀ c v i z
+abbrev invariant-loop-i : tie.invariant-loop-i
+invariant-loop-i z₀ c v i₀ z i = Laying z₀ c v i z
 
-abbrev decreases-loop : tie.decreases-loop
-decreases-loop z₀ c v i₀ z i = 16 - i
+abbrev decreases-loop-i : tie.decreases-loop-i
+decreases-loop-i z₀ c v i₀ z i = 16 - i
 
 pub put_lane_spec : {M : Type 1} → statement M
 put_lane_spec =
     tie.close
     (tie.spec
-    invariant-loop
-    decreases-loop
+    invariant-loop-i
+    decreases-loop-i
     (λ c. search kit)  -- loop-holds
     (λ c. search kit)  -- mul-z
     (λ c. search kit)  -- array-read-z

@@ -9,19 +9,19 @@ use Rattle.gathering_core.proofs.lanes.two_lanes.Tie as tie
 
 ruleset kit = (rules, fill)
 
-abbrev invariant-loop : tie.invariant-loop
-invariant-loop z c v₀ i₀ v i = Filling (paired_number z c) 16 i v
+abbrev invariant-loop-i : tie.invariant-loop-i
+invariant-loop-i z c v₀ i₀ v i = Filling (paired_number z c) 16 i v
 
-abbrev decreases-loop : tie.decreases-loop
-decreases-loop z c v₀ i₀ v i = 16 - i
+abbrev decreases-loop-i : tie.decreases-loop-i
+decreases-loop-i z c v₀ i₀ v i = 16 - i
 
 pub two_lanes_spec : {M : Type 1} → statement M
 unfolding paired_lanes paired_number
 two_lanes_spec =
     tie.close
     (tie.spec
-    invariant-loop
-    decreases-loop
+    invariant-loop-i
+    decreases-loop-i
     (λ c. search kit)  -- loop-holds
     (λ c. search kit)  -- mul-pair-up
     (λ c. search kit)  -- add-pair-up

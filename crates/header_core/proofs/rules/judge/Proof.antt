@@ -1,6 +1,6 @@
 -- `header_core::judge` meets its contract: the three cases of the judgement.
 -- Assumes nothing.
-use Rattle.line_file_spec.specs.HeaderLaws.{header_cases}
+use Rattle.line_file_spec.proofs.HeaderLaws.{header_cases}
 use borrow.Author.Rules.{rules}
 use Rattle.header_core.proofs.rules.judge.Statement.{statement}
 use Rattle.header_core.proofs.rules.judge.Tie as tie

@@ -1,6 +1,6 @@
 -- `header_core::rules_hold` meets its contract: each rule by itself.
 -- Assumes nothing.
-use Rattle.line_file_spec.specs.HeaderLaws.{one_by_one}
+use Rattle.line_file_spec.proofs.HeaderLaws.{one_by_one}
 use borrow.Author.Rules.{rules}
 use Rattle.header_core.proofs.rules.rules_hold.Statement.{statement}
 use Rattle.header_core.proofs.rules.rules_hold.Tie as tie

@@ -9,19 +9,19 @@ use Rattle.interleaver_core.proofs.buffer.side_by_side.Tie as tie
 
 ruleset kit = (rules, by_blocks)
 
-abbrev invariant-loop : tie.invariant-loop
-invariant-loop rows words₀ x₀ words x = Blocks (joined_word rows) 4 128 x words
+abbrev invariant-loop-x : tie.invariant-loop-x
+invariant-loop-x rows words₀ x₀ words x = Blocks (joined_word rows) 4 128 x words
 
-abbrev decreases-loop : tie.decreases-loop
-decreases-loop rows words₀ x₀ words x = 128 - x
+abbrev decreases-loop-x : tie.decreases-loop-x
+decreases-loop-x rows words₀ x₀ words x = 128 - x
 
 pub side_by_side_spec : {M : Type 1} → statement M
 unfolding joined
 side_by_side_spec =
     tie.close
     (tie.spec
-    invariant-loop
-    decreases-loop
+    invariant-loop-x
+    decreases-loop-x
     (λ c. search kit)  -- loop-holds
     (λ c. search kit)  -- mul-a
     (λ c. search kit)  -- add-e

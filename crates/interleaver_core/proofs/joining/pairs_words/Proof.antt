@@ -10,7 +10,7 @@ use Rattle.interleaver_spec.specs.declared.BlockRow.{BlockRow}
 use Rattle.interleaver_spec.specs.Rows.{row_in}
 use Rattle.interleaver_spec.specs.Interleaving.{pairs_bit}
 use Rattle.interleaver_spec.specs.BlockBuffer.{pairs_word, pairs_words}
-use Rattle.interleaver_spec.specs.BlockBufferLaws.{pairs_word_lem}
+use Rattle.interleaver_spec.proofs.BlockBufferLaws.{pairs_word_lem}
 use borrow.Author.Rules.{rules}
 use Rattle.interleaver_core.proofs.joining.pairs_words.Statement.{statement}
 use Rattle.interleaver_core.proofs.joining.pairs_words.Tie as tie
@@ -31,19 +31,19 @@ word_first pairs k r x lp lk e l = omega (arith, word_ends pairs k r x lp lk e l
 
 ruleset kit = (rules, fill, pairs_word_lem, word_begins, word_ends, word_first)
 
-abbrev invariant-loop : tie.invariant-loop
-invariant-loop pairs k words₀ x₀ words x = Filling (pairs_word pairs k) 128 x words
+abbrev invariant-loop-x : tie.invariant-loop-x
+invariant-loop-x pairs k words₀ x₀ words x = Filling (pairs_word pairs k) 128 x words
 
-abbrev decreases-loop : tie.decreases-loop
-decreases-loop pairs k words₀ x₀ words x = 128 - x
+abbrev decreases-loop-x : tie.decreases-loop-x
+decreases-loop-x pairs k words₀ x₀ words x = 128 - x
 
 pub pairs_words_spec : {M : Type 1} → statement M
 unfolding pairs_words
 pairs_words_spec =
     tie.close
     (tie.spec
-    invariant-loop
-    decreases-loop
+    invariant-loop-x
+    decreases-loop-x
     (λ c. search kit)  -- loop-holds
     (λ c κs. search kit)  -- pairs-byte-requires
     (λ c. search kit)  -- mul-at

@@ -3,25 +3,25 @@
 use Prim.Native.Nat.{◌-◌}
 use Rattle.bits.specs.Filling.{Filling, fill}
 use Rattle.interleaver_spec.specs.BlockBuffer.{joined_row}
-use Rattle.interleaver_spec.specs.BlockBufferLaws.{joined_row_lem}
+use Rattle.interleaver_spec.proofs.BlockBufferLaws.{joined_row_lem}
 use borrow.Author.Rules.{rules}
 use Rattle.interleaver_core.proofs.joining.reordered_rows.Statement.{statement}
 use Rattle.interleaver_core.proofs.joining.reordered_rows.Tie as tie
 
 ruleset kit = (rules, fill, joined_row_lem)
 
-abbrev invariant-loop : tie.invariant-loop
-invariant-loop pairs0 pairs1 rows₀ x₀ rows x = Filling (joined_row pairs0 pairs1) 21 x rows
+abbrev invariant-loop-x : tie.invariant-loop-x
+invariant-loop-x pairs0 pairs1 rows₀ x₀ rows x = Filling (joined_row pairs0 pairs1) 21 x rows
 
-abbrev decreases-loop : tie.decreases-loop
-decreases-loop pairs0 pairs1 rows₀ x₀ rows x = 21 - x
+abbrev decreases-loop-x : tie.decreases-loop-x
+decreases-loop-x pairs0 pairs1 rows₀ x₀ rows x = 21 - x
 
 pub reordered_rows_spec : {M : Type 1} → statement M
 reordered_rows_spec =
     tie.close
     (tie.spec
-    invariant-loop
-    decreases-loop
+    invariant-loop-x
+    decreases-loop-x
     (λ c. search kit)  -- loop-holds
     (λ c κs. search kit)  -- subset-rows-requires
     (λ c κs. search kit)  -- side-by-side-requires

@@ -1,6 +1,6 @@
 -- `interleaver_core::joining::sent_words` meets its contract: one law for each encoder.
 -- Assumes nothing.
-use Rattle.interleaver_spec.specs.BlockBufferLaws.{sent_0, sent_1}
+use Rattle.interleaver_spec.proofs.BlockBufferLaws.{sent_0, sent_1}
 use borrow.Author.Rules.{rules}
 use Rattle.interleaver_core.proofs.joining.sent_words.Statement.{statement}
 use Rattle.interleaver_core.proofs.joining.sent_words.Tie as tie

@@ -10,19 +10,19 @@ use Rattle.interleaver_core.proofs.joining.write_bits.Tie as tie
 
 ruleset kit = (rules, by_blocks)
 
-abbrev invariant-loop : tie.invariant-loop
-invariant-loop rows bits₀ column₀ bits column = Blocks (byte_of (output_bit rows)) 168 128 column bits
+abbrev invariant-loop-column : tie.invariant-loop-column
+invariant-loop-column rows bits₀ column₀ bits column = Blocks (byte_of (output_bit rows)) 168 128 column bits
 
-abbrev decreases-loop : tie.decreases-loop
-decreases-loop rows bits₀ column₀ bits column = 128 - column
+abbrev decreases-loop-column : tie.decreases-loop-column
+decreases-loop-column rows bits₀ column₀ bits column = 128 - column
 
 pub write_bits_spec : {M : Type 1} → statement M
 unfolding pack column_byte
 write_bits_spec =
     tie.close
     (tie.spec
-    invariant-loop
-    decreases-loop
+    invariant-loop-column
+    decreases-loop-column
     (λ c. search kit)  -- loop-holds
     (λ c. search kit)  -- mul-a
     (λ c. search kit)  -- add-e

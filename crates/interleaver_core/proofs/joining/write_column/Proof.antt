@@ -9,18 +9,18 @@ use Rattle.interleaver_core.proofs.joining.write_column.Tie as tie
 
 ruleset kit = (rules, by_blocks)
 
-abbrev invariant-loop : tie.invariant-loop
-invariant-loop rows column out₀ x₀ out x = Blocks (column_byte rows column) 8 21 x out
+abbrev invariant-loop-x : tie.invariant-loop-x
+invariant-loop-x rows column out₀ x₀ out x = Blocks (column_byte rows column) 8 21 x out
 
-abbrev decreases-loop : tie.decreases-loop
-decreases-loop rows column out₀ x₀ out x = 21 - x
+abbrev decreases-loop-x : tie.decreases-loop-x
+decreases-loop-x rows column out₀ x₀ out x = 21 - x
 
 pub write_column_spec : {M : Type 1} → statement M
 write_column_spec =
     tie.close
     (tie.spec
-    invariant-loop
-    decreases-loop
+    invariant-loop-x
+    decreases-loop-x
     (λ c. search kit)  -- loop-holds
     (λ c. search kit)  -- mul-a
     (λ c. search kit)  -- add-e

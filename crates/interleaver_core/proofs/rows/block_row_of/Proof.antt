@@ -1,6 +1,6 @@
 -- `interleaver_core::rows::block_row_of` meets its contract: the first block row of the subset, and every second from it.
 -- Assumes nothing.
-use Rattle.interleaver_spec.specs.SubsetLaws.{row_of}
+use Rattle.interleaver_spec.proofs.SubsetLaws.{row_of}
 use borrow.Author.Rules.{rules}
 use Rattle.interleaver_core.proofs.rows.block_row_of.Statement.{statement}
 use Rattle.interleaver_core.proofs.rows.block_row_of.Tie as tie

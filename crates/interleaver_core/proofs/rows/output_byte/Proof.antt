@@ -1,6 +1,6 @@
 -- `interleaver_core::rows::output_byte` meets its contract: the output bit by the bit row of the subset.
 -- Assumes nothing.
-use Rattle.interleaver_spec.specs.PositionLaws.{output_begins}
+use Rattle.interleaver_spec.proofs.PositionLaws.{output_begins}
 use borrow.Author.Rules.{rules}
 use Rattle.interleaver_core.proofs.rows.output_byte.Statement.{statement}
 use Rattle.interleaver_core.proofs.rows.output_byte.Tie as tie

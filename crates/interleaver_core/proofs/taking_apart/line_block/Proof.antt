@@ -4,26 +4,26 @@ use Prim.Native.Nat.{◌-◌}
 use Rattle.bits.specs.Filling.{Filling, fill}
 use Rattle.blocks.specs.Block.{row_word, block}
 use Rattle.interleaver_spec.specs.BlockBuffer.{line_column}
-use Rattle.interleaver_spec.specs.BlockBufferLaws.{line_word}
+use Rattle.interleaver_spec.proofs.BlockBufferLaws.{line_word}
 use borrow.Author.Rules.{rules}
 use Rattle.interleaver_core.proofs.taking_apart.line_block.Statement.{statement}
 use Rattle.interleaver_core.proofs.taking_apart.line_block.Tie as tie
 
 ruleset kit = (rules, fill, line_word)
 
-abbrev invariant-loop : tie.invariant-loop
-invariant-loop bits k block b₀ j₀ b j = Filling (row_word (line_column bits k block)) 16 j b
+abbrev invariant-loop-j : tie.invariant-loop-j
+invariant-loop-j bits k block b₀ j₀ b j = Filling (row_word (line_column bits k block)) 16 j b
 
-abbrev decreases-loop : tie.decreases-loop
-decreases-loop bits k block b₀ j₀ b j = 16 - j
+abbrev decreases-loop-j : tie.decreases-loop-j
+decreases-loop-j bits k block b₀ j₀ b j = 16 - j
 
 pub line_block_spec : {M : Type 1} → statement M
 unfolding block
 line_block_spec =
     tie.close
     (tie.spec
-    invariant-loop
-    decreases-loop
+    invariant-loop-j
+    decreases-loop-j
     (λ c. search kit)  -- loop-holds
     (λ c. search kit)  -- mul-output-byte
     (λ c. search kit)  -- add-output-byte

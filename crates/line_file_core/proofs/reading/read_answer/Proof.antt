@@ -1,9 +1,9 @@
 -- `line_file_core::reading::read_answer` meets its contract: the cases of the answer.
 -- Assumes nothing.
-use Rattle.calls.specs.CallLaws.{tests}
-use Rattle.line_file_spec.specs.OpeningLaws.{answer_of}
+use Rattle.calls.proofs.CallLaws.{tests}
+use Rattle.line_file_spec.proofs.OpeningLaws.{answer_of}
 use Rattle.line_file_spec.specs.Reading.{read_answer}
-use Rattle.line_file_spec.specs.ReadingLaws.{open_numbers}
+use Rattle.line_file_spec.proofs.ReadingLaws.{open_numbers}
 use borrow.Author.Rules.{rules}
 use Rattle.line_file_core.proofs.reading.read_answer.Statement.{statement}
 use Rattle.line_file_core.proofs.reading.read_answer.Tie as tie

@@ -1,6 +1,6 @@
 -- `line_file_core::reading::read_at` meets its contract: the stretch lies within the file.
 -- Assumes nothing.
-use Rattle.line_file_spec.specs.ReadingLaws.{part_cases}
+use Rattle.line_file_spec.proofs.ReadingLaws.{part_cases}
 use borrow.Author.Rules.{rules}
 use Rattle.line_file_core.proofs.reading.read_at.Statement.{statement}
 use Rattle.line_file_core.proofs.reading.read_at.Tie as tie

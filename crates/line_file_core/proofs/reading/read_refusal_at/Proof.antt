@@ -1,6 +1,6 @@
 -- `line_file_core::reading::read_refusal_at` meets its contract: the number of the reader's answer.
 -- Assumes nothing.
-use Rattle.calls.specs.AnswerLaws.{refusal_eq}
+use Rattle.calls.proofs.AnswerLaws.{refusal_eq}
 use borrow.Author.Rules.{rules}
 use Rattle.line_file_core.proofs.reading.read_refusal_at.Statement.{statement}
 use Rattle.line_file_core.proofs.reading.read_refusal_at.Tie as tie

@@ -1,6 +1,6 @@
 -- `line_file_core::reading::stretch` meets its contract: the part has 7,424 bytes.
 -- Assumes nothing.
-use Rattle.line_file_spec.specs.ReadingLaws.{from_there}
+use Rattle.line_file_spec.proofs.ReadingLaws.{from_there}
 use borrow.Author.Rules.{rules}
 use Rattle.line_file_core.proofs.reading.stretch.Statement.{statement}
 use Rattle.line_file_core.proofs.reading.stretch.Tie as tie

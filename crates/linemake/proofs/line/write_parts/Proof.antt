@@ -1,6 +1,6 @@
 -- `linemake::line::write_parts` is safe and ends: the list that framing is lent is legal.
 -- Assumes nothing.
-use Rattle.cells_spec.specs.CallLaws.{demap_legal}
+use Rattle.cells_spec.proofs.CallLaws.{demap_legal}
 use borrow.Author.Rules.{rules}
 use Rattle.linemake.proofs.line.write_parts.Statement.{statement}
 use Rattle.linemake.proofs.line.write_parts.Tie as tie

@@ -1,6 +1,6 @@
 -- `linemake::pairs::encode` meets its contract.
 -- Assumes nothing.
-use Rattle.pair_spec.specs.FrontLaws.{before_same}
+use Rattle.pair_spec.proofs.FrontLaws.{before_same}
 use borrow.Author.Rules.{rules}
 use Rattle.linemake.proofs.pairs.encode.Statement.{statement}
 use Rattle.linemake.proofs.pairs.encode.Tie as tie

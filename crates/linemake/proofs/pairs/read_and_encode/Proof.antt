@@ -1,6 +1,6 @@
 -- `linemake::pairs::read_and_encode` meets its contract: the stream leaves the history before the next pair.
 -- Assumes nothing.
-use Rattle.pair_spec.specs.StreamLaws.{encoded_after}
+use Rattle.pair_spec.proofs.StreamLaws.{encoded_after}
 use native.Mathlib.Omega.{arith}
 use borrow.Author.Rules.{rules}
 use Rattle.linemake.proofs.pairs.read_and_encode.Statement.{statement}

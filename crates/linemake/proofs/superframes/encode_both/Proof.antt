@@ -1,6 +1,6 @@
 -- `linemake::superframes::encode_both` meets its contract: one encoder after the other.
 -- Assumes nothing.
-use Rattle.pair_spec.specs.FrontLaws.{both_before}
+use Rattle.pair_spec.proofs.FrontLaws.{both_before}
 use borrow.Author.Rules.{rules}
 use Rattle.linemake.proofs.superframes.encode_both.Statement.{statement}
 use Rattle.linemake.proofs.superframes.encode_both.Tie as tie

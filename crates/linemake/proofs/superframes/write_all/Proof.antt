@@ -3,10 +3,10 @@
 use mathlib.Core.Path.{refl}
 use Prim.Native.Nat.{◌-◌}
 use Rattle.pair_spec.specs.Front.{BothBefore}
-use Rattle.pair_spec.specs.FrontLaws.{both_fresh, both_at}
+use Rattle.pair_spec.proofs.FrontLaws.{both_fresh, both_at}
 use Rattle.cells_spec.specs.Modulation.{pairs_in}
-use Rattle.cells_spec.specs.ModulationLaws.{pairs_none, pairs_after}
-use Rattle.cells_spec.specs.Profiles.{modulation}
+use Rattle.cells_spec.proofs.ModulationLaws.{pairs_none, pairs_after}
+use Rattle.profiles_spec.specs.Profiles.{modulation}
 use borrow.Author.Rules.{rules}
 use Rattle.linemake.proofs.superframes.write_all.Statement.{statement}
 use Rattle.linemake.proofs.superframes.write_all.Tie as tie

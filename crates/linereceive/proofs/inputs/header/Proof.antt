@@ -8,7 +8,7 @@ use Rattle.calls.specs.declared.Answer.{Answer}
 use Rattle.calls.specs.declared.Answer.TheVariants.{Done, Refused}
 use Rattle.line_file_spec.specs.declared.Header.{Header}
 use Rattle.line_file_spec.specs.Header.{header_number, judged}
-use Rattle.line_file_spec.specs.HeaderLaws.{judged_done, judged_refused}
+use Rattle.line_file_spec.proofs.HeaderLaws.{judged_done, judged_refused}
 use borrow.Author.Rules.{rules}
 use Rattle.linereceive.proofs.inputs.header.Statement.{statement}
 use Rattle.linereceive.proofs.inputs.header.Tie as tie

@@ -1,6 +1,6 @@
 -- `linereceive::receiving::receive` meets its contract.
 -- Assumes nothing.
-use Rattle.pair_spec.specs.FrontLaws.{before_at}
+use Rattle.pair_spec.proofs.FrontLaws.{before_at}
 use borrow.Author.Rules.{rules}
 use Rattle.linereceive.proofs.receiving.receive.Statement.{statement}
 use Rattle.linereceive.proofs.receiving.receive.Tie as tie

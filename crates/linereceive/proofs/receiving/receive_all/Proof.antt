@@ -2,10 +2,10 @@
 -- Assumes nothing.
 use Prim.Native.Nat.{◌-◌, ◌*◌, ◌≤◌}
 use Rattle.pair_spec.specs.Front.{BothBefore}
-use Rattle.pair_spec.specs.FrontLaws.{both_fresh}
+use Rattle.pair_spec.proofs.FrontLaws.{both_fresh}
 use Rattle.cells_spec.specs.Modulation.{pairs_in}
-use Rattle.cells_spec.specs.ModulationLaws.{pairs_none}
-use Rattle.cells_spec.specs.Profiles.{modulation}
+use Rattle.cells_spec.proofs.ModulationLaws.{pairs_none}
+use Rattle.profiles_spec.specs.Profiles.{modulation}
 use borrow.Author.Rules.{rules}
 use Rattle.linereceive.proofs.receiving.receive_all.Statement.{statement}
 use Rattle.linereceive.proofs.receiving.receive_all.Tie as tie

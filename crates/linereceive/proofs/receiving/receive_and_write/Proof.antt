@@ -1,6 +1,6 @@
 -- `linereceive::receiving::receive_and_write` meets its contract: the stream leaves the history before the next pair.
 -- Assumes nothing.
-use Rattle.pair_spec.specs.StreamLaws.{received_after}
+use Rattle.pair_spec.proofs.StreamLaws.{received_after}
 use borrow.Author.Rules.{rules}
 use Rattle.linereceive.proofs.receiving.receive_and_write.Statement.{statement}
 use Rattle.linereceive.proofs.receiving.receive_and_write.Tie as tie

@@ -1,8 +1,8 @@
 -- `linereceive::receiving::receive_next` meets its contract.
 -- Assumes nothing.
 use mathlib.Core.Path.{refl}
-use Rattle.pair_spec.specs.FrontLaws.{both_at}
-use Rattle.cells_spec.specs.ModulationLaws.{pairs_after}
+use Rattle.pair_spec.proofs.FrontLaws.{both_at}
+use Rattle.cells_spec.proofs.ModulationLaws.{pairs_after}
 use borrow.Author.Rules.{rules}
 use Rattle.linereceive.proofs.receiving.receive_next.Statement.{statement}
 use Rattle.linereceive.proofs.receiving.receive_next.Tie as tie

@@ -1,6 +1,6 @@
 -- `locating_core::locating::confine` meets its contract: one law for each branch.
 -- Assumes nothing.
-use Rattle.word_spec.specs.Locating.{confining}
+use Rattle.word_spec.proofs.Locating.{confining}
 use borrow.Author.Rules.{rules}
 use Rattle.locating_core.proofs.locating.confine.Statement.{statement}
 use Rattle.locating_core.proofs.locating.confine.Tie as tie

@@ -1,6 +1,6 @@
 -- `locating_core::locating::locate` meets its contract: one law for each branch.
 -- Assumes nothing.
-use Rattle.locating_core.specs.Finding.{decoding}
+use Rattle.locating_core.proofs.Finding.{decoding}
 use borrow.Author.Rules.{rules}
 use Rattle.locating_core.proofs.locating.locate.Statement.{statement}
 use Rattle.locating_core.proofs.locating.locate.Tie as tie

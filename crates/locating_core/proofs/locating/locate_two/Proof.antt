@@ -1,7 +1,7 @@
 -- `locating_core::locating::locate_two` meets its contract: its two places are those of a root.
 -- Assumes nothing.
 use Rattle.bits.specs.Xor.{◌⊕◌}
-use Rattle.locating_core.specs.Finding.{two_places}
+use Rattle.locating_core.proofs.Finding.{two_places}
 use borrow.Author.Rules.{rules}
 use Rattle.locating_core.proofs.locating.locate_two.Statement.{statement}
 use Rattle.locating_core.proofs.locating.locate_two.Tie as tie

@@ -1,6 +1,6 @@
 -- `locating_core::locating::place_of` meets its contract: the exponent of an element tells its place.
 -- Assumes nothing.
-use Rattle.locating_core.specs.Finding.{placing}
+use Rattle.locating_core.proofs.Finding.{placing}
 use borrow.Author.Rules.{rules}
 use Rattle.locating_core.proofs.locating.place_of.Statement.{statement}
 use Rattle.locating_core.proofs.locating.place_of.Tie as tie

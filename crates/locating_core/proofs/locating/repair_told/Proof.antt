@@ -1,6 +1,6 @@
 -- `locating_core::locating::repair_told` meets its contract: what is located and confined.
 -- Assumes nothing.
-use Rattle.locating_core.specs.Telling.{confined_inside, located_told}
+use Rattle.locating_core.proofs.Telling.{confined_inside, located_told}
 use borrow.Author.Rules.{rules}
 use Rattle.locating_core.proofs.locating.repair_told.Statement.{statement}
 use Rattle.locating_core.proofs.locating.repair_told.Tie as tie

@@ -1,6 +1,6 @@
 -- `loopback::line::carry_next` meets its contract.
 -- Assumes nothing.
-use Rattle.bits.specs.PartLaws.{part_long}
+use Rattle.bits.proofs.PartLaws.{part_long}
 use Rattle.loopback.specs.LineLaws.{pairs_most}
 use borrow.Author.Rules.{rules}
 use Rattle.loopback.proofs.line.carry_next.Statement.{statement}

@@ -5,7 +5,7 @@ use lib.ListN.{length}
 use Prim.Native.Nat.{◌-◌}
 use Rattle.bits.specs.Parts.{part_of}
 use Rattle.pair_spec.specs.Front.{history_of, BeforePair}
-use Rattle.pair_spec.specs.FrontLaws.{before_is, before_kept, before_fresh}
+use Rattle.pair_spec.proofs.FrontLaws.{before_is, before_kept, before_fresh}
 use Rattle.pair_spec.specs.Stream.{pair_receiver, history_before}
 use Rattle.loopback.specs.Received.{next_received}
 use Rattle.loopback_core.specs.StepLaws.{Stepping, step_none, step_done}

@@ -1,6 +1,6 @@
 -- `loopback::receiving::word` meets its contract.
 -- Assumes nothing.
-use Rattle.bits.specs.PartLaws.{part_long}
+use Rattle.bits.proofs.PartLaws.{part_long}
 use Rattle.loopback.specs.StreamLaws.{word_in_lem}
 use borrow.Author.Rules.{rules}
 use Rattle.loopback.proofs.receiving.word.Statement.{statement}

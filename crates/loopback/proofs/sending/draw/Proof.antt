@@ -5,7 +5,7 @@ use Prim.Native.Nat.{◌+◌, ◌-◌, ◌*◌}
 use Rattle.bits.specs.Filling.{Blocks, by_blocks, blocks_next}
 use Rattle.bits.specs.Parts.{part, byte_of_each}
 use Rattle.loopback_core.specs.Random.{pair_payload}
-use Rattle.bits.specs.PartLaws.{part_long}
+use Rattle.bits.proofs.PartLaws.{part_long}
 use Rattle.loopback_core.specs.RandomLaws.{pair_block, payload_stream_is}
 use borrow.Author.Rules.{rules}
 use Rattle.loopback.proofs.sending.draw.Statement.{statement}

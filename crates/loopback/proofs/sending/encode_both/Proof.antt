@@ -5,14 +5,14 @@ use lib.ListN.{length}
 use Prim.Native.Nat.{◌-◌, ◌*◌, ◌+◌}
 use Rattle.bits.specs.Filling.{Blocks, by_blocks, blocks_next}
 use Rattle.bits.specs.Parts.{byte_of_each}
-use Rattle.bits.specs.PartLaws.{part_long}
+use Rattle.bits.proofs.PartLaws.{part_long}
 use Rattle.pair_spec.specs.Front.{history_of, BeforePair}
-use Rattle.pair_spec.specs.FrontLaws.{before_is, before_kept, before_fresh}
+use Rattle.pair_spec.proofs.FrontLaws.{before_is, before_kept, before_fresh}
 use Rattle.pair_spec.specs.Stream.{pair_encoder, history_before}
 use Rattle.loopback_core.specs.Random.{payload_in}
 use Rattle.loopback.specs.Sent.{sent_in, half_sent}
 use Rattle.loopback_core.specs.StepLaws.{Stepping, step_none, step_more, step_done}
-use Rattle.bits.specs.PartLaws.{is_end_to_end}
+use Rattle.bits.proofs.PartLaws.{is_end_to_end}
 use Rattle.loopback.specs.StreamLaws.{before_none, before_more, half_block_lem}
 use borrow.Author.Rules.{rules}
 use Rattle.loopback.proofs.sending.encode_both.Statement.{statement}

@@ -1,7 +1,7 @@
 -- `loopback_core::comparing::distance` meets its contract: a count over the bits.
 -- Assumes nothing.
 use Rattle.std.proofs.Common.{◌-◌, rules}
-use Rattle.bits.specs.Folding.{Counting, counting}
+use Rattle.bits.proofs.Folding.{Counting, counting}
 use Rattle.loopback_core.specs.Tally.{wrong_at}
 use Rattle.loopback_core.specs.TallyLaws.{distance_fits, distance_done}
 use Rattle.loopback_core.proofs.comparing.distance.Statement.{statement}

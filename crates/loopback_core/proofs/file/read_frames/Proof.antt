@@ -3,7 +3,7 @@
 use Rattle.std.proofs.Common.{◌+◌, ◌-◌, ◌*◌, refl, rules}
 use Rattle.bits.specs.Filling.{Blocks, by_blocks, blocks_next}
 use Rattle.bits.specs.Parts.{byte_of_each}
-use Rattle.bits.specs.PartLaws.{part_long}
+use Rattle.bits.proofs.PartLaws.{part_long}
 use Rattle.line_file_spec.specs.Opening.{open_call}
 use Rattle.line_file_spec.specs.Reading.{read_part_in}
 use Rattle.loopback_core.specs.FileLaws.{file_frame_block, frames_whole}

@@ -1,7 +1,7 @@
 -- `loopback_core::noise::strike` meets its contract: one cell a turn.
 -- Assumes nothing.
 use Rattle.std.proofs.Common.{◌≡◌, ◌-◌, ◌*◌, length, rules}
-use Rattle.cells_spec.specs.Profiles.{modulation}
+use Rattle.profiles_spec.specs.Profiles.{modulation}
 use Rattle.loopback_core.specs.StepLaws.{Stepping}
 use Rattle.loopback_core.specs.Noise.{strike}
 use Rattle.loopback_core.specs.NoiseLaws.{strikes}

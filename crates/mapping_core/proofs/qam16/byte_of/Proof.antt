@@ -1,7 +1,7 @@
 -- `mapping_core::qam16::byte_of` meets its contract: the four bits of I and the four of Q, in their places.
 -- Assumes nothing.
 use borrow.Author.Rules.{rules}
-use Rattle.cells_spec.specs.Qam16Laws.{byte_woven}
+use Rattle.cells_spec.proofs.Qam16Laws.{byte_woven}
 use Rattle.mapping_core.proofs.qam16.byte_of.Statement.{statement}
 use Rattle.mapping_core.proofs.qam16.byte_of.Tie as tie
 

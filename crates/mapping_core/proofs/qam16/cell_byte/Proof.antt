@@ -1,6 +1,6 @@
 -- `mapping_core::qam16::cell_byte` meets its contract: one law for X and one for Y.
 -- Assumes nothing.
-use Rattle.cells_spec.specs.Qam16Laws.{halves}
+use Rattle.cells_spec.proofs.Qam16Laws.{halves}
 use borrow.Author.Rules.{rules}
 use Rattle.mapping_core.proofs.qam16.cell_byte.Statement.{statement}
 use Rattle.mapping_core.proofs.qam16.cell_byte.Tie as tie

@@ -1,6 +1,6 @@
 -- `mapping_core::qam16::cell_bytes` meets its contract: the definition, from the two bytes.
 -- Assumes nothing.
-use Rattle.cells_spec.specs.Qam16Tables.{cell_bytes_made}
+use Rattle.profiles_spec.proofs.Qam16Tables.{cell_bytes_made}
 use borrow.Author.Rules.{rules}
 use Rattle.mapping_core.proofs.qam16.cell_bytes.Statement.{statement}
 use Rattle.mapping_core.proofs.qam16.cell_bytes.Tie as tie

@@ -1,6 +1,6 @@
 -- `mapping_core::qam16::cell_in` meets its contract: the table's entry.
 -- Assumes nothing.
-use Rattle.cells_spec.specs.Qam16Tables.{cell_bytes_entry, cell_bytes_below}
+use Rattle.profiles_spec.proofs.Qam16Tables.{cell_bytes_entry, cell_bytes_below}
 use borrow.Author.Rules.{rules}
 use Rattle.mapping_core.proofs.qam16.cell_in.Statement.{statement}
 use Rattle.mapping_core.proofs.qam16.cell_in.Tie as tie

@@ -9,19 +9,19 @@ use Rattle.mapping_core.proofs.qam16.cell_symbols.Tie as tie
 
 ruleset kit = (rules, fill)
 
-abbrev invariant-loop : tie.invariant-loop
-invariant-loop table₀ k₀ table k = Filling cell_symbol 256 k table
+abbrev invariant-loop-k : tie.invariant-loop-k
+invariant-loop-k table₀ k₀ table k = Filling cell_symbol 256 k table
 
-abbrev decreases-loop : tie.decreases-loop
-decreases-loop table₀ k₀ table k = 256 - k
+abbrev decreases-loop-k : tie.decreases-loop-k
+decreases-loop-k table₀ k₀ table k = 256 - k
 
 pub cell_symbols_spec : {M : Type 1} → statement M
 unfolding cell_symbols cell_symbol
 cell_symbols_spec =
     tie.close
     (tie.spec
-    invariant-loop
-    decreases-loop
+    invariant-loop-k
+    decreases-loop-k
     (λ c. search kit)  -- loop-holds
     (λ c. search kit)  -- cast-byte-of
     (λ c. search kit)  -- cast-byte-of-2

@@ -3,26 +3,26 @@
 use Prim.Native.Nat.{◌-◌}
 use lib.ListN.{length}
 use Rattle.bits.specs.Filling.{Filling, fill}
-use Rattle.cells_spec.specs.Qam16Bytes.{byte_at, bits_filled, legal}
+use Rattle.profiles_spec.proofs.Qam16Bytes.{byte_at, bits_filled, legal}
 use borrow.Author.Rules.{rules}
 use Rattle.mapping_core.proofs.qam16.demap.Statement.{statement}
 use Rattle.mapping_core.proofs.qam16.demap.Tie as tie
 
 ruleset kit = (rules, fill, bits_filled, legal)
 
-abbrev invariant-loop : tie.invariant-loop
-invariant-loop cells bits₀ table i₀ i-end bits i = Filling (byte_at cells) (length bits₀) i bits
+abbrev invariant-loop-i : tie.invariant-loop-i
+invariant-loop-i cells bits₀ table i₀ i-end bits i = Filling (byte_at cells) (length bits₀) i bits
 
-abbrev decreases-loop : tie.decreases-loop
-decreases-loop cells bits₀ table i₀ i-end bits i = length bits₀ - i
+abbrev decreases-loop-i : tie.decreases-loop-i
+decreases-loop-i cells bits₀ table i₀ i-end bits i = length bits₀ - i
 
 pub demap_spec : {M : Type 1} → statement M
 unfolding byte_at
 demap_spec =
     tie.close
     (tie.spec
-    invariant-loop
-    decreases-loop
+    invariant-loop-i
+    decreases-loop-i
     (λ c κs. search kit)  -- cell-symbols-requires
     (λ c. search kit)  -- loop-holds
     (λ c. search kit)  -- mul-symbol-in

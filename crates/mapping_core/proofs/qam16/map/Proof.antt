@@ -3,26 +3,26 @@
 use Prim.Native.Nat.{◌-◌}
 use lib.ListN.{length}
 use Rattle.bits.specs.Filling.{Blocks}
-use Rattle.cells_spec.specs.Qam16Tables.{by_filled_cells, cell_x, cell_y}
-use Rattle.cells_spec.specs.Qam16Bytes.{cells_byte}
+use Rattle.profiles_spec.proofs.Qam16Tables.{by_filled_cells, cell_x, cell_y}
+use Rattle.profiles_spec.proofs.Qam16Bytes.{cells_byte}
 use borrow.Author.Rules.{rules}
 use Rattle.mapping_core.proofs.qam16.map.Statement.{statement}
 use Rattle.mapping_core.proofs.qam16.map.Tie as tie
 
 ruleset kit = (rules, by_filled_cells, cell_x, cell_y)
 
-abbrev invariant-loop : tie.invariant-loop
-invariant-loop bits cells₀ table i₀ i-end cells i = Blocks (cells_byte bits) 2 (length bits) i cells
+abbrev invariant-loop-i : tie.invariant-loop-i
+invariant-loop-i bits cells₀ table i₀ i-end cells i = Blocks (cells_byte bits) 2 (length bits) i cells
 
-abbrev decreases-loop : tie.decreases-loop
-decreases-loop bits cells₀ table i₀ i-end cells i = length bits - i
+abbrev decreases-loop-i : tie.decreases-loop-i
+decreases-loop-i bits cells₀ table i₀ i-end cells i = length bits - i
 
 pub map_spec : {M : Type 1} → statement M
 map_spec =
     tie.close
     (tie.spec
-    invariant-loop
-    decreases-loop
+    invariant-loop-i
+    decreases-loop-i
     (λ c κs. search kit)  -- symbol-cells-requires
     (λ c. search kit)  -- loop-holds
     (λ c. search kit)  -- shared-slice-read-cell-in

@@ -9,19 +9,19 @@ use Rattle.mapping_core.proofs.qam16.symbol_cells.Tie as tie
 
 ruleset kit = (rules, fill)
 
-abbrev invariant-loop : tie.invariant-loop
-invariant-loop table₀ b₀ table b = Filling cell_bytes 256 b table
+abbrev invariant-loop-b : tie.invariant-loop-b
+invariant-loop-b table₀ b₀ table b = Filling cell_bytes 256 b table
 
-abbrev decreases-loop : tie.decreases-loop
-decreases-loop table₀ b₀ table b = 256 - b
+abbrev decreases-loop-b : tie.decreases-loop-b
+decreases-loop-b table₀ b₀ table b = 256 - b
 
 pub symbol_cells_spec : {M : Type 1} → statement M
 unfolding symbol_cells
 symbol_cells_spec =
     tie.close
     (tie.spec
-    invariant-loop
-    decreases-loop
+    invariant-loop-b
+    decreases-loop-b
     (λ c. search kit)  -- loop-holds
     (λ c. search kit)  -- cast-cell-bytes
     (λ c κs. search kit)  -- cell-bytes-requires

@@ -1,6 +1,6 @@
 -- `mapping_core::qam16::symbol_in` meets its contract: the table's entry.
 -- Assumes nothing.
-use Rattle.cells_spec.specs.Qam16Tables.{symbol_entry}
+use Rattle.profiles_spec.proofs.Qam16Tables.{symbol_entry}
 use borrow.Author.Rules.{rules}
 use Rattle.mapping_core.proofs.qam16.symbol_in.Statement.{statement}
 use Rattle.mapping_core.proofs.qam16.symbol_in.Tie as tie

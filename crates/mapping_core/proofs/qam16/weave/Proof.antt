@@ -1,7 +1,7 @@
 -- `mapping_core::qam16::weave` meets its contract: `weave_is`, from what `bit_pair` ensures.
 -- Assumes nothing.
 use borrow.Author.Rules.{rules}
-use Rattle.cells_spec.specs.Qam16Laws.{weave_is}
+use Rattle.cells_spec.proofs.Qam16Laws.{weave_is}
 use Rattle.mapping_core.proofs.qam16.weave.Statement.{statement}
 use Rattle.mapping_core.proofs.qam16.weave.Tie as tie
 
@@ -17,4 +17,4 @@ weave_spec =
     (λ c. search rules)  -- mul-result-3
     (λ c. search rules)  -- add-result-2
     (λ c. search rules)  -- add-result-3
-    (λ c. weave_is c.before.before.args.x c.before.before.args.y c.before.bit-pair.result c.bit-pair2.result c.before.bit-pair.ensures c.bit-pair2.ensures))  -- returns
+    (λ c. weave_is c.before.before.args.x c.before.before.args.y c.before.bit_pair-p.result c.bit_pair-q.result c.before.bit_pair-p.ensures c.bit_pair-q.ensures))  -- returns

@@ -9,19 +9,19 @@ use Rattle.mending_core.proofs.collecting.paired.Tie as tie
 
 ruleset kit = (rules, fill)
 
-abbrev invariant-loop : tie.invariant-loop
-invariant-loop sums b₀ i₀ b i = Filling (paired_sum sums) 8 i b
+abbrev invariant-loop-i : tie.invariant-loop-i
+invariant-loop-i sums b₀ i₀ b i = Filling (paired_sum sums) 8 i b
 
-abbrev decreases-loop : tie.decreases-loop
-decreases-loop sums b₀ i₀ b i = 8 - i
+abbrev decreases-loop-i : tie.decreases-loop-i
+decreases-loop-i sums b₀ i₀ b i = 8 - i
 
 pub paired_spec : {M : Type 1} → statement M
 unfolding paired_sums paired_sum
 paired_spec =
     tie.close
     (tie.spec
-    invariant-loop
-    decreases-loop
+    invariant-loop-i
+    decreases-loop-i
     (λ c. search kit)  -- loop-holds
     (λ c. search kit)  -- sub-pair-up
     (λ c. search kit)  -- mul-pair-up

@@ -1,6 +1,6 @@
 -- `mending_core::collecting::syndromes` meets its contract.
 -- Assumes nothing.
-use Rattle.gathering_spec.specs.Collecting.{syndromes_made, last_lt}
+use Rattle.gathering_spec.proofs.Collecting.{syndromes_made, last_lt}
 use borrow.Author.Rules.{rules}
 use Rattle.mending_core.proofs.collecting.syndromes.Statement.{statement}
 use Rattle.mending_core.proofs.collecting.syndromes.Tie as tie

@@ -17,4 +17,4 @@ flip_if_spec =
     (λ c. search rules)  -- shl-s
     (λ c. search rules)  -- slice-write-s
     (λ c. search rules)  -- same-length
-    (λ c. buffer_flip c.before.args.s.now c.before.args.i c.before.args.b c.before.requires.0 (λ j. (c.slice-known.given j).fits) c.before.requires.1))  -- returns
+    (λ c. buffer_flip c.before.args.s.now c.before.args.i c.before.args.b c.before.requires.0 (λ j. (c.slice_known-1.given j).fits) c.before.requires.1))  -- returns

@@ -8,18 +8,18 @@ use Rattle.mending_core.proofs.mending.no_marks.Tie as tie
 
 ruleset kit = (rules, fill)
 
-abbrev invariant-loop : tie.invariant-loop
-invariant-loop marks₀ w₀ marks w = Filling (λ w. 0) 32 w marks
+abbrev invariant-loop-w : tie.invariant-loop-w
+invariant-loop-w marks₀ w₀ marks w = Filling (λ w. 0) 32 w marks
 
-abbrev decreases-loop : tie.decreases-loop
-decreases-loop marks₀ w₀ marks w = 32 - w
+abbrev decreases-loop-w : tie.decreases-loop-w
+decreases-loop-w marks₀ w₀ marks w = 32 - w
 
 pub no_marks_spec : {M : Type 1} → statement M
 no_marks_spec =
     tie.close
     (tie.spec
-    invariant-loop
-    decreases-loop
+    invariant-loop-w
+    decreases-loop-w
     (λ c. search kit)  -- loop-holds
     (λ c. search kit)  -- slice-write-marks
     (λ c. search kit)  -- add-w

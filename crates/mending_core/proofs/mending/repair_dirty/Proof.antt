@@ -8,18 +8,18 @@ use Rattle.mending_core.proofs.mending.repair_dirty.Tie as tie
 
 ruleset kit = (rules, passing)
 
-abbrev invariant-loop : tie.invariant-loop
-invariant-loop halves₀ coded₀ numbers odd dirty front table logs cubes roots marks₀ pass₀ halves coded marks pass = Passing numbers odd dirty front halves₀ coded₀ pass halves coded marks
+abbrev invariant-loop-pass : tie.invariant-loop-pass
+invariant-loop-pass halves₀ coded₀ numbers odd dirty front table logs cubes roots marks₀ pass₀ halves coded marks pass = Passing numbers odd dirty front halves₀ coded₀ pass halves coded marks
 
-abbrev decreases-loop : tie.decreases-loop
-decreases-loop halves₀ coded₀ numbers odd dirty front table logs cubes roots marks₀ pass₀ halves coded marks pass = 2 - pass
+abbrev decreases-loop-pass : tie.decreases-loop-pass
+decreases-loop-pass halves₀ coded₀ numbers odd dirty front table logs cubes roots marks₀ pass₀ halves coded marks pass = 2 - pass
 
 pub repair_dirty_spec : {M : Type 1} → statement M
 repair_dirty_spec =
     tie.close
     (tie.spec
-    invariant-loop
-    decreases-loop
+    invariant-loop-pass
+    decreases-loop-pass
     (λ c κs. search kit)  -- no-marks-requires
     (λ c. search kit)  -- loop-holds
     (λ c κs. search kit)  -- set-of-requires

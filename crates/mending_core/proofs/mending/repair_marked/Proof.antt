@@ -7,18 +7,18 @@ use Rattle.mending_core.proofs.mending.repair_marked.Tie as tie
 
 ruleset kit = (rules, going)
 
-abbrev invariant-loop : tie.invariant-loop
-invariant-loop halves₀ coded₀ set numbers odd front table logs cubes roots marks₀ left₀ halves coded marks left = Going numbers odd front set halves₀ coded₀ marks₀ left halves coded marks
+abbrev invariant-loop-left : tie.invariant-loop-left
+invariant-loop-left halves₀ coded₀ set numbers odd front table logs cubes roots marks₀ left₀ halves coded marks left = Going numbers odd front set halves₀ coded₀ marks₀ left halves coded marks
 
-abbrev decreases-loop : tie.decreases-loop
-decreases-loop halves₀ coded₀ set numbers odd front table logs cubes roots marks₀ left₀ halves coded marks left = left
+abbrev decreases-loop-left : tie.decreases-loop-left
+decreases-loop-left halves₀ coded₀ set numbers odd front table logs cubes roots marks₀ left₀ halves coded marks left = left
 
 pub repair_marked_spec : {M : Type 1} → statement M
 repair_marked_spec =
     tie.close
     (tie.spec
-    invariant-loop
-    decreases-loop
+    invariant-loop-left
+    decreases-loop-left
     (λ c. search kit)  -- loop-holds
     (λ c κs. search kit)  -- first-word-requires
     (λ c κs. search kit)  -- repair-word-requires

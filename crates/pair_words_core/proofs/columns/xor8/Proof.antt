@@ -2,7 +2,7 @@
 -- Assumes nothing.
 use mathlib.Core.Path.{refl}
 use Rattle.bits.specs.Xor.{◌⊕◌}
-use Rattle.bits.specs.XorLaws.{⊕_lt}
+use Rattle.bits.proofs.XorLaws.{⊕_lt}
 use Rattle.pair_words_core.proofs.columns.xor8.Statement.{statement}
 use Rattle.pair_words_core.proofs.columns.xor8.Tie as tie
 

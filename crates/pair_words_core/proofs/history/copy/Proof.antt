@@ -10,18 +10,18 @@ use Rattle.pair_words_core.proofs.history.copy.Tie as tie
 
 ruleset kit = (rules, fill, copy_done)
 
-abbrev invariant-loop : tie.invariant-loop
-invariant-loop from to₀ i₀ i-end to i = Filling (λ k. get_or from k 0) (length from) i to
+abbrev invariant-loop-i : tie.invariant-loop-i
+invariant-loop-i from to₀ i₀ i-end to i = Filling (λ k. get_or from k 0) (length from) i to
 
-abbrev decreases-loop : tie.decreases-loop
-decreases-loop from to₀ i₀ i-end to i = length from - i
+abbrev decreases-loop-i : tie.decreases-loop-i
+decreases-loop-i from to₀ i₀ i-end to i = length from - i
 
 pub copy_spec : {M : Type 1} → statement M
 copy_spec =
     tie.close
     (tie.spec
-    invariant-loop
-    decreases-loop
+    invariant-loop-i
+    decreases-loop-i
     (λ c. search kit)  -- loop-holds
     (λ c. search kit)  -- shared-slice-read-to
     (λ c. search kit)  -- slice-write-to

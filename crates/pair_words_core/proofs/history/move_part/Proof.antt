@@ -8,18 +8,18 @@ use Rattle.pair_words_core.proofs.history.move_part.Tie as tie
 
 ruleset kit = (rules, moving)
 
-abbrev invariant-loop : tie.invariant-loop
-invariant-loop history₀ from to i₀ history i = Moving 512 history₀ from to i history
+abbrev invariant-loop-i : tie.invariant-loop-i
+invariant-loop-i history₀ from to i₀ history i = Moving 512 history₀ from to i history
 
-abbrev decreases-loop : tie.decreases-loop
-decreases-loop history₀ from to i₀ history i = to - i
+abbrev decreases-loop-i : tie.decreases-loop-i
+decreases-loop-i history₀ from to i₀ history i = to - i
 
 pub move_part_spec : {M : Type 1} → statement M
 move_part_spec =
     tie.close
     (tie.spec
-    invariant-loop
-    decreases-loop
+    invariant-loop-i
+    decreases-loop-i
     (λ c. search kit)  -- loop-holds
     (λ c. search kit)  -- add-history
     (λ c. search kit)  -- slice-read-history

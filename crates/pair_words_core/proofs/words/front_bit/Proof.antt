@@ -26,4 +26,4 @@ front_bit_spec =
     (λ c.
     let a = c.before in
     let s = a.before.before in
-    (front_bit_is s.args.history.now s.args.w s.args.k a.xor16.result _ _ a.xor16.ensures.0 refl refl, exchanged_lt _ _)))  -- returns
+    (front_bit_is s.args.history.now s.args.w s.args.k a.xor16-a.result _ _ a.xor16-a.ensures.0 refl refl, exchanged_lt _ _)))  -- returns

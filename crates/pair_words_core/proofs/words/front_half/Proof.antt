@@ -11,18 +11,18 @@ use Rattle.pair_words_core.proofs.words.front_half.Tie as tie
 
 ruleset kit = (rules, fill, front_zeros, front_stored_lem)
 
-abbrev invariant-loop : tie.invariant-loop
-invariant-loop history pair w word₀ b₀ word b = Filling (byte_of (front_stored history w)) 32 (2 * b) word
+abbrev invariant-loop-b : tie.invariant-loop-b
+invariant-loop-b history pair w word₀ b₀ word b = Filling (byte_of (front_stored history w)) 32 (2 * b) word
 
-abbrev decreases-loop : tie.decreases-loop
-decreases-loop history pair w word₀ b₀ word b = 8 - b
+abbrev decreases-loop-b : tie.decreases-loop-b
+decreases-loop-b history pair w word₀ b₀ word b = 8 - b
 
 pub front_half_spec : {M : Type 1} → statement M
 front_half_spec =
     tie.close
     (tie.spec
-    invariant-loop
-    decreases-loop
+    invariant-loop-b
+    decreases-loop-b
     (λ c. search kit)  -- returns
     (λ c. search kit)  -- loop-holds
     (λ c. search kit)  -- mul-j
@@ -33,5 +33,5 @@ front_half_spec =
     (λ c. search kit)  -- array-write-word-2
     (λ c. search kit)  -- add-b
     (λ c. search kit)  -- loop-less
-    (λ c. let a = c.before.before.before in fill_two _ _ a.loop.invariant (omega arith) c.before.front-byte.ensures c.front-byte2.ensures (omega arith))  -- loop-again
+    (λ c. let a = c.before.before.before in fill_two _ _ a.loop-b.invariant (omega arith) c.before.front_byte.ensures c.front_byte-in-loop-b.ensures (omega arith))  -- loop-again
     (λ c. search kit))  -- returns-2

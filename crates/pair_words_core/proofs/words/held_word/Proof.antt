@@ -12,19 +12,19 @@ use Rattle.pair_words_core.proofs.words.held_word.Tie as tie
 
 ruleset kit = (rules, fill, held_start, held_byte)
 
-abbrev invariant-loop : tie.invariant-loop
-invariant-loop history coded pair w word₀ j₀ word j = (16 ≤ j) × Filling (byte_of (held_word depth history pair coded w)) 32 j word
+abbrev invariant-loop-j : tie.invariant-loop-j
+invariant-loop-j history coded pair w word₀ j₀ word j = (16 ≤ j) × Filling (byte_of (held_word depth history pair coded w)) 32 j word
 
-abbrev decreases-loop : tie.decreases-loop
-decreases-loop history coded pair w word₀ j₀ word j = 32 - j
+abbrev decreases-loop-j : tie.decreases-loop-j
+decreases-loop-j history coded pair w word₀ j₀ word j = 32 - j
 
 pub held_word_spec : {M : Type 1} → statement M
 unfolding pack
 held_word_spec =
     tie.close
     (tie.spec
-    invariant-loop
-    decreases-loop
+    invariant-loop-j
+    decreases-loop-j
     (λ c κs. search kit)  -- front-half-requires
     (λ c. search kit)  -- loop-holds
     (λ c. search kit)  -- mul-coded-byte

@@ -13,19 +13,19 @@ use Rattle.pair_words_core.proofs.words.open_word.Tie as tie
 
 ruleset kit = (rules, fill, open_start, open_byte)
 
-abbrev invariant-loop : tie.invariant-loop
-invariant-loop history payload pair w word₀ j₀ word j = (16 ≤ j) × Filling (byte_of (first_bits (open_word depth history pair payload w))) 32 j word
+abbrev invariant-loop-j : tie.invariant-loop-j
+invariant-loop-j history payload pair w word₀ j₀ word j = (16 ≤ j) × Filling (byte_of (first_bits (open_word depth history pair payload w))) 32 j word
 
-abbrev decreases-loop : tie.decreases-loop
-decreases-loop history payload pair w word₀ j₀ word j = 32 - j
+abbrev decreases-loop-j : tie.decreases-loop-j
+decreases-loop-j history payload pair w word₀ j₀ word j = 32 - j
 
 pub open_word_spec : {M : Type 1} → statement M
 unfolding pack
 open_word_spec =
     tie.close
     (tie.spec
-    invariant-loop
-    decreases-loop
+    invariant-loop-j
+    decreases-loop-j
     (λ c κs. search kit)  -- front-half-requires
     (λ c. search kit)  -- loop-holds
     (λ c κs. search kit)  -- own-byte-requires

@@ -1,7 +1,7 @@
 -- `pair_words_core::words::xor16` meets its contract.
 -- Assumes nothing.
 use Rattle.bits.specs.Xor.{◌⊕◌}
-use Rattle.pair_spec.specs.RowLaws.{xor_16}
+use Rattle.pair_spec.proofs.RowLaws.{xor_16}
 use borrow.Author.Rules.{rules}
 use Rattle.pair_words_core.proofs.words.xor16.Statement.{statement}
 use Rattle.pair_words_core.proofs.words.xor16.Tie as tie

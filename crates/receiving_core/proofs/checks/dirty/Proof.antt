@@ -1,7 +1,8 @@
 -- `receiving_core::checks::dirty` meets its contract: sum by sum.
 -- Assumes nothing.
 use Prim.Native.Nat.{◌-◌}
-use Rattle.gathering_spec.specs.Dirty.{Joining, joining}
+use Rattle.gathering_spec.specs.Dirty.{Joining}
+use Rattle.gathering_spec.proofs.Dirty.{joining}
 use borrow.Author.Rules.{rules}
 use Rattle.receiving_core.proofs.checks.dirty.Statement.{statement}
 use Rattle.receiving_core.proofs.checks.dirty.Tie as tie

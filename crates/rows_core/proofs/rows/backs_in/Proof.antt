@@ -10,19 +10,19 @@ use Rattle.rows_core.proofs.rows.backs_in.Tie as tie
 
 ruleset kit = (rules, laying, row_blocks)
 
-abbrev invariant-loop : tie.invariant-loop
-invariant-loop words row₀ block₀ row block = Laid (backs_block words) block row
+abbrev invariant-loop-block : tie.invariant-loop-block
+invariant-loop-block words row₀ block₀ row block = Laid (backs_block words) block row
 
-abbrev decreases-loop : tie.decreases-loop
-decreases-loop words row₀ block₀ row block = 8 - block
+abbrev decreases-loop-block : tie.decreases-loop-block
+decreases-loop-block words row₀ block₀ row block = 8 - block
 
 pub backs_in_spec : {M : Type 1} → statement M
 unfolding backs_in
 backs_in_spec =
     tie.close
     (tie.spec
-    invariant-loop
-    decreases-loop
+    invariant-loop-block
+    decreases-loop-block
     (λ c. search kit)  -- loop-holds
     (λ c. search kit)  -- slice-aggregate-lay
     (λ c κs. search kit)  -- block-of-requires

@@ -14,4 +14,4 @@ coded_row_spec =
     (λ c. search kit)  -- mul-row-words
     (λ c κs. search kit)  -- row-words-requires
     (λ c κs. search kit)  -- backs-in-requires
-    (λ c. halves_row _ _ _ _ c.before.before.row_words.ensures c.backs-in.ensures))  -- returns
+    (λ c. halves_row _ _ _ _ c.before.before.row_words-words.ensures c.backs_in.ensures))  -- returns

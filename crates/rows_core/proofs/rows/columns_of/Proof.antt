@@ -10,19 +10,19 @@ use Rattle.rows_core.proofs.rows.columns_of.Tie as tie
 
 ruleset kit = (rules, laying, row_blocks)
 
-abbrev invariant-loop : tie.invariant-loop
-invariant-loop halves s row₀ block₀ row block = Laid (columns_block halves s) block row
+abbrev invariant-loop-block : tie.invariant-loop-block
+invariant-loop-block halves s row₀ block₀ row block = Laid (columns_block halves s) block row
 
-abbrev decreases-loop : tie.decreases-loop
-decreases-loop halves s row₀ block₀ row block = 8 - block
+abbrev decreases-loop-block : tie.decreases-loop-block
+decreases-loop-block halves s row₀ block₀ row block = 8 - block
 
 pub columns_of_spec : {M : Type 1} → statement M
 unfolding columns_of
 columns_of_spec =
     tie.close
     (tie.spec
-    invariant-loop
-    decreases-loop
+    invariant-loop-block
+    decreases-loop-block
     (λ c. search kit)  -- loop-holds
     (λ c κs. search kit)  -- half-block-requires
     (λ c κs. search kit)  -- transpose-requires

@@ -10,19 +10,19 @@ use Rattle.rows_core.proofs.rows.front_block.Tie as tie
 
 ruleset kit = (rules, fill)
 
-abbrev invariant-loop : tie.invariant-loop
-invariant-loop history from block b₀ i₀ b i = Filling (λ i. read_word history (514 * block + 16 * i + from)) 16 i b
+abbrev invariant-loop-i : tie.invariant-loop-i
+invariant-loop-i history from block b₀ i₀ b i = Filling (λ i. read_word history (514 * block + 16 * i + from)) 16 i b
 
-abbrev decreases-loop : tie.decreases-loop
-decreases-loop history from block b₀ i₀ b i = 16 - i
+abbrev decreases-loop-i : tie.decreases-loop-i
+decreases-loop-i history from block b₀ i₀ b i = 16 - i
 
 pub front_block_spec : {M : Type 1} → statement M
 unfolding front_block
 front_block_spec =
     tie.close
     (tie.spec
-    invariant-loop
-    decreases-loop
+    invariant-loop-i
+    decreases-loop-i
     (λ c. search kit)  -- loop-holds
     (λ c. search kit)  -- mul-read-word
     (λ c. search kit)  -- mul-read-word-2

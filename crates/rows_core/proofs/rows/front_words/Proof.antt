@@ -10,19 +10,19 @@ use Rattle.rows_core.proofs.rows.front_words.Tie as tie
 
 ruleset kit = (rules, laying, first_block)
 
-abbrev invariant-loop : tie.invariant-loop
-invariant-loop history from words₀ block₀ words block = Laid (front_block history from) block words
+abbrev invariant-loop-block : tie.invariant-loop-block
+invariant-loop-block history from words₀ block₀ words block = Laid (front_block history from) block words
 
-abbrev decreases-loop : tie.decreases-loop
-decreases-loop history from words₀ block₀ words block = 8 - block
+abbrev decreases-loop-block : tie.decreases-loop-block
+decreases-loop-block history from words₀ block₀ words block = 8 - block
 
 pub front_words_spec : {M : Type 1} → statement M
 unfolding front_words
 front_words_spec =
     tie.close
     (tie.spec
-    invariant-loop
-    decreases-loop
+    invariant-loop-block
+    decreases-loop-block
     (λ c κs. search kit)  -- row-words-requires
     (λ c. search kit)  -- loop-holds
     (λ c. search kit)  -- slice-aggregate-lay

@@ -10,19 +10,19 @@ use Rattle.rows_core.proofs.rows.half_block.Tie as tie
 
 ruleset kit = (rules, fill)
 
-abbrev invariant-loop : tie.invariant-loop
-invariant-loop halves s block b₀ r₀ b r = Filling (λ r. get_or halves (128 * s + 8 * r + block) 0) 16 r b
+abbrev invariant-loop-r : tie.invariant-loop-r
+invariant-loop-r halves s block b₀ r₀ b r = Filling (λ r. get_or halves (128 * s + 8 * r + block) 0) 16 r b
 
-abbrev decreases-loop : tie.decreases-loop
-decreases-loop halves s block b₀ r₀ b r = 16 - r
+abbrev decreases-loop-r : tie.decreases-loop-r
+decreases-loop-r halves s block b₀ r₀ b r = 16 - r
 
 pub half_block_spec : {M : Type 1} → statement M
 unfolding half_block
 half_block_spec =
     tie.close
     (tie.spec
-    invariant-loop
-    decreases-loop
+    invariant-loop-r
+    decreases-loop-r
     (λ c. search kit)  -- loop-holds
     (λ c. search kit)  -- mul-b
     (λ c. search kit)  -- mul-b-2

@@ -2,7 +2,7 @@
 -- Assumes nothing.
 use Prim.Native.Nat.{◌-◌}
 use Rattle.bits.specs.Filling.{Blocks, by_blocks}
-use Rattle.bits.specs.PartLaws.{part_long}
+use Rattle.bits.proofs.PartLaws.{part_long}
 use Rattle.rows_core.specs.RowWords.{coded_half, coded_halves}
 use borrow.Author.Rules.{rules}
 use Rattle.rows_core.proofs.rows.put_halves.Statement.{statement}
@@ -10,19 +10,19 @@ use Rattle.rows_core.proofs.rows.put_halves.Tie as tie
 
 ruleset kit = (rules, by_blocks, part_long)
 
-abbrev invariant-loop : tie.invariant-loop
-invariant-loop coded halves₀ s₀ halves s = Blocks (coded_half coded) 128 2 s halves
+abbrev invariant-loop-s : tie.invariant-loop-s
+invariant-loop-s coded halves₀ s₀ halves s = Blocks (coded_half coded) 128 2 s halves
 
-abbrev decreases-loop : tie.decreases-loop
-decreases-loop coded halves₀ s₀ halves s = 2 - s
+abbrev decreases-loop-s : tie.decreases-loop-s
+decreases-loop-s coded halves₀ s₀ halves s = 2 - s
 
 pub put_halves_spec : {M : Type 1} → statement M
 unfolding coded_halves
 put_halves_spec =
     tie.close
     (tie.spec
-    invariant-loop
-    decreases-loop
+    invariant-loop-s
+    decreases-loop-s
     (λ c. search kit)  -- loop-holds
     (λ c. search kit)  -- mul-a
     (λ c. search kit)  -- add-e

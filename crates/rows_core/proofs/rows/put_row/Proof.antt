@@ -10,18 +10,18 @@ use Rattle.rows_core.proofs.rows.put_row.Tie as tie
 
 ruleset kit = (rules, fill, half_copied)
 
-abbrev invariant-loop : tie.invariant-loop
-invariant-loop coded s row₀ from i₀ row i = Filling (λ i. coded_half coded (s * 128 + i)) 128 i row
+abbrev invariant-loop-i : tie.invariant-loop-i
+invariant-loop-i coded s row₀ from i₀ row i = Filling (λ i. coded_half coded (s * 128 + i)) 128 i row
 
-abbrev decreases-loop : tie.decreases-loop
-decreases-loop coded s row₀ from i₀ row i = 128 - i
+abbrev decreases-loop-i : tie.decreases-loop-i
+decreases-loop-i coded s row₀ from i₀ row i = 128 - i
 
 pub put_row_spec : {M : Type 1} → statement M
 put_row_spec =
     tie.close
     (tie.spec
-    invariant-loop
-    decreases-loop
+    invariant-loop-i
+    decreases-loop-i
     (λ c κs. search kit)  -- coded-row-requires
     (λ c. search kit)  -- loop-holds
     (λ c. search kit)  -- mul-row

@@ -9,18 +9,18 @@ use Rattle.rows_core.proofs.rows.put_words.Tie as tie
 
 ruleset kit = (rules, fill)
 
-abbrev invariant-loop : tie.invariant-loop
-invariant-loop s from i out₀ c₀ out c = Filling (λ c. read_word s (from + 2 * (i * 8 + c))) 8 c out
+abbrev invariant-loop-c : tie.invariant-loop-c
+invariant-loop-c s from i out₀ c₀ out c = Filling (λ c. read_word s (from + 2 * (i * 8 + c))) 8 c out
 
-abbrev decreases-loop : tie.decreases-loop
-decreases-loop s from i out₀ c₀ out c = 8 - c
+abbrev decreases-loop-c : tie.decreases-loop-c
+decreases-loop-c s from i out₀ c₀ out c = 8 - c
 
 pub put_words_spec : {M : Type 1} → statement M
 put_words_spec =
     tie.close
     (tie.spec
-    invariant-loop
-    decreases-loop
+    invariant-loop-c
+    decreases-loop-c
     (λ c. search kit)  -- loop-holds
     (λ c. search kit)  -- mul-read-word
     (λ c. search kit)  -- add-read-word

@@ -10,19 +10,19 @@ use Rattle.rows_core.proofs.rows.row_words.Tie as tie
 
 ruleset kit = (rules, by_blocks)
 
-abbrev invariant-loop : tie.invariant-loop
-invariant-loop s from words₀ i₀ words i = Blocks (λ x. read_word s (from + 2 * x)) 8 16 i words
+abbrev invariant-loop-i : tie.invariant-loop-i
+invariant-loop-i s from words₀ i₀ words i = Blocks (λ x. read_word s (from + 2 * x)) 8 16 i words
 
-abbrev decreases-loop : tie.decreases-loop
-decreases-loop s from words₀ i₀ words i = 16 - i
+abbrev decreases-loop-i : tie.decreases-loop-i
+decreases-loop-i s from words₀ i₀ words i = 16 - i
 
 pub row_words_spec : {M : Type 1} → statement M
 unfolding row_words
 row_words_spec =
     tie.close
     (tie.spec
-    invariant-loop
-    decreases-loop
+    invariant-loop-i
+    decreases-loop-i
     (λ c. search kit)  -- loop-holds
     (λ c. search kit)  -- mul-a
     (λ c. search kit)  -- add-e

@@ -10,19 +10,19 @@ use Rattle.rows_core.proofs.rows.turned_rows.Tie as tie
 
 ruleset kit = (rules, fill)
 
-abbrev invariant-loop : tie.invariant-loop
-invariant-loop b y₀ i₀ y i = Filling (λ i. get_or b ((i + 8) % 16) 0) 16 i y
+abbrev invariant-loop-i : tie.invariant-loop-i
+invariant-loop-i b y₀ i₀ y i = Filling (λ i. get_or b ((i + 8) % 16) 0) 16 i y
 
-abbrev decreases-loop : tie.decreases-loop
-decreases-loop b y₀ i₀ y i = 16 - i
+abbrev decreases-loop-i : tie.decreases-loop-i
+decreases-loop-i b y₀ i₀ y i = 16 - i
 
 pub turned_rows_spec : {M : Type 1} → statement M
 unfolding turned_rows
 turned_rows_spec =
     tie.close
     (tie.spec
-    invariant-loop
-    decreases-loop
+    invariant-loop-i
+    decreases-loop-i
     (λ c. search kit)  -- loop-holds
     (λ c. search kit)  -- add-y
     (λ c. search kit)  -- mul-y

@@ -1,8 +1,8 @@
 -- `word::syndrome::locator` meets its contract: the table of powers, and 0 for the last place.
 -- Assumes nothing.
 use borrow.Author.Rules.{rules}
-use Rattle.word_spec.specs.SyndromeLaws.{locator_end}
-use Rattle.locating_core.specs.Finding.{locator_in}
+use Rattle.word_spec.proofs.SyndromeLaws.{locator_end}
+use Rattle.locating_core.proofs.Finding.{locator_in}
 use Rattle.word.proofs.syndrome.locator.Statement.{statement}
 use Rattle.word.proofs.syndrome.locator.Tie as tie
 

@@ -12,18 +12,18 @@ use Rattle.word.proofs.syndrome.tail_syndromes.Tie as tie
 
 ruleset kit = (rules, absorbing, tailing)
 
-abbrev invariant-loop : tie.invariant-loop
-invariant-loop v table cubes s₀ k₀ s k = (239 ≤ k) × Absorbing (tail v) k s
+abbrev invariant-loop-k : tie.invariant-loop-k
+invariant-loop-k v table cubes s₀ k₀ s k = (239 ≤ k) × Absorbing (tail v) k s
 
-abbrev decreases-loop : tie.decreases-loop
-decreases-loop v table cubes s₀ k₀ s k = 256 - k
+abbrev decreases-loop-k : tie.decreases-loop-k
+decreases-loop-k v table cubes s₀ k₀ s k = 256 - k
 
 pub tail_syndromes_spec : {M : Type 1} → statement M
 tail_syndromes_spec =
     tie.close
     (tie.spec
-    invariant-loop
-    decreases-loop
+    invariant-loop-k
+    decreases-loop-k
     (λ c. search kit)  -- loop-holds
     (λ c. search kit)  -- sub-b
     (λ c. search kit)  -- cast-b
@@ -34,6 +34,6 @@ tail_syndromes_spec =
     (λ c. search kit)  -- loop-less
     (λ c.
     let a = c.before.before in
-    let l = a.loop.invariant.0 in
-    (omega arith, absorb_more _ _ a.loop.invariant.1 (omega arith) (omega arith) (tail_bit a.before.args.v a.loop.k _ l refl) c.absorb.ensures))  -- loop-again
+    let l = a.loop-k.invariant.0 in
+    (omega arith, absorb_more _ _ a.loop-k.invariant.1 (omega arith) (omega arith) (tail_bit a.before.args.v a.loop-k.k _ l refl) c.absorb-s.ensures))  -- loop-again
     (λ c. search kit))  -- returns

@@ -1,0 +1,2 @@
+-- Definitions; the laws about them stand in proofs/.
+pub mod Profiles
