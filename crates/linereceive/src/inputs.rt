@@ -1,5 +1,5 @@
 // The files that are read: the line file, for its overhead list, and the capture, for its frames.
-ghost use Rattle.std.specs.Prelude.{◌≤◌, IfOk};
+ghost use Rattle.std.specs.Prelude.{◌≡◌, ◌≤◌, IfOk};
 
 use crate::say;
 use files::message;
@@ -93,7 +93,9 @@ pub fn read_list<R: Env + Eprint, F: Read + Seek>(
 }
 
 // Goes to the frames of the capture.
-pub fn seek_frames<F: Seek>(capture: &mut Input<F>) {
+pub fn seek_frames<F: Seek>(capture: &mut Input<F>)
+    ensures { capture.new.superframes ≡ capture.old.superframes }
+{
     seek(&mut capture.file, capture.frames);
 }
 

@@ -5,10 +5,9 @@ use Rattle.cells_spec.proofs.ModulationLaws.{pairs_after}
 use Rattle.linereceive.proofs.receiving.receive_next.Goals as goal
 
 pub returns : goal.returns
-returns g c =
-    (
-      search rules,
-      search rules,
-      search rules,
-      λ z. both_at _ _ (c.receive_from.ensures.3 z) (pairs_after _ _ _ _ c.first_pair.ensures.0 refl),
-    )
+returns g c = (
+  search rules,
+  search rules,
+  search rules,
+  λ z. both_at _ _ (c.receive_from.ensures.3 z) (pairs_after _ _ _ _ c.first_pair.ensures.0 refl),
+)
