@@ -1,4 +1,4 @@
--- Laws of specs/QpskLaws.antt.
+-- Laws of QPSK: a symbol and its cell in closed forms, as the code has them, and the facts of the profile.
 -- Assumes nothing.
 use Rattle.std.specs.Prelude.{◌||◌, ◌≡◌, refl, Bool, true, false, ℕ, zero, suc, ◌/◌, ◌%◌, ◌<◌, T, eqb, ℤ, pos, neg_ℤ}
 use Rattle.std.proofs.Common.{sym, ap₂, ◌∙◌, div-one, arith, eq-eqb, ne_eqb, leb-false, eqb→eq}

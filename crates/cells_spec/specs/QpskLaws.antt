@@ -1,4 +1,4 @@
--- Laws of QPSK: a symbol and its cell in closed forms, as the code has them, and the facts of the profile.
+-- The symbol of a cell of QPSK in a closed form, as the code has it; that it is so is a law (proofs/QpskLaws.antt).
 -- Assumes nothing.
 use Rattle.std.specs.Prelude.{ℕ, ◌+◌, ◌*◌, ◌/◌, ◌%◌}
 

@@ -1,4 +1,5 @@
--- Laws of specs/LegalLaws.antt.
+-- The first illegal byte of a frame, as the code finds it. For 16-QAM a payload byte is legal where an overhead byte is, so that one
+-- search serves the whole frame; otherwise the frame and its payload are judged whole, and searched cell by cell where one is not legal.
 -- Assumes nothing.
 use Rattle.std.specs.Prelude.{◌≡◌, refl, true, false, List, ◌≢◌, ℕ, ◌*◌, ◌/◌, ◌%◌, ◌<◌, ◌≤◌, leb, length, get_or}
 use Rattle.std.proofs.Math.Path.{ap}

@@ -1,4 +1,4 @@
--- Laws of specs/RunLaws.antt.
+-- Laws for the workers that go by runs: a sub-frame is 116 groups of a pilot and 31 other cells, and past the edge those carry payload.
 -- Assumes nothing.
 use Rattle.std.specs.Prelude.{◌≡◌, List, ◌≢◌, length, set}
 use Rattle.std.proofs.Math.Path.{refl, ap, ap₂}

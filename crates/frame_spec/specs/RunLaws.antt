@@ -1,4 +1,5 @@
--- Laws for the workers that go by runs: a sub-frame is 116 groups of a pilot and 31 other cells, and past the edge those carry payload.
+-- What the workers that go by runs have done of a frame: a sub-frame is 116 groups of a pilot and 31 other cells, and past the edge those
+-- carry payload.
 -- Assumes nothing.
 use Rattle.std.specs.Prelude.{List}
 use Prim.Native.Nat.{ℕ, ◌+◌, ◌-◌, ◌*◌, ◌≤◌}

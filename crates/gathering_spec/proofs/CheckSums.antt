@@ -15,7 +15,7 @@ use Rattle.gf256.specs.Linear.{Linear, additive, lin, bit_through, sum_through}
 use Rattle.word_spec.specs.CodeWord.{Word, parity}
 use Rattle.word_spec.specs.Completion.{first_bits, completed}
 use Rattle.word_spec.proofs.CheckBitLaws.{check_bits, check_parity}
-use Rattle.word_spec.specs.Syndromes.{S1, S3, S1Checks, S3Checks}
+use Rattle.word_spec.specs.Syndromes.{S1, S3, S1_checks, S3_checks}
 use Rattle.networks_spec.specs.Networks.{network, check_columns}
 use Rattle.networks_spec.proofs.NetworkLaws.{bit_of_⊕, digit_linear, network_shows, lin_sum}
 use Rattle.gathering_spec.specs.Sums.{Gathered, Parities, check_place}
@@ -42,17 +42,17 @@ place_lt i l = go (dec_lt i 7) (dec_lt i 8)
 
 -- ---- the columns
 
-check_columns_lem : (i j : ℕ) → i < 16 → j < 16 → get_or check_columns j 0 / 2 ^ i % 2 ≡ get_or (S1Checks ++ S3Checks) j 0 / 2 ^ (254 - check_place i) % 2
-unfolding check_columns S1Checks S3Checks check_place
-check_columns_lem = grid 16 16 (λ i j. get_or check_columns j 0 / 2 ^ i % 2) (λ i j. get_or (S1Checks ++ S3Checks) j 0 / 2 ^ (254 - check_place i) % 2) tt
+check_columns_lem : (i j : ℕ) → i < 16 → j < 16 → get_or check_columns j 0 / 2 ^ i % 2 ≡ get_or (S1_checks ++ S3_checks) j 0 / 2 ^ (254 - check_place i) % 2
+unfolding check_columns S1_checks S3_checks check_place
+check_columns_lem = grid 16 16 (λ i j. get_or check_columns j 0 / 2 ^ i % 2) (λ i j. get_or (S1_checks ++ S3_checks) j 0 / 2 ^ (254 - check_place i) % 2) tt
 
-first_eight : (j : ℕ) → j < 8 → get_or (S1Checks ++ S3Checks) j 0 ≡ get_or S1Checks j 0
-unfolding S1Checks S3Checks
-first_eight = agree 8 (λ j. get_or (S1Checks ++ S3Checks) j 0) (λ j. get_or S1Checks j 0) tt
+first_eight : (j : ℕ) → j < 8 → get_or (S1_checks ++ S3_checks) j 0 ≡ get_or S1_checks j 0
+unfolding S1_checks S3_checks
+first_eight = agree 8 (λ j. get_or (S1_checks ++ S3_checks) j 0) (λ j. get_or S1_checks j 0) tt
 
-last_eight : (j : ℕ) → j < 8 → get_or (S1Checks ++ S3Checks) (8 + j) 0 ≡ get_or S3Checks j 0
-unfolding S1Checks S3Checks
-last_eight = agree 8 (λ j. get_or (S1Checks ++ S3Checks) (8 + j) 0) (λ j. get_or S3Checks j 0) tt
+last_eight : (j : ℕ) → j < 8 → get_or (S1_checks ++ S3_checks) (8 + j) 0 ≡ get_or S3_checks j 0
+unfolding S1_checks S3_checks
+last_eight = agree 8 (λ j. get_or (S1_checks ++ S3_checks) (8 + j) 0) (λ j. get_or S3_checks j 0) tt
 
 -- ---- a sum of the network
 
@@ -64,25 +64,25 @@ module _ {words : ℕ → Word} {t : List ℕ} (g : Gathered words t) (w : ℕ) 
       ∙ xor_sum_ext 16 (λ j. bit_of 32 (get_or t j 0) w * get_or cs j 0 / 2 ^ p % 2) (λ j. bit_of 32 (get_or t j 0) w * (get_or cs j 0 / 2 ^ p % 2))
       (λ j l. bit_through (digit_linear p) (bit_of 32 (get_or t j 0) w) (get_or cs j 0) (bit_of_lt 32 (get_or t j 0) w))
 
-  whole : xor_sum 16 (λ j. bit_of 32 (get_or t j 0) w * get_or (S1Checks ++ S3Checks) j 0) ≡ lin S1Checks (S1 (words w)) ⊕ lin S3Checks (S3 (words w))
-  unfolding S1Checks S3Checks
+  whole : xor_sum 16 (λ j. bit_of 32 (get_or t j 0) w * get_or (S1_checks ++ S3_checks) j 0) ≡ lin S1_checks (S1 (words w)) ⊕ lin S3_checks (S3 (words w))
+  unfolding S1_checks S3_checks
   whole =
-      xor_sum_split 8 8 (λ j. bit_of 32 (get_or t j 0) w * get_or (S1Checks ++ S3Checks) j 0)
+      xor_sum_split 8 8 (λ j. bit_of 32 (get_or t j 0) w * get_or (S1_checks ++ S3_checks) j 0)
       ∙ ap₂ ◌⊕◌
-      (xor_sum_ext 8 (λ j. bit_of 32 (get_or t j 0) w * get_or (S1Checks ++ S3Checks) j 0) (λ j. S1 (words w) / 2 ^ j % 2 * get_or S1Checks j 0)
-      (λ j l. ap₂ ◌*◌ (g.first w j lw l) (first_eight j l)) ∙ sym (lin_sum S1Checks (S1 (words w))))
-      (xor_sum_ext 8 (λ j. bit_of 32 (get_or t (8 + j) 0) w * get_or (S1Checks ++ S3Checks) (8 + j) 0) (λ j. S3 (words w) / 2 ^ j % 2 * get_or S3Checks j 0)
-      (λ j l. ap₂ ◌*◌ (g.third w j lw l) (last_eight j l)) ∙ sym (lin_sum S3Checks (S3 (words w))))
+      (xor_sum_ext 8 (λ j. bit_of 32 (get_or t j 0) w * get_or (S1_checks ++ S3_checks) j 0) (λ j. S1 (words w) / 2 ^ j % 2 * get_or S1_checks j 0)
+      (λ j l. ap₂ ◌*◌ (g.first w j lw l) (first_eight j l)) ∙ sym (lin_sum S1_checks (S1 (words w))))
+      (xor_sum_ext 8 (λ j. bit_of 32 (get_or t (8 + j) 0) w * get_or (S1_checks ++ S3_checks) (8 + j) 0) (λ j. S3 (words w) / 2 ^ j % 2 * get_or S3_checks j 0)
+      (λ j l. ap₂ ◌*◌ (g.third w j lw l) (last_eight j l)) ∙ sym (lin_sum S3_checks (S3 (words w))))
 
   check_sum : (i : ℕ) → i < 16
-      → bit_of 32 (get_or (network check_columns t) i 0) w ≡ (lin S1Checks (S1 (words w)) ⊕ lin S3Checks (S3 (words w))) / 2 ^ (254 - check_place i) % 2
+      → bit_of 32 (get_or (network check_columns t) i 0) w ≡ (lin S1_checks (S1 (words w)) ⊕ lin S3_checks (S3 (words w))) / 2 ^ (254 - check_place i) % 2
   check_sum i l =
       (network_shows 32 check_columns t w (λ j. bit_of 32 (get_or t j 0) w) (λ j lj. refl)).bits i l
       ∙ digit check_columns i
       ∙ xor_sum_ext 16 (λ j. bit_of 32 (get_or t j 0) w * (get_or check_columns j 0 / 2 ^ i % 2))
-      (λ j. bit_of 32 (get_or t j 0) w * (get_or (S1Checks ++ S3Checks) j 0 / 2 ^ (254 - check_place i) % 2))
+      (λ j. bit_of 32 (get_or t j 0) w * (get_or (S1_checks ++ S3_checks) j 0 / 2 ^ (254 - check_place i) % 2))
       (λ j lj. ap (λ u. bit_of 32 (get_or t j 0) w * u) (check_columns_lem i j l lj))
-      ∙ sym (digit (S1Checks ++ S3Checks) (254 - check_place i))
+      ∙ sym (digit (S1_checks ++ S3_checks) (254 - check_place i))
       ∙ ap (λ u. u / 2 ^ (254 - check_place i) % 2) whole
 
 -- ---- the completions

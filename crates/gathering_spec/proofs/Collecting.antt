@@ -12,13 +12,13 @@ use Rattle.word_spec.specs.Syndromes.{S1, S3, syndromes_of}
 use Rattle.word_spec.specs.declared.Syndromes.{Syndromes}
 use Rattle.gathering_spec.specs.Sums.{Gathered, Parities}
 use Rattle.gathering_spec.proofs.Dirty.{S1_lt, S3_lt}
-use Rattle.gathering_spec.specs.Collecting.{sum_bit, sum_of, S1In, S3In, ByWords, Collected, syndromes_in}
+use Rattle.gathering_spec.specs.Collecting.{sum_bit, sum_of, S1_in, S3_in, ByWords, Collected, syndromes_in}
 
 -- As code makes them.
 module _ (u : List ℕ) (q w x : ℕ) (e : x ≡ get_or u (w % 8) 0) where
   pub syndromes_made : ◌≡◌ {A = Syndromes} (record { s1 = x / 2 ^ (56 - 8 * (w / 8)) % 256; s3 = x / 2 ^ (24 - 8 * (w / 8)) % 256; parity = q / 2 ^ (31 - w) % 2 })
       (syndromes_in u q w)
-  unfolding syndromes_in S1In S3In
+  unfolding syndromes_in S1_in S3_in
   syndromes_made = rw e refl
 
 pub last_lt : (x : ℕ) → x % 2 < 2

@@ -22,22 +22,22 @@ unfoldable pub paired_sums : List ℕ → List ℕ
 paired_sums t = tabulate 8 (paired_sum t)
 
 -- Eight numbers of 64 bits that have S1 and S3 of the words as bytes: those of word w are bytes w div 8 and w div 8 + 4 of number w mod 8.
-unfoldable pub S1In : List ℕ → ℕ → ℕ
-S1In u w = get_or u (w % 8) 0 / 2 ^ (56 - 8 * (w / 8)) % 256
+unfoldable pub S1_in : List ℕ → ℕ → ℕ
+S1_in u w = get_or u (w % 8) 0 / 2 ^ (56 - 8 * (w / 8)) % 256
 
-unfoldable pub S3In : List ℕ → ℕ → ℕ
-S3In u w = get_or u (w % 8) 0 / 2 ^ (24 - 8 * (w / 8)) % 256
+unfoldable pub S3_in : List ℕ → ℕ → ℕ
+S3_in u w = get_or u (w % 8) 0 / 2 ^ (24 - 8 * (w / 8)) % 256
 
 -- They were made of the sums t.
 pub record ByWords (t u : List ℕ) : Type 0 where
-  pub first : (w : ℕ) → w < 32 → S1In u w ≡ sum_of t 0 w
-  pub third : (w : ℕ) → w < 32 → S3In u w ≡ sum_of t 8 w
+  pub first : (w : ℕ) → w < 32 → S1_in u w ≡ sum_of t 0 w
+  pub third : (w : ℕ) → w < 32 → S3_in u w ≡ sum_of t 8 w
 
 -- They are S1 and S3 of these words.
 pub record Collected (words : ℕ → Word) (u : List ℕ) : Type 0 where
-  pub first : (w : ℕ) → w < 32 → S1In u w ≡ S1 (words w)
-  pub third : (w : ℕ) → w < 32 → S3In u w ≡ S3 (words w)
+  pub first : (w : ℕ) → w < 32 → S1_in u w ≡ S1 (words w)
+  pub third : (w : ℕ) → w < 32 → S3_in u w ≡ S3 (words w)
 
 -- The syndromes of word w from these numbers and the parities.
 unfoldable pub syndromes_in : List ℕ → ℕ → ℕ → Syndromes
-syndromes_in u q w = record { s1 = S1In u w; s3 = S3In u w; parity = q / 2 ^ (31 - w) % 2 }
+syndromes_in u q w = record { s1 = S1_in u w; s3 = S3_in u w; parity = q / 2 ^ (31 - w) % 2 }

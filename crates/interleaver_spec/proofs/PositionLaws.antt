@@ -1,4 +1,4 @@
--- Laws of specs/PositionLaws.antt.
+-- Laws of positions: the parts of an output bit, the output bit of a place, and each output bit from one bit of one encoder.
 -- Assumes nothing.
 use Rattle.std.specs.Prelude.{◌≡◌, ℕ, ◌+◌, ◌*◌, ◌/◌, ◌%◌, ◌<◌}
 use Rattle.std.proofs.Math.Path.{refl, sym, ap, ap₂}

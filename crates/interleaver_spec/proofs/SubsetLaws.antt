@@ -1,4 +1,4 @@
--- Laws of specs/SubsetLaws.antt.
+-- Laws of subsets: the subset of a block row, and where its bit rows stand in it.
 -- Assumes nothing.
 use Rattle.std.specs.Prelude.{◌≡◌, refl, ℕ, ◌+◌, ◌*◌, ◌/◌, ◌%◌, ◌<◌}
 use Rattle.std.proofs.Common.{arith}

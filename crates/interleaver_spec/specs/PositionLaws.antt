@@ -1,4 +1,4 @@
--- Laws of positions: the parts of an output bit, the output bit of a place, and each output bit from one bit of one encoder.
+-- The output bit at a column of a bit row, as the code counts it; that it is so is a law (proofs/PositionLaws.antt).
 -- Assumes nothing.
 use Rattle.std.specs.Prelude.{ℕ, ◌+◌, ◌*◌, ◌/◌, ◌%◌}
 use Rattle.interleaver_spec.specs.declared.BlockRow.{BlockRow}

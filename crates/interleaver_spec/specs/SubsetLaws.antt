@@ -1,4 +1,4 @@
--- Laws of subsets: the subset of a block row, and where its bit rows stand in it.
+-- The subset of a block row, and where its bit rows stand in it, as the code counts them.
 -- Assumes nothing.
 use Rattle.std.specs.Prelude.{ℕ, ◌+◌, ◌*◌, ◌/◌, ◌%◌}
 use Rattle.interleaver_spec.specs.declared.BlockRow.{BlockRow}

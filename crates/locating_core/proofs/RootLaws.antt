@@ -1,4 +1,4 @@
--- Laws of specs/RootLaws.antt.
+-- The roots of y y + y = c, and the pairs of elements that are told by their sum and by the sum of their cubes.
 -- Assumes nothing.
 use Rattle.std.specs.Prelude.{◌≡◌, refl, Bool, true, List, ◌≢◌, ℕ, zero, suc, ◌<◌, T, eqb, ltb, get_or}
 use Rattle.std.proofs.Common.{sym, ap, ap₂, ◌∙◌, ⊎_elim, arith, eqb→eq, ltb→lt}

@@ -1,4 +1,4 @@
--- The roots of y y + y = c, and the pairs of elements that are told by their sum and by the sum of their cubes.
+-- The roots of y y + y = c.
 -- Assumes nothing.
 use Rattle.std.specs.Prelude.{◌≡◌, ◌≢◌, ℕ, ◌<◌}
 use Rattle.bits.specs.Xor.{◌⊕◌}

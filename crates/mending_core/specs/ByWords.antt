@@ -11,7 +11,7 @@ use Rattle.bits.specs.ListLaws.{get_d_tabulate}
 use Rattle.blocks.specs.MoveLaws.{moved_bit_lem}
 use Rattle.permutation_core.specs.Stages.{eight_transposed}
 use Rattle.permutation_core.specs.StageLaws.{cut_bit}
-use Rattle.gathering_spec.specs.Collecting.{sum_bit, sum_of, paired_sum, paired_sums, S1In, S3In, ByWords}
+use Rattle.gathering_spec.specs.Collecting.{sum_bit, sum_of, paired_sum, paired_sums, S1_in, S3_in, ByWords}
 use Rattle.gathering_spec.proofs.SumLaws.{upper_bit, lower_bit}
 
 -- Byte B of a number of 64 bits.
@@ -35,7 +35,7 @@ module _ (t b u : List ℕ) (e : b ≡ paired_sums t) (k : u ≡ eight_transpose
       ∙ rw (m, d) (ap (λ s. bit_of 64 (get_or s i 0) (8 * B + r)) e ∙ ap (λ v. bit_of 64 v (8 * B + r)) (get_d_tabulate 8 (paired_sum t) i 0 li))
 
   pub by_words_made : ByWords t u
-  unfolding S1In S3In sum_of sum_bit paired_sum
+  unfolding S1_in S3_in sum_of sum_bit paired_sum
   by_words_made =
       record {
         first = λ w l.

@@ -1,4 +1,4 @@
--- Laws of specs/EncodingLaws.antt.
+-- Laws of encoding a pair: over a history that holds the sent bits, the coded pair holds them too.
 -- Assumes nothing.
 use Rattle.std.specs.Prelude.{◌≡◌, refl, Bool, List, [], ℕ, ◌+◌, ◌-◌, ◌*◌, ◌/◌, ◌%◌, ◌<◌, ◌≤◌, length, get_or}
 use Rattle.std.proofs.Math.Path.{sym, ap}

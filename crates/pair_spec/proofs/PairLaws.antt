@@ -1,4 +1,4 @@
--- Laws of specs/PairLaws.antt.
+-- Laws of coded pairs and payloads: the bit that stands at each index, and the index of each bit.
 -- Assumes nothing.
 use Rattle.std.specs.Prelude.{◌≡◌, true, false, cond, ℕ, ◌+◌, ◌-◌, ◌*◌, ◌/◌, ◌%◌, ◌<◌, ◌≤◌, ltb, length}
 use Rattle.std.proofs.Math.Path.{sym, ap, ap₂}

@@ -1,4 +1,4 @@
--- Laws of specs/ReceivingLaws.antt.
+-- Laws of receiving a pair: where each bit of a word goes, and what its repair gives where the history is right.
 -- Assumes nothing.
 use Rattle.std.specs.Prelude.{◌≡◌, Bool, true, false, List, ◌++◌, ℕ, ◌+◌, ◌*◌, ◌/◌, ◌%◌, ◌<◌, ◌≤◌, length, get_or}
 use Rattle.std.proofs.Math.Path.{refl, ap₂}

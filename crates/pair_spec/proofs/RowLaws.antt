@@ -1,4 +1,4 @@
--- Laws of specs/RowLaws.antt.
+-- Laws of rows: where each bit of a word stands, and where a row's bit stands in its word.
 -- Assumes nothing.
 use Rattle.std.specs.Prelude.{◌≡◌, refl, Bool, true, false, cond, ℕ, zero, suc, ◌+◌, ◌-◌, ◌*◌, ◌/◌, ◌%◌, ◌<◌, ◌≤◌, ltb}
 use Rattle.std.proofs.Common.{◌∙◌, arith}

@@ -1,4 +1,4 @@
--- Laws of encoding a pair: over a history that holds the sent bits, the coded pair holds them too.
+-- How long a coded pair is.
 -- Assumes nothing.
 use Rattle.std.specs.Prelude.{◌≡◌, List, [], ℕ, length}
 use Rattle.pair_spec.specs.PairLaws.{length_coded_pair}

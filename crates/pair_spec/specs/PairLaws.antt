@@ -1,4 +1,4 @@
--- Laws of coded pairs and payloads: the bit that stands at each index, and the index of each bit.
+-- How long the pair is that 32 words make.
 -- Assumes nothing.
 use Rattle.std.specs.Prelude.{◌≡◌, ℕ, length}
 use Rattle.bits.proofs.BitLaws.{length_pack}

@@ -1,4 +1,4 @@
--- Laws of receiving a pair: where each bit of a word goes, and what its repair gives where the history is right.
+-- How long the newest pair is.
 -- Assumes nothing.
 use Rattle.std.specs.Prelude.{◌≡◌, List, ℕ, length}
 use Rattle.pair_spec.specs.PairLaws.{length_coded_pair}

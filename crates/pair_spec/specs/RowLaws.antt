@@ -1,4 +1,4 @@
--- Laws of rows: where each bit of a word stands, and where a row's bit stands in its word.
+-- Where each bit of a word stands; that it stands there is a law (proofs/RowLaws.antt).
 -- Assumes nothing.
 use Rattle.std.specs.Prelude.{◌≡◌, ℕ, ◌+◌, ◌/◌, ◌<◌, ◌≤◌}
 use Rattle.pair_spec.specs.Rows.{RowBits, word_of}

@@ -10,7 +10,7 @@ use Rattle.word_spec.specs.CodeWord.{Word, parity}
 use Rattle.word_spec.specs.Completion.{first_bits, completed}
 use Rattle.word_spec.proofs.CompletionLaws.{first_low, first_high, first_bits_lem, with_high, completed_low, completed_first, completed_code}
 use Rattle.word_spec.proofs.CheckLaws.{parity_sum}
-use Rattle.word_spec.specs.Syndromes.{S1, S3, S1Checks, S3Checks}
+use Rattle.word_spec.specs.Syndromes.{S1, S3, S1_checks, S3_checks}
 use Rattle.word_spec.proofs.SyndromeLaws.{remainder_syndromes}
 
 one_more : (n : ℕ) (f : ℕ → ℕ) → xor_sum (suc n) f ≡ xor_sum n f ⊕ f n
@@ -23,7 +23,7 @@ rest a b x e = sym (⊕_eq (b ⊕ a) x (simp sums e))
 module _ (w : Word) (b : (k : ℕ) → k < 239 → w k < 2) where
   -- Bits 239 to 254,
   pub check_bits : (k : ℕ) → 239 ≤ k → k < 255
-      → completed w k ≡ (lin S1Checks (S1 (first_bits w)) ⊕ lin S3Checks (S3 (first_bits w))) / 2 ^ (254 - k) % 2
+      → completed w k ≡ (lin S1_checks (S1 (first_bits w)) ⊕ lin S3_checks (S3 (first_bits w))) / 2 ^ (254 - k) % 2
   check_bits k l m =
       completed_low w k m ∙ with_high w k l
       ∙ ap (λ r. r / 2 ^ (254 - k) % 2) (remainder_syndromes (first_bits w) (λ j lj. first_bits_lem w b j))

@@ -11,7 +11,7 @@ use Rattle.gf256.specs.Tables.{powers}
 use Rattle.gf256.proofs.PowerLaws.{powers_first, powers_next}
 use Rattle.word_spec.specs.CodeWord.{Word, remainder, parity, CodeWord}
 use Rattle.word_spec.proofs.RemainderLaws.{BitsTo, register_shift, shift_columns, evaluated, remainder_lt}
-use Rattle.word_spec.specs.Syndromes.{locator, S1, S3, S1Checks, S3Checks}
+use Rattle.word_spec.specs.Syndromes.{locator, S1, S3, S1_checks, S3_checks}
 
 -- ---- the remainder at a and at a^3
 
@@ -103,14 +103,14 @@ S3_is w b =
 
 -- ---- the remainder from its values
 
-back : (s : ℕ) → s < 65536 → lin S1Checks (at_a s) ⊕ lin S3Checks (at_a3 s) ≡ s
-unfolding at_a at_a_columns at_a3 at_a3_columns S1Checks S3Checks units lin ◌⊕◌
+back : (s : ℕ) → s < 65536 → lin S1_checks (at_a s) ⊕ lin S3_checks (at_a3 s) ≡ s
+unfolding at_a at_a_columns at_a3 at_a3_columns S1_checks S3_checks units lin ◌⊕◌
 back s h =
-    linear_agree (plus (then at_a_linear (lin_linear S1Checks)) (then at_a3_linear (lin_linear S3Checks))) same 16 refl s h
+    linear_agree (plus (then at_a_linear (lin_linear S1_checks)) (then at_a3_linear (lin_linear S3_checks))) same 16 refl s h
 
-pub remainder_syndromes : (w : Word) → BitsTo 255 w → remainder 255 w ≡ lin S1Checks (S1 w) ⊕ lin S3Checks (S3 w)
+pub remainder_syndromes : (w : Word) → BitsTo 255 w → remainder 255 w ≡ lin S1_checks (S1 w) ⊕ lin S3_checks (S3 w)
 remainder_syndromes w b =
-    sym (back (remainder 255 w) (remainder_lt 255 w b)) ∙ ap₂ (λ (x y : ℕ). lin S1Checks x ⊕ lin S3Checks y) (sym (S1_is w b)) (sym (S3_is w b))
+    sym (back (remainder 255 w) (remainder_lt 255 w b)) ∙ ap₂ (λ (x y : ℕ). lin S1_checks x ⊕ lin S3_checks y) (sym (S1_is w b)) (sym (S3_is w b))
 
 -- ---- code words
 
@@ -125,7 +125,7 @@ pub zero_code : (w : Word) → BitsTo 256 w → S1 w ≡ 0 → S3 w ≡ 0 → pa
 zero_code w b e1 e3 p =
     record {
       bits = b;
-      divisible = remainder_syndromes w (λ k l. b k (omega arith)) ∙ ap₂ (λ (x y : ℕ). lin S1Checks x ⊕ lin S3Checks y) e1 e3
-          ∙ ap₂ ◌⊕◌ (lin_zero S1Checks) (lin_zero S3Checks) ∙ zero_⊕ 0;
+      divisible = remainder_syndromes w (λ k l. b k (omega arith)) ∙ ap₂ (λ (x y : ℕ). lin S1_checks x ⊕ lin S3_checks y) e1 e3
+          ∙ ap₂ ◌⊕◌ (lin_zero S1_checks) (lin_zero S3_checks) ∙ zero_⊕ 0;
       even = p;
     }

@@ -1,4 +1,4 @@
--- Laws of the search through a list of repairs, and of the list that is searched.
+-- Which repairs the search goes through.
 -- Assumes nothing.
 use Rattle.std.specs.Prelude.{ℕ, ◌<◌, ◌≤◌}
 use mathlib.Core.List.Memᴰ

@@ -26,8 +26,8 @@ syndromes_of w = record { s1 = S1 w; s3 = S3 w; parity = parity w }
 
 -- The remainder of a word from them, by columns (lin, in gf256): entry i is what digit i of S1, or of S3, adds to it. That it is the
 -- remainder is a law (SyndromeLaws.antt).
-unfoldable pub S1Checks : List ℕ
-S1Checks = 50525 ∷ 58841 ∷ 42193 ∷ 9921 ∷ 19842 ∷ 39684 ∷ 22891 ∷ 45782 ∷ []
+unfoldable pub S1_checks : List ℕ
+S1_checks = 50525 ∷ 58841 ∷ 42193 ∷ 9921 ∷ 19842 ∷ 39684 ∷ 22891 ∷ 45782 ∷ []
 
-unfoldable pub S3Checks : List ℕ
-S3Checks = 50524 ∷ 57992 ∷ 62021 ∷ 58843 ∷ 43635 ∷ 35817 ∷ 42197 ∷ 15237 ∷ []
+unfoldable pub S3_checks : List ℕ
+S3_checks = 50524 ∷ 57992 ∷ 62021 ∷ 58843 ∷ 43635 ∷ 35817 ∷ 42197 ∷ 15237 ∷ []

@@ -6,7 +6,7 @@ use Rattle.bits.specs.Filling.{Blocks, by_blocks, blocks_next}
 use Rattle.bits.specs.Parts.{part_of, byte_of_each}
 use Rattle.pair_spec.specs.History.{depth}
 use Rattle.pair_spec.specs.Front.{held_pairs}
-use Rattle.pair_spec.specs.Receiving.{payload_out, marks as pairMarks}
+use Rattle.pair_spec.specs.Receiving.{payload_out, marks as pair_marks}
 use Rattle.pair_spec.specs.Calls.{ReceiveBuffers}
 use Rattle.pair_spec.proofs.CallLaws.{receive_written}
 use Rattle.pair_spec.specs.Stream.{pair_receiver, given_at}
@@ -20,7 +20,7 @@ ruleset kit = (rules, by_blocks, streaming)
 abbrev invariant-loop : tie.invariant-loop
 invariant-loop pairs coded encoder first history₀ payload₀ marks₀ k₀ history payload marks k =
     Blocks (byte_of_each 444 (given_at pair_receiver (held_pairs history₀) first (part_of 512 coded) (payload_out depth))) 444 pairs k payload
-    × Blocks (byte_of_each 32 (given_at pair_receiver (held_pairs history₀) first (part_of 512 coded) (pairMarks depth))) 32 pairs k marks
+    × Blocks (byte_of_each 32 (given_at pair_receiver (held_pairs history₀) first (part_of 512 coded) (pair_marks depth))) 32 pairs k marks
     × Streaming pair_receiver history₀ encoder first coded k history
 
 abbrev decreases-loop : tie.decreases-loop
