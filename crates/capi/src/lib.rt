@@ -1,5 +1,7 @@
 // The library for C and Rust: one exported function for each entry point, buffers as pointer and length. See include/ofec.h. Over the
 // crates of calls (`word`, `encoder`, `receiver`, `interleaver`, `cells`, `frame`, `line_file`).
+#![tactic(auto)]
+
 ghost use Rattle.std.specs.Prelude.{◌≡◌};
 ghost use Rattle.word_spec.specs.Calls.{repair_call};
 ghost use Rattle.pair_spec.specs.Calls.{encode_buffers, encode_call, receive_buffers, receive_call};

@@ -1,3 +1,2 @@
--- Runs: the four lists of calls as a client of the exported functions sees them. RunLaws: they are lists of demand 3. Meeting: what demand
--- 3 says of them.
+-- Runs: the four lists of calls as a client of the exported functions sees them.
 pub mod Runs

@@ -1,4 +1,6 @@
 // The call `encode_pair`: 01, "Rows and pairs", and 02, E2. Over `encoding_core` and `history_core`, by the definitions of `pair_spec`.
+#![tactic(auto)]
+
 ghost use Rattle.std.specs.Prelude.{◌≡◌};
 ghost use Rattle.pair_spec.specs.Calls.{after_encode, encode_call};
 

@@ -1,5 +1,7 @@
 // Workers: a pair encoded by rows, given buffers that fit: payload into rows, syndromes gathered side by side, check bits from them, coded
 // bytes. Over `payload_rows_core`, `syndromes_core`, `completing_core` and `permutation_core`; the call is in `encoder`.
+#![tactic(auto)]
+
 ghost use Rattle.std.specs.Prelude.{◌≡◌, ◌+◌, ◌*◌, ◌<◌, length};
 ghost use Rattle.bits.specs.Lists.{tabulate};
 ghost use Rattle.blocks.specs.SideBySide.{row_block};

@@ -4,7 +4,7 @@ use Rattle.std.specs.Prelude.{true}
 use Rattle.word_spec.proofs.BenchValues.{only_238, two_flips_mark, two_flips_word, three_flips}
 use Rattle.pair_spec.proofs.Bench.{word_20_0_first, word_20_0_last, word_21_5_119, in_no_front, payload_index_3087, payload_index_3551}
 use Rattle.pair_spec.proofs.Bench.{payload_index_3552}
-use Rattle.interleaver_spec.specs.BenchValues as Output
+use Rattle.interleaver_spec.proofs.BenchValues as Output
 use Rattle.profiles_spec.proofs.BenchValues.{bench_cells}
 use Rattle.line_spec.specs.BenchValues.{BenchValues}
 

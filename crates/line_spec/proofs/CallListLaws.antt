@@ -16,7 +16,7 @@ module _ (K : Kind) where
 
   pub among_run : Separate K → {s t : K.State} {cs ds : List K.Call} → Among K cs ds → Run K s cs t → Run K s ds t
   among_run separate none r = r
-  among_run separate (same w) (takes ok e r) = takes ok e (among_run separate w r)
+  among_run separate {s = s} {t = t} (same {c = c} {cs = cs} {ds = ds} w) (takes ok e r) = takes ok e (among_run separate {s = K.left c} w r)
   among_run separate (same w) (refused bad e r) = refused bad e (among_run separate w r)
   among_run separate {s} (more {c} bad w) r = refused bad (separate c s) (among_run separate w r)
 

@@ -35,7 +35,7 @@ use Rattle.line_spec.specs.Outward.{Outward, coded_pairs, pairs_of_buffer, inter
 use Rattle.line_spec.specs.Outward.{frames}
 use Rattle.line_spec.specs.Demand3.{Goes}
 use Rattle.line_spec.proofs.LineLaws.{encoder_small, pairs_bit_lem, OnLine, line_pairs}
-use Rattle.line_spec.specs.FramedLine as line
+use Rattle.line_spec.proofs.FramedLine as line
 
 -- The coded pair of an accepted call stands at its number.
 pub coded_at : (cs : List Encoding) {P : ℕ} {c : Encoding} → At (accepted Encodings cs) P c

@@ -43,7 +43,7 @@ module _ (p : Modulation) (g : Given p) (e : Side) where
         payload = g.long e P l;
         coded = g.coded_long e P;
         history = r.long;
-        own_val = own_shown e P s r;
+        own = own_shown e P s r;
         pair = λ q. omega (arith, g.within, q);
       }
 
@@ -101,7 +101,7 @@ module _ (p : Modulation) (n : ℕ) (h : ReceivedLine p n) (room : LentBack) (sm
         payload = room.payload_long e P;
         marks = room.marks_long e P;
         history = r.long;
-        own_val = own_shown e P s r;
+        own = own_shown e P s r;
         pair = λ q. omega (arith, small, q);
       }
 

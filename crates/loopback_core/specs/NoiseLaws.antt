@@ -173,6 +173,7 @@ legal_byte_legal Qpsk y = four_legal (y / 2 % 2) (y % 2) (omega arith) (omega ar
 
 -- A byte turned round is legal where it was.
 false_of : (b : Bool) → T (not b) → b ≡ false
+false_of true t = elim t [ ]
 false_of false t = refl
 
 turned_qpsk : (v : ℕ) → illegal v ≡ false → illegal (15 - v % 16) ≡ false

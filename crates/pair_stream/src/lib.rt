@@ -1,4 +1,6 @@
 // Streams of pairs, one call after the other: encoded and received. Over `encoder` and `receiver`, by the definitions of `pair_spec`.
+#![tactic(auto)]
+
 ghost use Rattle.std.specs.Prelude.{◌≡◌, ◌*◌, ◌≤◌, ◌<◌, length};
 ghost use Rattle.bits.specs.Parts.{part_of};
 ghost use Rattle.pair_spec.specs.History.{depth};

@@ -1,4 +1,4 @@
--- Laws of specs/Qam16Tables.antt.
+-- Laws of cells_spec's specs/Qam16Tables.antt.
 -- Assumes nothing.
 use Rattle.std.specs.Prelude.{◌≡◌, refl, List, ℕ, ◌+◌, ◌*◌, ◌/◌, ◌%◌, ◌<◌, ◌≤◌, length, get_or, set}
 use Rattle.std.proofs.Common.{◌∙◌}

@@ -1,4 +1,4 @@
--- Laws of specs/QpskBytes.antt.
+-- Laws of cells_spec's specs/QpskBytes.antt.
 -- Assumes nothing.
 use Rattle.std.specs.Prelude.{◌≡◌, refl, cond, false, List, ◌≢◌, eqb, length, get_or, set}
 use Rattle.std.proofs.Math.Path.{sym, ap}

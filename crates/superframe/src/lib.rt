@@ -1,6 +1,8 @@
 // Super-frames of the line, for either profile: the coded pairs of both encoders made into frames, by the calls of interleaving, cells
 // and framing for every buffer and sub-frame; and the way back, from frames to coded pairs. `pair_stream` has the step between payload
 // and coded pairs. Over `cells_core`, `superframe_buffers_core` and `superframe_core`; by the definitions of `superframe_spec`.
+#![tactic(auto)]
+
 ghost use Rattle.std.specs.Prelude.{◌≡◌};
 ghost use Rattle.calls.specs.declared.Answer.TheVariants.{Done};
 ghost use Rattle.profiles_spec.specs.Profiles.{modulation};

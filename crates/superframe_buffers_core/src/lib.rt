@@ -1,6 +1,8 @@
 // Workers: the payload of a super-frame, from coded pairs and back, by the calls for each buffer: the cells of its buffers, eight or four,
 // each of 21 pairs of either encoder: 10,752 bytes of each, 21,504 bytes of bits. Over `superframe_spec`, `interleaver`, `cells_core` and
 // `cells`; `superframe_core` has the frames, and the steps are in `superframe`.
+#![tactic(auto)]
+
 ghost use Rattle.std.specs.Prelude.{◌≡◌, ◌*◌, ◌<◌};
 ghost use Rattle.cells_spec.specs.Modulation.{cells_per_buffer};
 ghost use Rattle.profiles_spec.specs.Profiles.{modulation};

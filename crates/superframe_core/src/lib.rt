@@ -1,5 +1,7 @@
 // Workers: the frames of a super-frame, from its payload and back, by the calls for each sub-frame, and their first illegal byte. Over
 // `superframe_spec`, `frame` and `frame_legal_core`; `superframe_buffers_core` has the payload, and the steps are in `superframe`.
+#![tactic(auto)]
+
 ghost use Rattle.std.specs.Prelude.{◌≡◌, ◌≤◌, ◌<◌, ◌*◌, length};
 ghost use Rattle.bits.specs.Parts.{part_of};
 ghost use Rattle.cells_spec.specs.Cells.{first_illegal};

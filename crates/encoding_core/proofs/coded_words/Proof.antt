@@ -11,19 +11,19 @@ use Rattle.encoding_core.proofs.coded_words.Tie as tie
 
 ruleset kit = (rules, laying, row_blocks)
 
-abbrev invariant-loop : tie.invariant-loop
-invariant-loop halves checks s row₀ block₀ row block = Laid (backs_block (row_with checks halves s)) block row
+abbrev invariant-loop-block : tie.invariant-loop-block
+invariant-loop-block halves checks s row₀ block₀ row block = Laid (backs_block (row_with checks halves s)) block row
 
-abbrev decreases-loop : tie.decreases-loop
-decreases-loop halves checks s row₀ block₀ row block = 8 - block
+abbrev decreases-loop-block : tie.decreases-loop-block
+decreases-loop-block halves checks s row₀ block₀ row block = 8 - block
 
 pub coded_words_spec : {M : Type 1} → statement M
 unfolding backs_in
 coded_words_spec =
     tie.close
     (tie.spec
-    invariant-loop
-    decreases-loop
+    invariant-loop-block
+    decreases-loop-block
     (λ c. search kit)  -- loop-holds
     (λ c. search kit)  -- slice-aggregate-lay
     (λ c κs. search kit)  -- completed-block-requires

@@ -12,19 +12,19 @@ use Rattle.encoding_core.proofs.completed_block.Tie as tie
 
 ruleset kit = (rules, fill, encoding)
 
-abbrev invariant-loop : tie.invariant-loop
-invariant-loop halves checks s block b₀ r₀ b r = Filling (λ i. get_or (row_with checks halves s) (8 * i + block) 0) 16 r b
+abbrev invariant-loop-r : tie.invariant-loop-r
+invariant-loop-r halves checks s block b₀ r₀ b r = Filling (λ i. get_or (row_with checks halves s) (8 * i + block) 0) 16 r b
 
-abbrev decreases-loop : tie.decreases-loop
-decreases-loop halves checks s block b₀ r₀ b r = 16 - r
+abbrev decreases-loop-r : tie.decreases-loop-r
+decreases-loop-r halves checks s block b₀ r₀ b r = 16 - r
 
 pub completed_block_spec : {M : Type 1} → statement M
 unfolding row_block
 completed_block_spec =
     tie.close
     (tie.spec
-    invariant-loop
-    decreases-loop
+    invariant-loop-r
+    decreases-loop-r
     (λ c. search kit)  -- loop-holds
     (λ c. search kit)  -- mul-b
     (λ c. search kit)  -- mul-b-2

@@ -10,18 +10,18 @@ use Rattle.encoding_core.proofs.put_coded.Tie as tie
 
 ruleset kit = (rules, by_blocks, part_long)
 
-abbrev invariant-loop : tie.invariant-loop
-invariant-loop last own halves coded₀ s₀ coded s = Blocks (coded_byte last own halves) 256 2 s coded
+abbrev invariant-loop-s : tie.invariant-loop-s
+invariant-loop-s last own halves coded₀ s₀ coded s = Blocks (coded_byte last own halves) 256 2 s coded
 
-abbrev decreases-loop : tie.decreases-loop
-decreases-loop last own halves coded₀ s₀ coded s = 2 - s
+abbrev decreases-loop-s : tie.decreases-loop-s
+decreases-loop-s last own halves coded₀ s₀ coded s = 2 - s
 
 pub put_coded_spec : {M : Type 1} → statement M
 put_coded_spec =
     tie.close
     (tie.spec
-    invariant-loop
-    decreases-loop
+    invariant-loop-s
+    decreases-loop-s
     (λ c. search kit)  -- loop-holds
     (λ c. search kit)  -- mul-a
     (λ c. search kit)  -- add-e

@@ -15,4 +15,4 @@ put_row_spec =
     (λ c. search rules)  -- same-length
     (λ c. let o = c.before.before in
     let w = o.before.before.before in
-    row_coded _ _ _ _ _ _ _ (search rules) o.write-words.ensures w.coded-words.ensures w.before.before.row-checks.ensures))  -- returns
+    row_coded _ _ _ _ _ _ _ (search rules) o.write_words.ensures w.coded_words-row.ensures w.before.before.row_checks-checks.ensures))  -- returns

@@ -16,19 +16,19 @@ use Rattle.pair_stream.proofs.encode.Tie as tie
 
 ruleset kit = (rules, by_blocks, streaming)
 
-abbrev invariant-loop : tie.invariant-loop
-invariant-loop pairs payload encoder first history₀ coded₀ k₀ history coded k =
+abbrev invariant-loop-k : tie.invariant-loop-k
+invariant-loop-k pairs payload encoder first history₀ coded₀ k₀ history coded k =
     Blocks (byte_of_each 512 (given_at pair_encoder (held_pairs history₀) first (part_of 444 payload) (encoded depth))) 512 pairs k coded × Streaming pair_encoder history₀ encoder first payload k history
 
-abbrev decreases-loop : tie.decreases-loop
-decreases-loop pairs payload encoder first history₀ coded₀ k₀ history coded k = pairs - k
+abbrev decreases-loop-k : tie.decreases-loop-k
+decreases-loop-k pairs payload encoder first history₀ coded₀ k₀ history coded k = pairs - k
 
 pub encode_spec : {M : Type 1} → statement M
 encode_spec =
     tie.close
     (tie.spec
-    invariant-loop
-    decreases-loop
+    invariant-loop-k
+    decreases-loop-k
     (λ c. search kit)  -- loop-holds
     (λ c. search kit)  -- mul-f
     (λ c. search kit)  -- add-g
@@ -40,8 +40,8 @@ encode_spec =
     (λ c κs. search kit)  -- encode-next-requires
     (λ c. search kit)  -- add-k
     (λ c. search kit)  -- loop-less
-    (λ c. let made = c.before.before.before.before.encode-next.ensures in
-    let l = c.before.before.before.before.before.before.before.before.loop in (
+    (λ c. let made = c.before.before.before.before.encode_next.ensures in
+    let l = c.before.before.before.before.before.before.before.before.loop-k in (
       blocks_next {d = l.coded} (l.k * 512) (l.k * 512 + 512) _ l.invariant.0 (search rules) refl refl (coded_block _ _ l.invariant.1 (search rules) (ap (λ (b : EncodeBuffers). b.coded) made)),
       stream_more _ l.invariant.1 (search rules) _ (ap (λ (b : EncodeBuffers). b.history) made),
     ))  -- loop-again

@@ -17,21 +17,21 @@ use Rattle.pair_stream.proofs.receive.Tie as tie
 
 ruleset kit = (rules, by_blocks, streaming)
 
-abbrev invariant-loop : tie.invariant-loop
-invariant-loop pairs coded encoder first history₀ payload₀ marks₀ k₀ history payload marks k =
+abbrev invariant-loop-k : tie.invariant-loop-k
+invariant-loop-k pairs coded encoder first history₀ payload₀ marks₀ k₀ history payload marks k =
     Blocks (byte_of_each 444 (given_at pair_receiver (held_pairs history₀) first (part_of 512 coded) (payload_out depth))) 444 pairs k payload
     × Blocks (byte_of_each 32 (given_at pair_receiver (held_pairs history₀) first (part_of 512 coded) (pair_marks depth))) 32 pairs k marks
     × Streaming pair_receiver history₀ encoder first coded k history
 
-abbrev decreases-loop : tie.decreases-loop
-decreases-loop pairs coded encoder first history₀ payload₀ marks₀ k₀ history payload marks k = pairs - k
+abbrev decreases-loop-k : tie.decreases-loop-k
+decreases-loop-k pairs coded encoder first history₀ payload₀ marks₀ k₀ history payload marks k = pairs - k
 
 pub receive_spec : {M : Type 1} → statement M
 receive_spec =
     tie.close
     (tie.spec
-    invariant-loop
-    decreases-loop
+    invariant-loop-k
+    decreases-loop-k
     (λ c. (search kit, search kit, search kit))  -- loop-holds
     (λ c. search kit)  -- mul-f
     (λ c. search kit)  -- add-g
@@ -48,8 +48,8 @@ receive_spec =
     (λ c κs. (search rules, search rules, search rules, search rules, search rules, search kit, search kit, search kit))  -- receive-next-requires
     (λ c. search kit)  -- add-k
     (λ c. search kit)  -- loop-less
-    (λ c. let made = c.before.before.before.before.before.before.receive-next.ensures in
-    let l = c.before.before.before.before.before.before.before.before.before.before.before.loop in (
+    (λ c. let made = c.before.before.before.before.before.before.receive_next.ensures in
+    let l = c.before.before.before.before.before.before.before.before.before.before.before.loop-k in (
       blocks_next {d = l.payload} (l.k * 444) (l.k * 444 + 444) _ l.invariant.0 (search rules) refl refl (payload_block _ _ l.invariant.2 (search rules) (ap (λ (b : ReceiveBuffers). b.payload) made)),
       blocks_next {d = l.marks} (l.k * 32) (l.k * 32 + 32) _ l.invariant.1 (search rules) refl refl (marks_block _ _ l.invariant.2 (search rules) (ap (λ (b : ReceiveBuffers). b.marks) made)),
       stream_more _ l.invariant.2 (search rules) _ (ap (λ (b : ReceiveBuffers). b.history) made),

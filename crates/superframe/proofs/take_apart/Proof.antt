@@ -17,7 +17,7 @@ take_apart_spec =
     (λ c. search kit)  -- returns
     (λ c κs. search kit)  -- first-illegal-requires-2
     (λ c. search kit)  -- returns-2
-    (λ c κs. (record { frames_legal = demap_legal _ _ _ c.before.before.before.first-illegal2.ensures c.before.before.if2.false; overhead_legal = search (rules, demap_legal) }, search rules))  -- take-requires
+    (λ c κs. (record { frames_legal = demap_legal _ _ _ c.before.before.before.first_illegal-at.ensures c.before.before.if-at-line.false; overhead_legal = search (rules, demap_legal) }, search rules))  -- take-requires
     (λ c. search kit)  -- same-length
     (λ c. search kit)  -- same-length-2
     (λ c. search kit))  -- returns-3

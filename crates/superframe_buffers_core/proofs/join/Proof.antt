@@ -9,18 +9,18 @@ use Rattle.superframe_buffers_core.proofs.join.Tie as tie
 
 ruleset kit = (rules, joining)
 
-abbrev invariant-loop : tie.invariant-loop
-invariant-loop profile pairs0 pairs1 cells₀ n c b₀ cells b = Joining (modulation profile) pairs0 pairs1 n c b cells
+abbrev invariant-loop-b : tie.invariant-loop-b
+invariant-loop-b profile pairs0 pairs1 cells₀ n c b₀ cells b = Joining (modulation profile) pairs0 pairs1 n c b cells
 
-abbrev decreases-loop : tie.decreases-loop
-decreases-loop profile pairs0 pairs1 cells₀ n c b₀ cells b = n - b
+abbrev decreases-loop-b : tie.decreases-loop-b
+decreases-loop-b profile pairs0 pairs1 cells₀ n c b₀ cells b = n - b
 
 pub join_spec : {M : Type 1} → statement M
 join_spec =
     tie.close
     (tie.spec
-    invariant-loop
-    decreases-loop
+    invariant-loop-b
+    decreases-loop-b
     (λ c κs. search kit)  -- buffers-requires
     (λ c κs. search kit)  -- cell-bytes-requires
     (λ c. search kit)  -- loop-holds

@@ -10,19 +10,19 @@ use Rattle.superframe_buffers_core.proofs.part.Tie as tie
 
 ruleset kit = (rules, parting)
 
-abbrev invariant-loop : tie.invariant-loop
-invariant-loop profile cells pairs0₀ pairs1₀ n b₀ pairs0 pairs1 b =
+abbrev invariant-loop-b : tie.invariant-loop-b
+invariant-loop-b profile cells pairs0₀ pairs1₀ n b₀ pairs0 pairs1 b =
     Parting (modulation profile) cells 0 n b pairs0 × Parting (modulation profile) cells 1 n b pairs1
 
-abbrev decreases-loop : tie.decreases-loop
-decreases-loop profile cells pairs0₀ pairs1₀ n b₀ pairs0 pairs1 b = n - b
+abbrev decreases-loop-b : tie.decreases-loop-b
+decreases-loop-b profile cells pairs0₀ pairs1₀ n b₀ pairs0 pairs1 b = n - b
 
 pub part_spec : {M : Type 1} → statement M
 part_spec =
     tie.close
     (tie.spec
-    invariant-loop
-    decreases-loop
+    invariant-loop-b
+    decreases-loop-b
     (λ c κs. search kit)  -- buffers-requires
     (λ c. search kit)  -- loop-holds
     (λ c. search kit)  -- mul-f

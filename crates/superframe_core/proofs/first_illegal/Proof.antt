@@ -9,18 +9,18 @@ use Rattle.superframe_core.proofs.first_illegal.Tie as tie
 
 ruleset kit = (rules, judging_line)
 
-abbrev invariant-loop : tie.invariant-loop
-invariant-loop profile line s₀ s = Judged (modulation profile) line s
+abbrev invariant-loop-s : tie.invariant-loop-s
+invariant-loop-s profile line s₀ s = Judged (modulation profile) line s
 
-abbrev decreases-loop : tie.decreases-loop
-decreases-loop profile line s₀ s = 48 - s
+abbrev decreases-loop-s : tie.decreases-loop-s
+decreases-loop-s profile line s₀ s = 48 - s
 
 pub first_illegal_spec : {M : Type 1} → statement M
 first_illegal_spec =
     tie.close
     (tie.spec
-    invariant-loop
-    decreases-loop
+    invariant-loop-s
+    decreases-loop-s
     (λ c. search kit)  -- loop-holds
     (λ c. search kit)  -- mul-a
     (λ c. search kit)  -- add-e

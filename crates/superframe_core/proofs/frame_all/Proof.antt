@@ -12,18 +12,18 @@ use Rattle.superframe_core.proofs.frame_all.Tie as tie
 
 ruleset kit = (rules, by_blocks, frame_blocks)
 
-abbrev invariant-loop : tie.invariant-loop
-invariant-loop profile cells overhead line₀ s₀ line s = Blocks (byte_of_each 7424 (sub_frame cells overhead)) 7424 48 s line
+abbrev invariant-loop-s : tie.invariant-loop-s
+invariant-loop-s profile cells overhead line₀ s₀ line s = Blocks (byte_of_each 7424 (sub_frame cells overhead)) 7424 48 s line
 
-abbrev decreases-loop : tie.decreases-loop
-decreases-loop profile cells overhead line₀ s₀ line s = 48 - s
+abbrev decreases-loop-s : tie.decreases-loop-s
+decreases-loop-s profile cells overhead line₀ s₀ line s = 48 - s
 
 pub frame_all_spec : {M : Type 1} → statement M
 frame_all_spec =
     tie.close
     (tie.spec
-    invariant-loop
-    decreases-loop
+    invariant-loop-s
+    decreases-loop-s
     (λ c. search kit)  -- loop-holds
     (λ c. search kit)  -- mul-f
     (λ c. search kit)  -- add-g

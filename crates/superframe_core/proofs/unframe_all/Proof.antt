@@ -12,19 +12,19 @@ use Rattle.superframe_core.proofs.unframe_all.Tie as tie
 
 ruleset kit = (rules, counting, start_order, unframing_all)
 
-abbrev invariant-loop : tie.invariant-loop
-invariant-loop profile line overhead cells₀ n₀ s₀ cells n s =
+abbrev invariant-loop-s : tie.invariant-loop-s
+invariant-loop-s profile line overhead cells₀ n₀ s₀ cells n s =
     Unframing line s cells × Counting (differing_in line overhead) 48 s n
 
-abbrev decreases-loop : tie.decreases-loop
-decreases-loop profile line overhead cells₀ n₀ s₀ cells n s = 48 - s
+abbrev decreases-loop-s : tie.decreases-loop-s
+decreases-loop-s profile line overhead cells₀ n₀ s₀ cells n s = 48 - s
 
 pub unframe_all_spec : {M : Type 1} → statement M
 unframe_all_spec =
     tie.close
     (tie.spec
-    invariant-loop
-    decreases-loop
+    invariant-loop-s
+    decreases-loop-s
     (λ c. search kit)  -- loop-holds
     (λ c κs. search kit)  -- start-requires
     (λ c. search kit)  -- add-start

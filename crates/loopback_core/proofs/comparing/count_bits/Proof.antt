@@ -9,23 +9,23 @@ use Rattle.loopback_core.proofs.comparing.count_bits.Tie as tie
 
 ruleset kit = (rules, step_none, tallied_done)
 
-abbrev invariant-loop : tie.invariant-loop
-invariant-loop n from sent got kept counts₀ i₀ counts i = (length counts ≡ 41) × Stepping (one_more (bit_kind from sent got kept)) n counts₀ i counts
+abbrev invariant-loop-i : tie.invariant-loop-i
+invariant-loop-i n from sent got kept counts₀ i₀ counts i = (length counts ≡ 41) × Stepping (one_more (bit_kind from sent got kept)) n counts₀ i counts
 
-abbrev decreases-loop : tie.decreases-loop
-decreases-loop n from sent got kept counts₀ i₀ counts i = n - i
+abbrev decreases-loop-i : tie.decreases-loop-i
+decreases-loop-i n from sent got kept counts₀ i₀ counts i = n - i
 
 pub count_bits_spec : {M : Type 1} → statement M
 count_bits_spec =
     tie.close
     (tie.spec
-    invariant-loop
-    decreases-loop
+    invariant-loop-i
+    decreases-loop-i
     (λ c. search kit)  -- loop-holds
     (λ c κs. search kit)  -- bit-kind-requires
     (λ c κs. search kit)  -- add-requires
     (λ c. search kit)  -- add-i
     (λ c. search kit)  -- loop-less
-    (λ c. let l = c.before.before.before.before.before.before.loop in (search rules, tallied_more _ _ _ _ _ _ _ l.invariant.1 (search rules) c.before.before.before.bit-kind.ensures.0 c.before.before.add.ensures))  -- loop-again
+    (λ c. let l = c.before.before.before.before.before.before.loop-i in (search rules, tallied_more _ _ _ _ _ _ _ l.invariant.1 (search rules) c.before.before.before.bit_kind.ensures.0 c.before.before.add.ensures))  -- loop-again
     (λ c. search kit)  -- same-length
     (λ c. search kit))  -- returns

@@ -9,18 +9,18 @@ use Rattle.loopback_core.proofs.comparing.distance.Tie as tie
 
 ruleset kit = (rules, counting, distance_fits, distance_done)
 
-abbrev invariant-loop : tie.invariant-loop
-invariant-loop a b n₀ k₀ n k = Counting (wrong_at a b) 256 k n
+abbrev invariant-loop-k : tie.invariant-loop-k
+invariant-loop-k a b n₀ k₀ n k = Counting (wrong_at a b) 256 k n
 
-abbrev decreases-loop : tie.decreases-loop
-decreases-loop a b n₀ k₀ n k = 256 - k
+abbrev decreases-loop-k : tie.decreases-loop-k
+decreases-loop-k a b n₀ k₀ n k = 256 - k
 
 pub distance_spec : {M : Type 1} → statement M
 distance_spec =
     tie.close
     (tie.spec
-    invariant-loop
-    decreases-loop
+    invariant-loop-k
+    decreases-loop-k
     (λ c. search kit)  -- loop-holds
     (λ c κs. search kit)  -- differ-requires
     (λ c. search kit)  -- add-n

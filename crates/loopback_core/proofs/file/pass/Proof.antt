@@ -15,4 +15,4 @@ pass_spec =
     (λ c. search rules)  -- slice-aggregate-read-frames
     (λ c κs. (file_whole _ _ _ c.before.before.before.write.ensures (search rules) (search rules), search rules))  -- read-frames-requires
     (λ c. search rules)  -- same-length
-    (λ c. frames_kept _ _ _ c.before.before.before.before.before.before.write.ensures (search rules) (search rules) _ c.before.before.read-frames.ensures))  -- returns
+    (λ c. frames_kept _ _ _ c.before.before.before.before.before.before.write.ensures (search rules) (search rules) _ c.before.before.read_frames.ensures))  -- returns

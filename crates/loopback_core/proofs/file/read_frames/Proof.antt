@@ -12,18 +12,18 @@ use Rattle.loopback_core.proofs.file.read_frames.Tie as tie
 
 ruleset kit = (rules, by_blocks, frames_whole)
 
-abbrev invariant-loop : tie.invariant-loop
-invariant-loop file frames₀ s₀ frames s = Blocks (byte_of_each 7424 (read_part_in (open_call file) 0)) 7424 48 s frames
+abbrev invariant-loop-s : tie.invariant-loop-s
+invariant-loop-s file frames₀ s₀ frames s = Blocks (byte_of_each 7424 (read_part_in (open_call file) 0)) 7424 48 s frames
 
-abbrev decreases-loop : tie.decreases-loop
-decreases-loop file frames₀ s₀ frames s = 48 - s
+abbrev decreases-loop-s : tie.decreases-loop-s
+decreases-loop-s file frames₀ s₀ frames s = 48 - s
 
 pub read_frames_spec : {M : Type 1} → statement M
 read_frames_spec =
     tie.close
     (tie.spec
-    invariant-loop
-    decreases-loop
+    invariant-loop-s
+    decreases-loop-s
     (λ c. search kit)  -- loop-holds
     (λ c. search kit)  -- mul-a
     (λ c. search kit)  -- add-e
@@ -35,8 +35,8 @@ read_frames_spec =
     (λ c. search kit)  -- add-s
     (λ c. search kit)  -- loop-less
     (λ c.
-    let l = c.before.before.before.before.before.loop in
+    let l = c.before.before.before.before.before.loop-s in
     blocks_next {d = l.frames} (l.s * 7424) (l.s * 7424 + 7424) _ l.invariant (search rules) refl refl
-    (file_frame_block _ (search rules) l.s _ _ (search rules) c.before.before.read-frame.ensures))  -- loop-again
+    (file_frame_block _ (search rules) l.s _ _ (search rules) c.before.before.read_frame.ensures))  -- loop-again
     (λ c. search kit)  -- same-length
     (λ c. search kit))  -- returns

@@ -10,18 +10,18 @@ use Rattle.loopback_core.proofs.noise.strike.Tie as tie
 
 ruleset kit = (rules, strikes)
 
-abbrev invariant-loop : tie.invariant-loop
-invariant-loop profile q line₀ n v₀ line v = (n ≡ (modulation profile).bits * 10) × (length line ≡ 356352) × Stepping (strike profile q) n line₀ v line
+abbrev invariant-loop-v : tie.invariant-loop-v
+invariant-loop-v profile q line₀ n v₀ line v = (n ≡ (modulation profile).bits * 10) × (length line ≡ 356352) × Stepping (strike profile q) n line₀ v line
 
-abbrev decreases-loop : tie.decreases-loop
-decreases-loop profile q line₀ n v₀ line v = n - v
+abbrev decreases-loop-v : tie.decreases-loop-v
+decreases-loop-v profile q line₀ n v₀ line v = n - v
 
 pub strike_spec : {M : Type 1} → statement M
 strike_spec =
     tie.close
     (tie.spec
-    invariant-loop
-    decreases-loop
+    invariant-loop-v
+    decreases-loop-v
     (λ c κs. search kit)  -- buffers-requires
     (λ c. search kit)  -- mul-n
     (λ c. search kit)  -- loop-holds

@@ -9,18 +9,18 @@ use Rattle.loopback_core.proofs.noise.strike_cell.Tie as tie
 
 ruleset kit = (rules, step_none, step_done, strike_cell_lem)
 
-abbrev invariant-loop : tie.invariant-loop
-invariant-loop profile cell n line₀ s₀ line s = (length line ≡ 356352) × Stepping (strike_cell profile cell) n line₀ s line
+abbrev invariant-loop-s : tie.invariant-loop-s
+invariant-loop-s profile cell n line₀ s₀ line s = (length line ≡ 356352) × Stepping (strike_cell profile cell) n line₀ s line
 
-abbrev decreases-loop : tie.decreases-loop
-decreases-loop profile cell n line₀ s₀ line s = n - s
+abbrev decreases-loop-s : tie.decreases-loop-s
+decreases-loop-s profile cell n line₀ s₀ line s = n - s
 
 pub strike_cell_spec : {M : Type 1} → statement M
 strike_cell_spec =
     tie.close
     (tie.spec
-    invariant-loop
-    decreases-loop
+    invariant-loop-s
+    decreases-loop-s
     (λ c. search kit)  -- loop-holds
     (λ c. search kit)  -- mul-replace
     (λ c. search kit)  -- add-replace

@@ -7,18 +7,18 @@ use Rattle.loopback_core.proofs.random.fill.Tie as tie
 
 ruleset kit = (rules, drawing)
 
-abbrev invariant-loop : tie.invariant-loop
-invariant-loop buffer₀ stream d state₀ i₀ i-end buffer state i = Drawing stream d i-end i state buffer
+abbrev invariant-loop-i : tie.invariant-loop-i
+invariant-loop-i buffer₀ stream d state₀ i₀ i-end buffer state i = Drawing stream d i-end i state buffer
 
-abbrev decreases-loop : tie.decreases-loop
-decreases-loop buffer₀ stream d state₀ i₀ i-end buffer state i = i-end - i
+abbrev decreases-loop-i : tie.decreases-loop-i
+decreases-loop-i buffer₀ stream d state₀ i₀ i-end buffer state i = i-end - i
 
 pub fill_spec : {M : Type 1} → statement M
 fill_spec =
     tie.close
     (tie.spec
-    invariant-loop
-    decreases-loop
+    invariant-loop-i
+    decreases-loop-i
     (λ c. search kit)  -- add-state
     (λ c. search kit)  -- loop-holds
     (λ c. search kit)  -- mul-state

@@ -9,18 +9,18 @@ use Rattle.receiving_core.proofs.checks.dirty.Tie as tie
 
 ruleset kit = (rules, joining)
 
-abbrev invariant-loop : tie.invariant-loop
-invariant-loop sums odd d₀ i₀ d i = Joining odd sums i d
+abbrev invariant-loop-i : tie.invariant-loop-i
+invariant-loop-i sums odd d₀ i₀ d i = Joining odd sums i d
 
-abbrev decreases-loop : tie.decreases-loop
-decreases-loop sums odd d₀ i₀ d i = 16 - i
+abbrev decreases-loop-i : tie.decreases-loop-i
+decreases-loop-i sums odd d₀ i₀ d i = 16 - i
 
 pub dirty_spec : {M : Type 1} → statement M
 dirty_spec =
     tie.close
     (tie.spec
-    invariant-loop
-    decreases-loop
+    invariant-loop-i
+    decreases-loop-i
     (λ c. search kit)  -- loop-holds
     (λ c. search kit)  -- mul-d
     (λ c. search kit)  -- element-copy-out-d
