@@ -1,5 +1,7 @@
 // Workers of `loopback`: refused calls among the others. Some are lent an encoder's or a receiver's own history, and leave it as it was.
 // Over `encoder`, `receiver` and `frame`; `loopback_core` counts them.
+#![tactic(auto)]
+
 ghost use Rattle.std.specs.Prelude.{◌≡◌, length};
 ghost use Rattle.calls.specs.declared.Answer.TheVariants.{Refused};
 ghost use Rattle.calls.specs.declared.Refusal.TheVariants.{Misfit, CountSpent, NoSuchFrame, OffGrid};

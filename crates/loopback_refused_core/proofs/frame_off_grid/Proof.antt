@@ -15,4 +15,4 @@ frame_off_grid_spec =
     (λ c. search rules)  -- part-frame-end
     (λ c. search rules)  -- slice-aggregate-frame
     (λ c κs. search rules)  -- frame-requires
-    (λ c. frame_off_grid _ _ _ _ _ _ (search rules) (search rules) c.before.frame2.ensures (search rules) (search rules)))  -- returns
+    (λ c. frame_off_grid _ _ _ _ _ _ (search rules) (search rules) c.before.frame.ensures (search rules) (search rules)))  -- returns

@@ -12,18 +12,18 @@ use Rattle.loopback_refused_core.proofs.refuse_encodings.Tie as tie
 
 ruleset kit = (rules, step_none, step_done, refused_more)
 
-abbrev invariant-loop : tie.invariant-loop
-invariant-loop history₀ counts₀ k₀ history counts k = (history ≡ history₀) × (length counts ≡ 41) × Stepping (λ i. refused_two) 168 counts₀ k counts
+abbrev invariant-loop-k : tie.invariant-loop-k
+invariant-loop-k history₀ counts₀ k₀ history counts k = (history ≡ history₀) × (length counts ≡ 41) × Stepping (λ i. refused_two) 168 counts₀ k counts
 
-abbrev decreases-loop : tie.decreases-loop
-decreases-loop history₀ counts₀ k₀ history counts k = 168 - k
+abbrev decreases-loop-k : tie.decreases-loop-k
+decreases-loop-k history₀ counts₀ k₀ history counts k = 168 - k
 
 pub refuse_encodings_spec : {M : Type 1} → statement M
 refuse_encodings_spec =
     tie.close
     (tie.spec
-    invariant-loop
-    decreases-loop
+    invariant-loop-k
+    decreases-loop-k
     (λ c. search kit)  -- loop-holds
     (λ c κs. search kit)  -- encode-short-requires
     (λ c κs. (search rules, search (rules, number_known)))  -- answered-requires
