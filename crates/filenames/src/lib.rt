@@ -1,10 +1,18 @@
 // The text of file names: the folder, the name that a symbolic link leads to, and one beside a name. Below `files`.
-ghost use Rattle.std.specs.Prelude.{◌+◌, ◌≤◌, length};
-ghost use Rattle.io.specs.Counts.{IsPrefixLen};
-ghost use Rattle.libc.specs.Io.{Ended};
+#![tactic(auto)]
+
+ghost use Rattle.std.specs.Prelude.{◌≡◌, ◌+◌, ◌≤◌, ◌<◌, length, IfOk};
+ghost use Rattle.filenames.specs.Counts.{IsPrefixLen};
+
+use std::io::ErrorKind;
+use std::rt::Files;
+use std::{fs, io, str};
 
 // As many links as the system follows.
 const LINKS: usize = 40;
+
+// The system's number for a name that is too long.
+const TOO_LONG: i32 = 36;
 
 // Puts text into path, from an index on.
 fn put(text: &[u8], path: &mut [u8], from: usize)
@@ -15,17 +23,17 @@ fn put(text: &[u8], path: &mut [u8], from: usize)
     }
 }
 
-// A path as the C library takes it; one that is too long becomes the empty one, which names nothing.
-fn ended(path: &[u8]) -> [u8; 4096]
-    ensures { Ended result }
+// A path as the system's calls take it: text, of fewer than 4,096 bytes.
+pub fn path(name: &[u8]) -> io::Result<&str>
+    ensures { IfOk result (λ text. (text.now ≡ name.now) × (length name.now < 4096)) }
 {
-    let mut text = io::buffer();
-    if 4095 < path.len() {
-        return [0u8; 4096];
+    if 4095 < name.len() {
+        return Err(io::Error::from_raw_os_error(TOO_LONG));
     }
-    put(path, &mut text, 0);
-    text[4095] = 0;
-    text
+    match str::from_utf8(name) {
+        Ok(text) => Ok(text),
+        Err(_) => Err(io::Error::from(ErrorKind::InvalidFilename)),
+    }
 }
 
 // The index behind the last slash.
@@ -69,35 +77,40 @@ fn lead(text: &[u8], name: &mut [u8], n: usize) -> usize
     from + text.len()
 }
 
-// Puts the name that a symbolic link leads to in the place of the link's, and answers its length; 0 where the name is no link's.
-pub fn follow(name: &mut [u8], n: usize) -> usize
+// Puts the name that a symbolic link leads to in the place of the link's, and answers its length; 0 where the name is no link's. It fails
+// where the link's text is no UTF-8, or memory for it is short.
+pub fn follow<R: Files + Alloc>(rt: &R, name: &mut [u8], n: usize) -> io::Result<usize>
     requires { IsPrefixLen n name.old }
-    ensures { IsPrefixLen result name.new }
+    ensures { IfOk result (λ k. IsPrefixLen k name.new) }
 {
-    let link = ended(&name[..n]);
-    let mut text = io::buffer();
-    let got = libc::readlink(&link, &mut text);
-    let k = io::count(got, &text);
-    if k == 0 {
-        return 0;
+    let Ok(link) = path(&name[..n]) else {
+        return Ok(0);
+    };
+    match fs::read_link(rt, link) {
+        Ok(text) => Ok(lead(text.as_str().as_bytes(), name, n)),
+        Err(error) => {
+            if error.raw_os_error().is_none() {
+                return Err(error);
+            }
+            Ok(0)
+        }
     }
-    lead(&text[..k], name, n)
 }
 
 // The same to the end of a chain of links, and the answer is the length of the last name.
-pub fn follow_all(name: &mut [u8], n: usize) -> usize
+pub fn follow_all<R: Files + Alloc>(rt: &R, name: &mut [u8], n: usize) -> io::Result<usize>
     requires { IsPrefixLen n name.old }
-    ensures { IsPrefixLen result name.new }
+    ensures { IfOk result (λ k. IsPrefixLen k name.new) }
 {
     let mut end = n;
-    for i in 0..LINKS {
-        let next = follow(name, end);
+    for _ in 0..LINKS {
+        let next = follow(rt, name, end)?;
         if next == 0 {
-            return end;
+            return Ok(end);
         }
         end = next;
     }
-    end
+    Ok(end)
 }
 
 // Puts a name beside this one, ended by X's, at the start of path, and answers its length; 0 where it does not fit.

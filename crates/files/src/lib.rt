@@ -1,6 +1,8 @@
 // The files of a program: opened by argument and measured, or made under a name that they take when they are whole; and what is
 // said of them on standard error.
-// Over `filestatus` and `filenames`, below `linemake` and `linereceive`.
+// Over `report`, `filestatus` and `filenames`, below `linemake` and `linereceive`.
+#![tactic(auto)]
+
 mod making;
 pub mod message;
 mod naming;
@@ -11,61 +13,110 @@ pub use filestatus::{is_regular, same};
 pub use making::{close, create, finish, leads_to, take_name};
 pub use naming::target;
 pub use places::collide;
+use std::env::FillError;
+use std::fs;
+use std::io::{Read, Seek, SeekFrom};
+use std::os::fd::AsRawFd;
+use std::rt::{Env, Files};
 
-// Opens the file that an argument names for reading, and answers its descriptor; or says why it cannot, and answers -1.
-pub fn open(argument: usize) -> i32 {
-    let mut path = io::buffer();
-    let n = naming::name_of(argument, &mut path);
+// Whether the program was started with so many arguments, its own name not counted.
+pub fn has_argument<R: Env>(rt: &R, argument: usize) -> bool {
+    let mut start = [0u8; 1];
+    match rt.arg(argument, &mut start) {
+        Ok(_) => true,
+        Err(FillError::TooLong) => true,
+        Err(FillError::NotPresent) => false,
+    }
+}
+
+// Opens the file that an argument names for reading; or says why it cannot.
+pub fn open<R: Files + Env + Eprint>(rt: &R, argument: usize) -> Option<R::File> {
+    let mut name = [0u8; 4096];
+    let n = naming::name_of(rt, argument, &mut name);
     if n == 0 {
-        return -1;
+        return None;
     }
-    let fd = os::open_read(&path[..n]);
-    if fd < 0 {
-        os::fail(&path[..n]);
+    match places::open_read(rt, &name[..n]) {
+        Ok(file) => Some(file),
+        Err(error) => {
+            message::fail(rt, &name[..n], error);
+            None
+        }
     }
-    fd
 }
 
 // Whether an argument is this word.
-pub fn is_word(argument: usize, word: &[u8]) -> bool {
-    let mut text = io::buffer();
-    let n = os::arg(argument, &mut text);
+pub fn is_word<R: Env>(rt: &R, argument: usize, word: &[u8]) -> bool {
+    let mut text = [0u8; 4096];
+    let n = rt.arg(argument, &mut text).unwrap_or(0);
     places::equal(&text[..n], word)
 }
 
 // The length of an open file; 0 where it has none.
-pub fn length(fd: i32) -> usize {
-    let end = libc::lseek(fd, 0, libc::SEEK_END);
-    if end < 0 {
-        return 0;
+pub fn length<F: Seek>(file: &mut F) -> usize {
+    match file.seek(SeekFrom::End(0)) {
+        Ok(end) => end as usize,
+        Err(_) => 0,
     }
-    end as usize
+}
+
+// Goes to the front of an open file, and answers whether it could.
+fn to_front<F: Seek>(file: &mut F) -> bool {
+    match file.seek(SeekFrom::Start(0)) {
+        Ok(at) => at == 0,
+        Err(_) => false,
+    }
+}
+
+// Whether a byte can be read from an open file.
+fn has_byte<F: Read>(file: &mut F) -> bool {
+    let mut first = [0u8; 1];
+    match file.read(&mut first) {
+        Ok(got) => got == 1,
+        Err(_) => false,
+    }
 }
 
 // The length of an open file that can be read, and the next read begins at its front; otherwise 0.
-pub fn size(fd: i32) -> usize {
-    let bytes = length(fd);
-    let mut first = [0u8; 1];
-    if libc::pread(fd, &mut first, 0) != 1 {
-        return 0;
+pub fn size<F: Read + Seek>(file: &mut F) -> usize {
+    let bytes = length(file);
+    if to_front(file) && has_byte(file) && to_front(file) {
+        return bytes;
     }
-    if libc::lseek(fd, 0, libc::SEEK_SET) != 0 {
-        return 0;
-    }
-    bytes
+    0
+}
+
+// The standard descriptors that were closed, taken up as long as this lasts.
+#[derive(Drop)]
+pub struct Held<F> {
+    first: Option<F>,
+    second: Option<F>,
+    third: Option<F>,
 }
 
 // Takes up a standard descriptor that is closed.
-fn hold() {
-    let fd = os::open_read(b"/dev/null");
-    if 2 < fd {
-        libc::close(fd);
+fn hold<R: Files>(rt: &R) -> Option<R::File>
+where
+    R::File: AsRawFd,
+{
+    let file = fs::open(rt, "/dev/null").ok()?;
+    if 2 < file.as_raw_fd() {
+        return None;
     }
+    Some(file)
 }
 
 // Takes up the standard descriptors that are closed, so that none of them becomes a file's.
-pub fn hold_standard() {
-    hold();
-    hold();
-    hold();
+pub fn hold_standard<R: Files>(rt: &R) -> Held<R::File>
+where
+    R::File: AsRawFd,
+{
+    let first = hold(rt);
+    let second = hold(rt);
+    let third = hold(rt);
+    Held {
+        first,
+        second,
+        third,
+    }
 }

@@ -1,50 +1,56 @@
-// Whether two names to write are one file's.
+// Names that are opened, and whether two names to write are one file's.
+ghost use Rattle.std.specs.Prelude.{◌≡◌, ◌↔◌, IsTrue};
+
 use crate::making::leads_to;
-use filenames::folder;
+use filenames::{folder, path};
 use filestatus::same;
+use std::fs::OpenOptions;
+use std::rt::Files;
+use std::{fs, io};
+
+// Opens the file of this name for reading.
+pub fn open_read<R: Files>(rt: &R, name: &[u8]) -> io::Result<R::File> {
+    fs::open(rt, path(name)?)
+}
+
+// Opens the file of this name for reading and writing, and leaves its bytes as they are.
+pub fn open_update<R: Files>(rt: &R, name: &[u8]) -> io::Result<R::File> {
+    let mut options = OpenOptions::new();
+    options.read(true).write(true);
+    options.open(rt, path(name)?)
+}
 
 // Whether two texts are the same.
-pub fn equal(a: &[u8], b: &[u8]) -> bool {
-    if a.len() != b.len() {
-        return false;
-    }
-    for i in 0..a.len() {
-        if a[i] != b[i] {
-            return false;
-        }
-    }
-    true
+pub fn equal(a: &[u8], b: &[u8]) -> bool
+    ensures { IsTrue result ↔ (a.now ≡ b.now) }
+{
+    a == b
 }
 
 // Opens the folder of a name.
-fn open_folder(name: &[u8]) -> i32 {
+fn open_folder<R: Files>(rt: &R, name: &[u8]) -> io::Result<R::File> {
     let end = folder(name);
     if end == 0 {
-        return os::open_read(b".");
+        return open_read(rt, b".");
     }
-    os::open_read(&name[0..end])
+    open_read(rt, &name[0..end])
 }
 
 // Whether two names lie in the same folder.
-fn in_one_folder(a: &[u8], b: &[u8]) -> bool {
-    let first = open_folder(a);
-    let second = open_folder(b);
-    let one = same(first, second);
-    libc::close(first);
-    libc::close(second);
-    one
+fn in_one_folder<R: Files>(rt: &R, a: &[u8], b: &[u8]) -> bool {
+    match (open_folder(rt, a), open_folder(rt, b)) {
+        (Ok(first), Ok(second)) => same(&first, &second),
+        _ => false,
+    }
 }
 
 // Whether a file that is made under the one name has the other too: both lead to one file, or no file has them yet and they are one name in
 // one folder.
-pub fn collide(a: &[u8], b: &[u8]) -> bool {
-    let fd = os::open_update(a);
-    if 0 <= fd {
-        let one = leads_to(b, fd);
-        libc::close(fd);
-        return one;
+pub fn collide<R: Files>(rt: &R, a: &[u8], b: &[u8]) -> bool {
+    if let Ok(file) = open_update(rt, a) {
+        return leads_to(rt, b, &file);
     }
-    if in_one_folder(a, b) {
+    if in_one_folder(rt, a, b) {
         return equal(&a[folder(a)..], &b[folder(b)..]);
     }
     false

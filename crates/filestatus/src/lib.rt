@@ -1,69 +1,29 @@
 // What the system says of an open file: its device and number, its kind and its mode. Below `files`.
 #![tactic(auto)]
 
-use libc::types::{stat, timespec};
+use std::fs::OpenFile;
+use std::os::unix::fs::MetadataExt;
 
-fn no_time() -> timespec {
-    timespec {
-        tv_sec: 0,
-        tv_nsec: 0,
+// Whether it is a regular file. One of which the system says nothing is none.
+pub fn is_regular<F: OpenFile>(file: &F) -> bool {
+    match file.metadata() {
+        Ok(said) => said.is_file(),
+        Err(_) => false,
     }
 }
 
-// Nothing is said yet.
-fn unsaid() -> stat {
-    stat {
-        st_dev: 0,
-        st_ino: 0,
-        st_nlink: 0,
-        st_mode: 0,
-        st_uid: 0,
-        st_gid: 0,
-        __pad: 0,
-        st_rdev: 0,
-        st_size: 0,
-        st_blksize: 0,
-        st_blocks: 0,
-        st_atim: no_time(),
-        st_mtim: no_time(),
-        st_ctim: no_time(),
-        __unused: [0; 3],
+// The mode of an open file, without its kind; 0 where the system says nothing.
+pub fn mode<F: OpenFile>(file: &F) -> u32 {
+    match file.metadata() {
+        Ok(said) => said.mode() % 4096,
+        Err(_) => 0,
     }
 }
 
-// What the system says of an open file, or what is passed where it says nothing.
-fn ask(fd: i32, unsaid: stat) -> stat {
-    let mut said = unsaid;
-    libc::fstat(fd, &mut said);
-    said
-}
-
-// What the system says of an open file: zeros where it is not open.
-fn of(fd: i32) -> stat {
-    ask(fd, unsaid())
-}
-
-// Whether it is a regular file.
-pub fn is_regular(fd: i32) -> bool {
-    let said = of(fd);
-    said.st_mode / 4096 == libc::S_IFREG / 4096
-}
-
-// The mode of an open file, without its kind.
-pub fn mode(fd: i32) -> u32 {
-    let said = of(fd);
-    said.st_mode % 4096
-}
-
-// Whether both are the same open file, by device and number. A mode of 0 is that of none.
-pub fn same(a: i32, b: i32) -> bool {
-    let first = of(a);
-    let second = of(b);
-    if first.st_dev != second.st_dev {
-        return false;
+// Whether both are the same open file, by device and number. One of which the system says nothing is the same as none.
+pub fn same<F: OpenFile, G: OpenFile>(a: &F, b: &G) -> bool {
+    match (a.metadata(), b.metadata()) {
+        (Ok(first), Ok(second)) => first.dev() == second.dev() && first.ino() == second.ino(),
+        _ => false,
     }
-    if first.st_mode == 0 {
-        return false;
-    }
-    first.st_ino == second.st_ino
 }

@@ -60,7 +60,9 @@ fn subset_rows(pairs0: &[u8], pairs1: &[u8], x: usize) -> [[u16; 128]; 4]
     rows
 }
 
-// All block rows, reordered, those of the four subsets side by side.
+// All block rows, reordered, those of the four subsets side by side. Not compiled into its callers: its array would then need stack beside
+// theirs.
+#[inline(never)]
 pub fn reordered_rows(pairs0: &[u8], pairs1: &[u8]) -> [[u16; 512]; 21]
     requires { (length pairs0.now ≡ 10752) × (length pairs1.now ≡ 10752) }
     ensures { result ≡ tabulate 21 (joined_row pairs0.now pairs1.now) }

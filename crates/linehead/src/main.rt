@@ -1,25 +1,48 @@
 // Reads a file on standard input and prints what its header says, or why it is refused. The bytes are counted and, but for
 // the first sixteen, not kept.
-// Over `header_core` and `report`.
-ghost use Rattle.std.specs.Prelude.{◌≤◌};
+// Over `header_core`, `report` and `files`.
+#![tactic(auto)]
 
-use libc::{STDERR_FILENO, STDIN_FILENO};
+ghost use Rattle.std.specs.Prelude.{◌≤◌, length};
+
+use std::io::Read;
+
+// Reads into a buffer, and answers how many bytes it got: none at the end of the input, or where the read fails.
+fn read_some<I: Read>(input: &mut I, buffer: &mut [u8]) -> usize
+    ensures { result ≤ length buffer.new }
+{
+    input.read(buffer).unwrap_or(0)
+}
 
 // Reads a block and answers how many bytes it had: none at the end of the input, or where the read fails.
-fn block() -> usize
+fn block<I: Read>(input: &mut I) -> usize
     ensures { result ≤ 65536 }
 {
-    let mut buffer = io::large_buffer();
-    let got = libc::read(STDIN_FILENO, &mut buffer);
-    io::count(got, &buffer)
+    let mut buffer = [0u8; 65536];
+    read_some(input, &mut buffer)
+}
+
+// Reads the first sixteen bytes of the input, or as many as it has, and answers how many.
+fn read_first<I: Read>(input: &mut I, first: &mut [u8; 16]) -> usize
+    ensures { result ≤ 16 }
+{
+    let mut done = 0;
+    while done < 16 {
+        let n = read_some(input, &mut first[done..]);
+        if n == 0 {
+            return done;
+        }
+        done += n;
+    }
+    done
 }
 
 // Counts on to the end of the input, or to 2^32 or a block beyond: a header's total is less, so that it is refused
 // whatever follows.
-fn count_on(from: usize) -> usize {
+fn count_on<I: Read>(input: &mut I, from: usize) -> usize {
     let mut count = from;
     while count < 4294967296 {
-        let n = block();
+        let n = block(input);
         if n == 0 {
             return count;
         }
@@ -28,34 +51,31 @@ fn count_on(from: usize) -> usize {
     count
 }
 
-// Whether standard input cannot be read at all: a read of no bytes fails, and waits for none.
-fn is_unreadable() -> bool {
-    let mut none = [0u8; 1];
-    libc::read(STDIN_FILENO, &mut none[0..0]) < 0
-}
-
-// Says why the header is refused, where it is.
-fn explain(first: &[u8; 16], size: usize) {
+// Says why the header is refused, where it is. Standard input that cannot be read at all has no bytes, and a read of none fails too.
+fn explain<R: Eprint, I: Read>(rt: &R, input: &mut I, first: &[u8; 16], size: usize) {
     if size == 0 {
-        if is_unreadable() {
-            return os::fail(b"standard input");
+        let mut none = [0u8; 1];
+        if let Err(error) = input.read(&mut none[0..0]) {
+            return report::fail(rt, "standard input", error);
         }
     }
-    report::explain_header(b"standard input", first, size);
+    report::explain_header(rt, "standard input", first, size);
 }
 
-fn main() {
-    if 1 < os::arg_count() {
-        io::write_all(
-            STDERR_FILENO,
-            b"linehead takes no argument: it reads a line file on standard input\n",
-        );
-    }
+// Prints what the header says in the input's first bytes, or why it is refused.
+fn run<R: Print + Eprint, I: Read>(rt: &R, input: &mut I) {
     let mut first = [0u8; 16];
-    let mut size = io::read_full(STDIN_FILENO, &mut first);
+    let mut size = read_first(input, &mut first);
     if size == 16 {
-        size = count_on(size);
+        size = count_on(input, size);
     }
-    report::print_header(header_core::rules::judge(&first, size));
-    explain(&first, size);
+    report::print_header(rt, header_core::rules::judge(&first, size));
+    explain(rt, input, &first, size);
+}
+
+fn main(rt: HostRuntime) {
+    if files::has_argument(&rt, 1) {
+        let _ = eprintln!(rt; "linehead takes no argument: it reads a line file on standard input");
+    }
+    run(&rt, &mut rt.stdin());
 }

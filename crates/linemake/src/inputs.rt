@@ -5,6 +5,9 @@ ghost use Rattle.std.specs.Prelude.{◌≤◌, ◌<◌};
 use cells_core::sizes::pairs;
 use files::{message, size};
 use profile::Profile;
+use std::fs::OpenFile;
+use std::io::{Read, Seek};
+use std::rt::{Env, Files};
 
 // The refusal of a file that cannot be opened, read or written, or has the wrong size.
 pub const MISFIT: u32 = 1;
@@ -30,12 +33,12 @@ const LIST: usize = 12288;
 // The most super-frames of a line file.
 const MOST: usize = 64;
 
-// The descriptors of two payload files and the overhead list; -1 for a file that could not be opened.
+// Two payload files and the overhead list.
 #[derive(Drop)]
-pub struct Inputs {
-    pub payload0: i32,
-    pub payload1: i32,
-    pub overhead: i32,
+pub struct Inputs<F> {
+    pub payload0: F,
+    pub payload1: F,
+    pub overhead: F,
 }
 
 // The bytes of a payload file for a super-frame.
@@ -45,66 +48,71 @@ fn payload_bytes(profile: Profile) -> usize
     pairs(profile) * PAIR
 }
 
-// Opens a file where the one before it could be opened.
-fn open_after(before: i32, argument: usize) -> i32 {
-    if before < 0 {
-        return -1;
-    }
-    files::open(argument)
-}
-
 // Opens the files, or says of the first that it cannot open why.
-pub fn open() -> Inputs {
-    let payload0 = files::open(PAYLOAD0);
-    let payload1 = open_after(payload0, PAYLOAD1);
-    let overhead = open_after(payload1, OVERHEAD);
-    Inputs {
-        payload0: payload0,
-        payload1: payload1,
-        overhead: overhead,
-    }
+pub fn open<R: Files + Env + Eprint>(rt: &R) -> Option<Inputs<R::File>> {
+    let payload0 = files::open(rt, PAYLOAD0)?;
+    let payload1 = files::open(rt, PAYLOAD1)?;
+    let overhead = files::open(rt, OVERHEAD)?;
+    Some(Inputs {
+        payload0,
+        payload1,
+        overhead,
+    })
 }
 
 // Whether the payload files and the list have sizes that fit together, or says which has not.
-fn fit(profile: Profile, inputs: Inputs, bytes: usize) -> bool {
+fn fit<R: Env + Eprint, F: Read + Seek + OpenFile>(
+    rt: &R,
+    profile: Profile,
+    inputs: &mut Inputs<F>,
+    bytes: usize,
+) -> bool {
     let unit = payload_bytes(profile);
     if bytes < unit {
-        message::size(PAYLOAD0, inputs.payload0, bytes, b"at least ", unit);
+        message::size(rt, PAYLOAD0, &inputs.payload0, bytes, "at least ", unit);
         return false;
     }
     if bytes % unit != 0 {
-        message::size(PAYLOAD0, inputs.payload0, bytes, b"a multiple of ", unit);
+        message::size(
+            rt,
+            PAYLOAD0,
+            &inputs.payload0,
+            bytes,
+            "a multiple of ",
+            unit,
+        );
         return false;
     }
-    let others = size(inputs.payload1);
+    let others = size(&mut inputs.payload1);
     if others != bytes {
         message::size(
+            rt,
             PAYLOAD1,
-            inputs.payload1,
+            &inputs.payload1,
             others,
-            b"as many as the other payload file has, ",
+            "as many as the other payload file has, ",
             bytes,
         );
         return false;
     }
-    let list = size(inputs.overhead);
+    let list = size(&mut inputs.overhead);
     if list != LIST {
-        message::size(OVERHEAD, inputs.overhead, list, b"", LIST);
+        message::size(rt, OVERHEAD, &inputs.overhead, list, "", LIST);
         return false;
     }
     true
 }
 
-// How many super-frames the payload files hold, with one above the most for any more; none where a file could not be opened or a size
-// misfits, which is said.
-pub fn superframes(profile: Profile, inputs: Inputs) -> u32
+// How many super-frames the payload files hold, with one above the most for any more; none where a size misfits, which is said.
+pub fn superframes<R: Env + Eprint, F: Read + Seek + OpenFile>(
+    rt: &R,
+    profile: Profile,
+    inputs: &mut Inputs<F>,
+) -> u32
     ensures { result ≤ 65 }
 {
-    if inputs.overhead < 0 {
-        return 0;
-    }
-    let bytes = size(inputs.payload0);
-    if !fit(profile, inputs, bytes) {
+    let bytes = size(&mut inputs.payload0);
+    if !fit(rt, profile, inputs, bytes) {
         return 0;
     }
     let n = bytes / payload_bytes(profile);
@@ -115,26 +123,30 @@ pub fn superframes(profile: Profile, inputs: Inputs) -> u32
 }
 
 // Says how many super-frames the payload files hold, more than a line file has.
-pub fn say_too_many(profile: Profile, inputs: Inputs) {
-    message::begin(PAYLOAD0);
-    message::number(size(inputs.payload0) / payload_bytes(profile));
-    message::text(b" super-frames, expected at most ");
-    message::number(MOST);
-    message::text(b"\n");
+pub fn say_too_many<R: Env + Eprint, F: Read + Seek>(
+    rt: &R,
+    profile: Profile,
+    inputs: &mut Inputs<F>,
+) {
+    message::begin(rt, PAYLOAD0);
+    message::number(rt, size(&mut inputs.payload0) / payload_bytes(profile));
+    message::text(rt, " super-frames, expected at most ");
+    message::number(rt, MOST);
+    message::text(rt, "\n");
 }
 
 // Whether the line file's name leads to one of these, which is said.
-pub fn are_led_to(inputs: Inputs, name: &[u8]) -> bool {
-    if files::leads_to(name, inputs.payload0) {
-        message::line(LINE, b"the same file as PAYLOAD0");
+pub fn are_led_to<R: Files + Env + Eprint>(rt: &R, inputs: &Inputs<R::File>, name: &[u8]) -> bool {
+    if files::leads_to(rt, name, &inputs.payload0) {
+        message::line(rt, LINE, "the same file as PAYLOAD0");
         return true;
     }
-    if files::leads_to(name, inputs.payload1) {
-        message::line(LINE, b"the same file as PAYLOAD1");
+    if files::leads_to(rt, name, &inputs.payload1) {
+        message::line(rt, LINE, "the same file as PAYLOAD1");
         return true;
     }
-    if files::leads_to(name, inputs.overhead) {
-        message::line(LINE, b"the same file as OVERHEAD");
+    if files::leads_to(rt, name, &inputs.overhead) {
+        message::line(rt, LINE, "the same file as OVERHEAD");
         return true;
     }
     false

@@ -7,81 +7,88 @@ use crate::superframes::write_all;
 use calls::{Answer, Refusal};
 use files::message;
 use profile::Profile;
+use std::io::{Read, Seek, Write};
+use std::rt::Env;
 
 // Writes to the line file, or says why it cannot.
-pub fn put(out: i32, bytes: &[u8]) -> u32 {
-    if io::write_all(out, bytes) {
-        return 0;
+pub fn put<R: Eprint, W: Write>(rt: &R, out: &mut W, bytes: &[u8]) -> u32 {
+    match out.write_all(bytes) {
+        Ok(()) => 0,
+        Err(error) => {
+            report::fail(rt, "line file", error);
+            MISFIT
+        }
     }
-    os::fail(b"line file");
-    MISFIT
 }
 
 // Reads the overhead list and makes the header: 0, or the refusal.
-fn prepare(
+fn prepare<R: Env + Eprint, F: Read + Seek>(
+    rt: &R,
     profile: Profile,
-    inputs: Inputs,
+    inputs: &mut Inputs<F>,
     superframes: u32,
     header: &mut [u8; 16],
     overhead: &mut [u8; 12288],
 ) -> u32 {
-    if io::read_full(inputs.overhead, overhead) != 12288 {
-        message::line(OVERHEAD, b"the file ended early");
+    if inputs.overhead.read_exact(overhead).is_err() {
+        message::line(rt, OVERHEAD, "the file ended early");
         return MISFIT;
     }
     let refusal = calls::refusal_of(line_file::write_header(superframes, header));
     if refusal != 0 {
-        inputs::say_too_many(profile, inputs);
+        inputs::say_too_many(rt, profile, inputs);
     }
     refusal
 }
 
 // Says where the list has an illegal byte.
-fn say_illegal(index: usize) {
-    message::line_with(OVERHEAD, b"a byte of 16 or more at index ", index);
+fn say_illegal<R: Env + Eprint>(rt: &R, index: usize) {
+    message::line_with(rt, OVERHEAD, "a byte of 16 or more at index ", index);
 }
 
 // Writes header, list and super-frames: 0, or the refusal.
-fn write_parts(
+fn write_parts<R: Env + Eprint, F: Read, W: Write>(
+    rt: &R,
     profile: Profile,
-    inputs: Inputs,
+    inputs: &mut Inputs<F>,
     superframes: u32,
     header: &[u8],
     overhead: &[u8],
-    out: i32,
+    out: &mut W,
 ) -> u32
     requires { (superframes ≤ 65) × (length overhead.now ≡ 12288) }
 {
     let illegal = cells_core::legal::first_illegal(overhead);
     if illegal < overhead.len() {
-        say_illegal(illegal);
+        say_illegal(rt, illegal);
         return calls::refusal_of(Answer::Refused(Refusal::OffGrid(illegal)));
     }
-    let headed = put(out, header);
+    let headed = put(rt, out, header);
     if headed != 0 {
         return headed;
     }
-    let listed = put(out, overhead);
+    let listed = put(rt, out, overhead);
     if listed != 0 {
         return listed;
     }
-    write_all(profile, inputs, superframes, overhead, out)
+    write_all(rt, profile, inputs, superframes, overhead, out)
 }
 
 // Writes the line file: 0, or the refusal.
-pub fn write(
+pub fn write<R: Env + Eprint, F: Read + Seek, W: Write>(
+    rt: &R,
     profile: Profile,
-    inputs: Inputs,
+    inputs: &mut Inputs<F>,
     superframes: u32,
     header: &mut [u8; 16],
     overhead: &mut [u8; 12288],
-    out: i32,
+    out: &mut W,
 ) -> u32
     requires { superframes ≤ 65 }
 {
-    let prepared = prepare(profile, inputs, superframes, header, overhead);
+    let prepared = prepare(rt, profile, inputs, superframes, header, overhead);
     if prepared != 0 {
         return prepared;
     }
-    write_parts(profile, inputs, superframes, header, overhead, out)
+    write_parts(rt, profile, inputs, superframes, header, overhead, out)
 }

@@ -7,21 +7,29 @@ use crate::inputs::MISFIT;
 use cells_core::sizes::pairs;
 use files::message;
 use profile::Profile;
+use std::io::Read;
+use std::rt::Env;
 
 // Reads the payload of the next super-frame from the file of this argument, and answers whether the file had it.
-fn read_next(argument: usize, file: i32, payload: &mut [u8]) -> bool {
-    if io::read_full(file, payload) == payload.len() {
+fn read_next<R: Env + Eprint, F: Read>(
+    rt: &R,
+    argument: usize,
+    file: &mut F,
+    payload: &mut [u8],
+) -> bool {
+    if file.read_exact(payload).is_ok() {
         return true;
     }
-    message::line(argument, b"the file ended early");
+    message::line(rt, argument, "the file ended early");
     false
 }
 
 // The coded pairs of the next super-frame of one encoder, numbered from `first` on; its payload is read into a buffer: 0, or the refusal.
-fn read_and_encode(
+fn read_and_encode<R: Env + Eprint, F: Read>(
+    rt: &R,
     pairs: usize,
     argument: usize,
-    file: i32,
+    file: &mut F,
     payload: &mut [u8],
     encoder: u32,
     first: u32,
@@ -31,7 +39,7 @@ fn read_and_encode(
     requires { (pairs ≤ 168) × (length payload.old ≡ pairs * 444) × (encoder ≤ 1) × (first < 65536) × BeforePair encoder first history.old × (length coded.old ≡ pairs * 512) }
     ensures { result ≡ 0 → BeforePair encoder (first + pairs) history.new }
 {
-    if !read_next(argument, file, payload) {
+    if !read_next(rt, argument, file, payload) {
         return MISFIT;
     }
     pair_stream::encode(pairs, payload, encoder, first, history, coded);
@@ -40,10 +48,11 @@ fn read_and_encode(
 
 // The same with a buffer that has room for the frames of a super-frame: the payload takes its front, so that no stack is needed for it.
 // The coded pairs take the front of theirs.
-pub fn encode(
+pub fn encode<R: Env + Eprint, F: Read>(
+    rt: &R,
     profile: Profile,
     argument: usize,
-    file: i32,
+    file: &mut F,
     space: &mut [u8],
     encoder: u32,
     first: u32,
@@ -57,6 +66,7 @@ pub fn encode(
     let p = n * 444;
     let m = n * 512;
     read_and_encode(
+        rt,
         n,
         argument,
         file,

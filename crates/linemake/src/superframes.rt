@@ -10,28 +10,32 @@ use crate::pairs::encode;
 use cells_core::sizes::{first_pair, pairs};
 use files::message;
 use profile::Profile;
+use std::io::{Read, Write};
+use std::rt::Env;
 
 // Makes the frames of coded pairs and writes them.
-fn write_frames(
+fn write_frames<R: Eprint, W: Write>(
+    rt: &R,
     profile: Profile,
     coded0: &[u8],
     coded1: &[u8],
     overhead: &[u8],
     line: &mut [u8; 356352],
-    out: i32,
+    out: &mut W,
 ) -> u32
     requires { (length coded0.now ≡ 86016) × (length coded1.now ≡ 86016) × (length overhead.now ≡ 12288) × Legal overhead_rule overhead.now }
 {
     let m = pairs(profile) * 512;
     superframe::make(profile, &coded0[0..m], &coded1[0..m], overhead, line);
-    put(out, line)
+    put(rt, out, line)
 }
 
 // Encodes the pairs of the next super-frame of both encoders, numbered from `first` on. Answers 0, and the histories are then those before
 // the super-frame after it; or the refusal.
-fn encode_both(
+fn encode_both<R: Env + Eprint, F: Read>(
+    rt: &R,
     profile: Profile,
-    inputs: Inputs,
+    inputs: &mut Inputs<F>,
     first: u32,
     history0: &mut [u8],
     history1: &mut [u8],
@@ -43,9 +47,10 @@ fn encode_both(
     ensures { result ≡ 0 → BothBefore (first + (modulation profile).bits * 21) history0.new history1.new }
 {
     let encoded0 = encode(
+        rt,
         profile,
         PAYLOAD0,
-        inputs.payload0,
+        &mut inputs.payload0,
         space,
         0,
         first,
@@ -56,9 +61,10 @@ fn encode_both(
         return encoded0;
     }
     encode(
+        rt,
         profile,
         PAYLOAD1,
-        inputs.payload1,
+        &mut inputs.payload1,
         space,
         1,
         first,
@@ -68,15 +74,16 @@ fn encode_both(
 }
 
 // The same, and writes the frames.
-fn write_next(
+fn write_next<R: Env + Eprint, F: Read, W: Write>(
+    rt: &R,
     profile: Profile,
-    inputs: Inputs,
+    inputs: &mut Inputs<F>,
     first: u32,
     history0: &mut [u8],
     history1: &mut [u8],
     overhead: &[u8],
     line: &mut [u8; 356352],
-    out: i32,
+    out: &mut W,
 ) -> u32
     requires { (first < 65536) × BothBefore first history0.old history1.old × (length overhead.now ≡ 12288) × Legal overhead_rule overhead.now }
     ensures { result ≡ 0 → BothBefore (first + (modulation profile).bits * 21) history0.new history1.new }
@@ -84,6 +91,7 @@ fn write_next(
     let mut coded0 = [0u8; 86016];
     let mut coded1 = [0u8; 86016];
     let encoded = encode_both(
+        rt,
         profile,
         inputs,
         first,
@@ -96,16 +104,17 @@ fn write_next(
     if encoded != 0 {
         return encoded;
     }
-    write_frames(profile, &coded0, &coded1, overhead, line, out)
+    write_frames(rt, profile, &coded0, &coded1, overhead, line, out)
 }
 
 // Writes so many super-frames.
-pub fn write_all(
+pub fn write_all<R: Env + Eprint, F: Read, W: Write>(
+    rt: &R,
     profile: Profile,
-    inputs: Inputs,
+    inputs: &mut Inputs<F>,
     superframes: u32,
     overhead: &[u8],
-    out: i32,
+    out: &mut W,
 ) -> u32
     requires { (superframes ≤ 65) × (length overhead.now ≡ 12288) × Legal overhead_rule overhead.now }
 {
@@ -115,6 +124,7 @@ pub fn write_all(
     for q in 0..superframes {
         let first = first_pair(profile, q);
         let refusal = write_next(
+            rt,
             profile,
             inputs,
             first,
@@ -127,7 +137,7 @@ pub fn write_all(
         if refusal != 0 {
             return refusal;
         }
-        message::progress(q + 1, superframes);
+        message::progress(rt, q + 1, superframes);
     }
     0
 }

@@ -1,9 +1,13 @@
 // The files that are read: the line file, for its overhead list, and the capture, for its frames.
-ghost use Rattle.std.specs.Prelude.{◌≤◌};
+ghost use Rattle.std.specs.Prelude.{◌≡◌, ◌≤◌, IfOk};
 
 use crate::say;
 use files::message;
 use line_file_spec::Header;
+use std::fs::OpenFile;
+use std::io;
+use std::io::{Read, Seek, SeekFrom};
+use std::rt::{Env, Files};
 
 // The refusal of a file that cannot be opened, read or written.
 pub const MISFIT: u32 = 1;
@@ -13,11 +17,10 @@ pub const LINE: usize = 1;
 
 pub const CAPTURE: usize = 2;
 
-// An open file with the numbers of its header; or its refusal.
+// An open file with the numbers of its header.
 #[derive(Drop)]
-pub struct Input {
-    pub refusal: u32,
-    pub fd: i32,
+pub struct Input<F> {
+    pub file: F,
     pub superframes: u32,
     pub overhead: u32,
     pub frames: u32,
@@ -30,71 +33,77 @@ fn header(first: &[u8; 16], size: usize) -> Header
     header_core::rules::judge(first, size)
 }
 
-// Judges the header of an open file, and says why it is refused.
-fn judge(fd: i32, argument: usize) -> Input
-    ensures { result.superframes ≤ 64 }
+// Judges the header of an open file: its refusal, where it is refused, which is said.
+fn judge<R: Env + Eprint, F: Read + Seek + OpenFile + Drop>(
+    rt: &R,
+    mut file: F,
+    argument: usize,
+) -> Result<Input<F>, u32>
+    ensures { IfOk result (λ input. input.superframes ≤ 64) }
 {
-    let size = files::size(fd);
+    let size = files::size(&mut file);
     let mut first = [0u8; 16];
-    io::read_full(fd, &mut first);
+    let _ = file.read_exact(&mut first);
     let header = header(&first, size);
-    let answer = header.answer;
-    let refusal = calls::refusal_of(answer);
+    let refusal = calls::refusal_of(header.answer);
     if refusal != 0 {
-        say::header(argument, fd, &first, size);
+        say::header(rt, argument, &file, &first, size);
+        return Err(refusal);
     }
-    Input {
-        refusal,
-        fd,
+    Ok(Input {
+        file,
         superframes: header.superframes,
         overhead: header.overhead,
         frames: header.frames,
-    }
+    })
 }
 
-// Opens the file that an argument names.
-pub fn open(argument: usize) -> Input
-    ensures { result.superframes ≤ 64 }
+// Opens the file that an argument names, and judges its header: the refusal, where it is refused, which is said.
+pub fn open<R: Files + Env + Eprint>(rt: &R, argument: usize) -> Result<Input<R::File>, u32>
+    ensures { IfOk result (λ input. input.superframes ≤ 64) }
 {
-    let fd = files::open(argument);
-    if fd < 0 {
-        return Input {
-            refusal: MISFIT,
-            fd,
-            superframes: 0,
-            overhead: 0,
-            frames: 0,
-        };
+    match files::open(rt, argument) {
+        Some(file) => judge(rt, file, argument),
+        None => Err(MISFIT),
     }
-    judge(fd, argument)
 }
 
-// Whether so many bytes were read from an open file; says so where it ended before.
-fn whole(got: usize, wanted: usize, argument: usize) -> bool {
-    if got == wanted {
+// Whether all that was wanted was read from an open file; says so where it ended before.
+fn whole<R: Env + Eprint>(rt: &R, read: io::Result<()>, argument: usize) -> bool {
+    if read.is_ok() {
         return true;
     }
-    message::line(argument, b"it ended early");
+    message::line(rt, argument, "it ended early");
     false
 }
 
 // Goes to a place of an open file.
-fn seek(fd: i32, offset: u32) {
-    libc::lseek(fd, offset as i64, libc::SEEK_SET);
+fn seek<F: Seek>(file: &mut F, offset: u32) {
+    let _ = file.seek(SeekFrom::Start(offset as u64));
 }
 
 // Reads the overhead list of the line file, and answers whether the file had it.
-pub fn read_list(line: Input, overhead: &mut [u8; 12288]) -> bool {
-    seek(line.fd, line.overhead);
-    whole(io::read_full(line.fd, overhead), 12288, LINE)
+pub fn read_list<R: Env + Eprint, F: Read + Seek>(
+    rt: &R,
+    line: &mut Input<F>,
+    overhead: &mut [u8; 12288],
+) -> bool {
+    seek(&mut line.file, line.overhead);
+    whole(rt, line.file.read_exact(overhead), LINE)
 }
 
 // Goes to the frames of the capture.
-pub fn seek_frames(capture: Input) {
-    seek(capture.fd, capture.frames);
+pub fn seek_frames<F: Seek>(capture: &mut Input<F>)
+    ensures { capture.new.superframes ≡ capture.old.superframes }
+{
+    seek(&mut capture.file, capture.frames);
 }
 
 // Reads the next super-frame of the capture, and answers whether the file had it.
-pub fn read_frames(capture: Input, frames: &mut [u8; 356352]) -> bool {
-    whole(io::read_full(capture.fd, frames), 356352, CAPTURE)
+pub fn read_frames<R: Env + Eprint, F: Read>(
+    rt: &R,
+    capture: &mut F,
+    frames: &mut [u8; 356352],
+) -> bool {
+    whole(rt, capture.read_exact(frames), CAPTURE)
 }

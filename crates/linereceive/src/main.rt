@@ -2,6 +2,8 @@
 // receivers, and prints what these and the overhead cells show: linereceive LINE CAPTURE PAYLOAD0 PAYLOAD1 MARKS0 MARKS1, and `qpsk`
 // behind it for a line of that profile.
 // Over `marks`, `cells_core`, `history_core`, `pair_stream`, `superframe`, `header_core`, `report` and `files`.
+#![tactic(auto)]
+
 mod inputs;
 mod outputs;
 mod receiving;
@@ -10,10 +12,12 @@ mod say;
 ghost use Rattle.std.specs.Prelude.{◌≤◌};
 
 use inputs::{CAPTURE, Input, LINE, MISFIT};
-use libc::STDERR_FILENO;
-use outputs::Descriptors;
+use outputs::Outputs;
 use profile::Profile;
 use receiving::{Received, refused};
+use std::io::{Read, Seek, Write};
+use std::random::RandomSource;
+use std::rt::{Env, Files};
 
 // The refusal of an illegal byte, and that of two files whose numbers of super-frames differ.
 const OFF_GRID: u32 = 5;
@@ -24,72 +28,84 @@ const UNEQUAL: u32 = 12;
 const PROFILE: usize = 7;
 
 // Receives with this list, which must be legal.
-fn receive_with(
+fn receive_with<R: Env + Eprint, F: Read + Seek, W: Write>(
+    rt: &R,
     profile: Profile,
-    line: Input,
-    capture: Input,
+    line: &Input<F>,
+    capture: &mut Input<F>,
     list: &[u8; 12288],
-    outputs: Descriptors,
+    outputs: &mut Outputs<W>,
 ) -> Received
-    requires { capture.superframes ≤ 64 }
+    requires { capture.old.superframes ≤ 64 }
 {
     let illegal = cells_core::legal::first_illegal(list);
     if illegal < 12288 {
-        say::illegal(LINE, line.overhead as usize + illegal);
+        say::illegal(rt, LINE, line.overhead as usize + illegal);
         return refused(OFF_GRID);
     }
     inputs::seek_frames(capture);
-    receiving::receive_all(profile, capture, list, outputs)
+    receiving::receive_all(rt, profile, capture, list, outputs)
 }
 
-// Receives with the list of the line file, where all outputs were made.
-fn receive(profile: Profile, line: Input, capture: Input, outputs: Descriptors) -> Received
-    requires { capture.superframes ≤ 64 }
+// Receives with the list of the line file.
+fn receive<R: Env + Eprint, F: Read + Seek, W: Write>(
+    rt: &R,
+    profile: Profile,
+    line: &mut Input<F>,
+    capture: &mut Input<F>,
+    outputs: &mut Outputs<W>,
+) -> Received
+    requires { capture.old.superframes ≤ 64 }
 {
-    if outputs.marks1 < 0 {
-        return refused(MISFIT);
-    }
     let mut list = [0u8; 12288];
-    if !inputs::read_list(line, &mut list) {
+    if !inputs::read_list(rt, line, &mut list) {
         return refused(MISFIT);
     }
-    receive_with(profile, line, capture, &list, outputs)
+    receive_with(rt, profile, line, capture, &list, outputs)
 }
 
 // Receives into files beside the names, which then take them.
-fn receive_to_files(profile: Profile, line: Input, capture: Input) -> Received
-    requires { capture.superframes ≤ 64 }
+fn receive_to_files<R: Files + Env + RandomSource + Alloc + Eprint>(
+    rt: &R,
+    profile: Profile,
+    line: &mut Input<R::File>,
+    capture: &mut Input<R::File>,
+) -> Received
+    requires { capture.old.superframes ≤ 64 }
 {
-    let outputs = outputs::make_all(line.fd, capture.fd);
-    let received = receive(profile, line, capture, outputs::descriptors_of(outputs));
-    if outputs::finish(outputs, received.refusal == 0) {
+    let Some(mut outputs) = outputs::make_all(rt, &line.file, &capture.file) else {
+        return refused(MISFIT);
+    };
+    let received = receive(rt, profile, line, capture, &mut outputs);
+    if received.refusal != 0 {
+        outputs::discard_all(rt, outputs);
         return received;
     }
-    if received.refusal != 0 {
+    if outputs::finish(rt, outputs) {
         return received;
     }
     refused(MISFIT)
 }
 
-// Opens the line file and the capture, receives, and prints what came of it, or the refusal.
-fn run(profile: Profile) {
-    let line = inputs::open(LINE);
-    if line.refusal != 0 {
-        return report::print_refusal(line.refusal);
-    }
-    let capture = inputs::open(CAPTURE);
-    if capture.refusal != 0 {
-        return report::print_refusal(capture.refusal);
-    }
+// Receives, and prints what came of it, or the refusal.
+fn run_with<R: Files + Env + RandomSource + Alloc + Print + Eprint>(
+    rt: &R,
+    profile: Profile,
+    line: &mut Input<R::File>,
+    capture: &mut Input<R::File>,
+)
+    requires { capture.old.superframes ≤ 64 }
+{
     if line.superframes != capture.superframes {
-        say::unequal(line.superframes, capture.superframes);
-        return report::print_refusal(UNEQUAL);
+        say::unequal(rt, line.superframes, capture.superframes);
+        return report::print_refusal(rt, UNEQUAL);
     }
-    let received = receive_to_files(profile, line, capture);
+    let received = receive_to_files(rt, profile, line, capture);
     if received.refusal != 0 {
-        return report::print_refusal(received.refusal);
+        return report::print_refusal(rt, received.refusal);
     }
     report::print_received(
+        rt,
         line.superframes,
         received.flips,
         received.lost,
@@ -97,20 +113,33 @@ fn run(profile: Profile) {
     );
 }
 
-fn main() {
-    files::hold_standard();
-    let count = os::arg_count();
-    if count == PROFILE {
-        return run(Profile::Qam16);
+// Opens the line file and the capture, receives, and prints what came of it, or the refusal.
+fn run<R: Files + Env + RandomSource + Alloc + Print + Eprint>(rt: &R, profile: Profile) {
+    match inputs::open(rt, LINE) {
+        Ok(mut line) => match inputs::open(rt, CAPTURE) {
+            Ok(mut capture) => run_with(rt, profile, &mut line, &mut capture),
+            Err(refusal) => report::print_refusal(rt, refusal),
+        },
+        Err(refusal) => report::print_refusal(rt, refusal),
     }
-    if count == PROFILE + 1 {
-        if files::is_word(PROFILE, b"qpsk") {
-            return run(Profile::Qpsk);
+}
+
+// Receives in the profile that the arguments name, or says how the program is called.
+fn start<R: Files + Env + RandomSource + Alloc + Print + Eprint>(rt: &R) {
+    if !files::has_argument(rt, PROFILE) {
+        if files::has_argument(rt, PROFILE - 1) {
+            return run(rt, Profile::Qam16);
+        }
+    } else if !files::has_argument(rt, PROFILE + 1) {
+        if files::is_word(rt, PROFILE, b"qpsk") {
+            return run(rt, Profile::Qpsk);
         }
     }
-    io::write_all(
-        STDERR_FILENO,
-        b"usage: linereceive LINE CAPTURE PAYLOAD0 PAYLOAD1 MARKS0 MARKS1 [qpsk]\n",
-    );
-    report::print_refusal(MISFIT);
+    let _ = eprintln!(rt; "usage: linereceive LINE CAPTURE PAYLOAD0 PAYLOAD1 MARKS0 MARKS1 [qpsk]");
+    report::print_refusal(rt, MISFIT);
+}
+
+fn main(rt: HostRuntime) {
+    let _held = files::hold_standard(&rt);
+    start(&rt);
 }

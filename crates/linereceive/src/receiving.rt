@@ -5,15 +5,17 @@ ghost use Rattle.cells_spec.specs.Modulation.{pairs_in};
 ghost use Rattle.profiles_spec.specs.Profiles.{modulation};
 
 use crate::inputs::{Input, MISFIT};
-use crate::outputs::{Descriptors, put};
+use crate::outputs::{Outputs, put};
 use crate::{inputs, say};
 use calls::{Answer, Refusal};
 use cells_core::sizes::{first_pair, pairs};
 use files::message;
 use profile::Profile;
+use std::io::{Read, Write};
+use std::rt::Env;
 
 // What came of receiving: flips, lost words and overhead cells that differ; or the refusal.
-#[derive(Drop)]
+#[derive(Clone, Copy)]
 pub struct Received {
     pub refusal: u32,
     pub flips: u64,
@@ -53,9 +55,10 @@ fn take_apart(
 }
 
 // The same of the next super-frame of the capture, which is read into a buffer.
-fn take(
+fn take<R: Env + Eprint, F: Read>(
+    rt: &R,
     profile: Profile,
-    capture: Input,
+    capture: &mut F,
     overhead: &[u8],
     frames: &mut [u8; 356352],
     pairs0: &mut [u8],
@@ -63,27 +66,28 @@ fn take(
 ) -> Answer
     requires { (length overhead.now ≡ 12288) × (length pairs0.old ≡ 86016) × (length pairs1.old ≡ 86016) }
 {
-    if !inputs::read_frames(capture, frames) {
+    if !inputs::read_frames(rt, capture, frames) {
         return Answer::Refused(Refusal::Misfit);
     }
     take_apart(profile, frames, overhead, pairs0, pairs1)
 }
 
 // The refusal of super-frame q, and where its illegal byte is in the capture.
-fn judge(profile: Profile, taken: Answer, capture: Input, q: u32) -> u32
+fn judge<R: Env + Eprint>(rt: &R, profile: Profile, taken: Answer, frames: u32, q: u32) -> u32
     requires { q < 64 }
 {
     let refusal = calls::refusal_of(taken);
     if refusal == 5 {
         let at = calls::index_of(taken) % 356352;
-        say::illegal_cell(profile, capture.frames as usize + q as usize * 356352 + at);
+        say::illegal_cell(rt, profile, frames as usize + q as usize * 356352 + at);
     }
     refusal
 }
 
 // Receives the pairs of one encoder, numbered from `first` on, and writes payload and marks; the names of the two files are said where a
 // write fails.
-fn receive_and_write(
+fn receive_and_write<R: Eprint, W: Write>(
+    rt: &R,
     number: usize,
     coded: &[u8],
     encoder: u32,
@@ -91,19 +95,19 @@ fn receive_and_write(
     history: &mut [u8],
     payload: &mut [u8],
     marks: &mut [u8],
-    payload_file: i32,
-    payload_name: &[u8],
-    marks_file: i32,
-    marks_name: &[u8],
+    payload_file: &mut W,
+    payload_name: &str,
+    marks_file: &mut W,
+    marks_name: &str,
 ) -> Received
     requires { (number ≤ 168) × (length coded.now ≡ number * 512) × (encoder ≤ 1) × (first < 65536) × BeforePair encoder first history.old × (length payload.old ≡ number * 444) × (length marks.old ≡ number * 32) }
     ensures { (result.flips < 4294967296) × (result.lost < 4294967296) × BeforePair encoder (first + number) history.new }
 {
     pair_stream::receive(number, coded, encoder, first, history, payload, marks);
-    if !put(payload_file, payload, payload_name) {
+    if !put(rt, payload_file, payload, payload_name) {
         return refused(MISFIT);
     }
-    if !put(marks_file, marks, marks_name) {
+    if !put(rt, marks_file, marks, marks_name) {
         return refused(MISFIT);
     }
     let sums = marks::add_up(marks);
@@ -116,17 +120,18 @@ fn receive_and_write(
 }
 
 // The same with a buffer that has room for the frames of a super-frame: the payload takes its front, so that no stack is needed for it.
-fn receive(
+fn receive<R: Eprint, W: Write>(
+    rt: &R,
     profile: Profile,
     coded: &[u8],
     encoder: u32,
     first: u32,
     history: &mut [u8],
     space: &mut [u8],
-    payload_file: i32,
-    payload_name: &[u8],
-    marks_file: i32,
-    marks_name: &[u8],
+    payload_file: &mut W,
+    payload_name: &str,
+    marks_file: &mut W,
+    marks_name: &str,
 ) -> Received
     requires { (length coded.now ≡ 86016) × (encoder ≤ 1) × (first < 65536) × BeforePair encoder first history.old × (length space.old ≡ 356352) }
     ensures { (result.flips < 4294967296) × (result.lost < 4294967296) × BeforePair encoder (first + (modulation profile).bits * 21) history.new }
@@ -137,6 +142,7 @@ fn receive(
     let m = n * 32;
     let mut marks = [0u8; 5376];
     receive_and_write(
+        rt,
         n,
         &coded[0..c],
         encoder,
@@ -165,59 +171,64 @@ fn added(received0: Received, received1: Received) -> Received
 }
 
 // Receives the pairs of encoder 0,
-fn receive_first(
+fn receive_first<R: Eprint, W: Write>(
+    rt: &R,
     profile: Profile,
     pairs0: &[u8; 86016],
     first: u32,
     history: &mut [u8],
     space: &mut [u8; 356352],
-    outputs: Descriptors,
+    outputs: &mut Outputs<W>,
 ) -> Received
     requires { (first < 65536) × BeforePair 0 first history.old }
     ensures { (result.flips < 4294967296) × (result.lost < 4294967296) × BeforePair 0 (first + (modulation profile).bits * 21) history.new }
 {
     receive(
+        rt,
         profile,
         pairs0,
         0,
         first,
         history,
         space,
-        outputs.payload0,
-        b"PAYLOAD0",
-        outputs.marks0,
-        b"MARKS0",
+        &mut outputs.payload0.file,
+        "PAYLOAD0",
+        &mut outputs.marks0.file,
+        "MARKS0",
     )
 }
 
 // those of encoder 1,
-fn receive_second(
+fn receive_second<R: Eprint, W: Write>(
+    rt: &R,
     profile: Profile,
     pairs1: &[u8; 86016],
     first: u32,
     history: &mut [u8],
     space: &mut [u8; 356352],
-    outputs: Descriptors,
+    outputs: &mut Outputs<W>,
 ) -> Received
     requires { (first < 65536) × BeforePair 1 first history.old }
     ensures { (result.flips < 4294967296) × (result.lost < 4294967296) × BeforePair 1 (first + (modulation profile).bits * 21) history.new }
 {
     receive(
+        rt,
         profile,
         pairs1,
         1,
         first,
         history,
         space,
-        outputs.payload1,
-        b"PAYLOAD1",
-        outputs.marks1,
-        b"MARKS1",
+        &mut outputs.payload1.file,
+        "PAYLOAD1",
+        &mut outputs.marks1.file,
+        "MARKS1",
     )
 }
 
 // and both.
-fn receive_both(
+fn receive_both<R: Eprint, W: Write>(
+    rt: &R,
     profile: Profile,
     pairs0: &[u8; 86016],
     pairs1: &[u8; 86016],
@@ -225,21 +236,22 @@ fn receive_both(
     history0: &mut [u8],
     history1: &mut [u8],
     space: &mut [u8; 356352],
-    outputs: Descriptors,
+    outputs: &mut Outputs<W>,
 ) -> Received
     requires { (first < 65536) × BothBefore first history0.old history1.old }
     ensures { (result.flips < 8589934592) × (result.lost < 8589934592) × (result.refusal ≡ 0 → BothBefore (first + (modulation profile).bits * 21) history0.new history1.new) }
 {
-    let received0 = receive_first(profile, pairs0, first, history0, space, outputs);
+    let received0 = receive_first(rt, profile, pairs0, first, history0, space, outputs);
     if received0.refusal != 0 {
         return received0;
     }
-    let received1 = receive_second(profile, pairs1, first, history1, space, outputs);
+    let received1 = receive_second(rt, profile, pairs1, first, history1, space, outputs);
     added(received0, received1)
 }
 
 // The same, with the overhead cells that differ.
-fn receive_taken(
+fn receive_taken<R: Eprint, W: Write>(
+    rt: &R,
     profile: Profile,
     differing: u32,
     pairs0: &[u8; 86016],
@@ -248,13 +260,13 @@ fn receive_taken(
     history0: &mut [u8],
     history1: &mut [u8],
     space: &mut [u8; 356352],
-    outputs: Descriptors,
+    outputs: &mut Outputs<W>,
 ) -> Received
     requires { (first < 65536) × BothBefore first history0.old history1.old }
     ensures { (result.flips < 8589934592) × (result.lost < 8589934592) × (result.overhead < 8589934592) × (result.refusal ≡ 0 → BothBefore (first + (modulation profile).bits * 21) history0.new history1.new) }
 {
     let mut received = receive_both(
-        profile, pairs0, pairs1, first, history0, history1, space, outputs,
+        rt, profile, pairs0, pairs1, first, history0, history1, space, outputs,
     );
     received.overhead = differing as u64;
     received
@@ -262,28 +274,38 @@ fn receive_taken(
 
 // Receives super-frame q, whose pairs are numbered from `first` on; unless it is refused, the histories are then those before the pairs
 // after it.
-fn receive_from(
+fn receive_from<R: Env + Eprint, F: Read, W: Write>(
+    rt: &R,
     profile: Profile,
-    capture: Input,
+    capture: &mut Input<F>,
     q: u32,
     first: u32,
     overhead: &[u8],
     history0: &mut [u8],
     history1: &mut [u8],
     space: &mut [u8; 356352],
-    outputs: Descriptors,
+    outputs: &mut Outputs<W>,
 ) -> Received
     requires { (q < 64) × (first < 65536) × (length overhead.now ≡ 12288) × BothBefore first history0.old history1.old }
     ensures { (result.flips < 8589934592) × (result.lost < 8589934592) × (result.overhead < 8589934592) × (result.refusal ≡ 0 → BothBefore (first + (modulation profile).bits * 21) history0.new history1.new) }
 {
     let mut pairs0 = [0u8; 86016];
     let mut pairs1 = [0u8; 86016];
-    let taken = take(profile, capture, overhead, space, &mut pairs0, &mut pairs1);
-    let refusal = judge(profile, taken, capture, q);
+    let taken = take(
+        rt,
+        profile,
+        &mut capture.file,
+        overhead,
+        space,
+        &mut pairs0,
+        &mut pairs1,
+    );
+    let refusal = judge(rt, profile, taken, capture.frames, q);
     if refusal != 0 {
         return refused(refusal);
     }
     receive_taken(
+        rt,
         profile,
         calls::value_or(taken, 0),
         &pairs0,
@@ -297,20 +319,22 @@ fn receive_from(
 }
 
 // The same by its number alone.
-fn receive_next(
+fn receive_next<R: Env + Eprint, F: Read, W: Write>(
+    rt: &R,
     profile: Profile,
-    capture: Input,
+    capture: &mut Input<F>,
     q: u32,
     overhead: &[u8],
     history0: &mut [u8],
     history1: &mut [u8],
     space: &mut [u8; 356352],
-    outputs: Descriptors,
+    outputs: &mut Outputs<W>,
 ) -> Received
     requires { (q < 64) × (length overhead.now ≡ 12288) × BothBefore (pairs_in (modulation profile) q) history0.old history1.old }
     ensures { (result.flips < 8589934592) × (result.lost < 8589934592) × (result.overhead < 8589934592) × (result.refusal ≡ 0 → BothBefore (pairs_in (modulation profile) (q + 1)) history0.new history1.new) }
 {
     receive_from(
+        rt,
         profile,
         capture,
         q,
@@ -324,13 +348,14 @@ fn receive_next(
 }
 
 // Receives all super-frames.
-pub fn receive_all(
+pub fn receive_all<R: Env + Eprint, F: Read, W: Write>(
+    rt: &R,
     profile: Profile,
-    capture: Input,
+    capture: &mut Input<F>,
     overhead: &[u8],
-    outputs: Descriptors,
+    outputs: &mut Outputs<W>,
 ) -> Received
-    requires { (capture.superframes ≤ 64) × (length overhead.now ≡ 12288) }
+    requires { (capture.old.superframes ≤ 64) × (length overhead.now ≡ 12288) }
 {
     let mut history0 = history_core::fresh(0);
     let mut history1 = history_core::fresh(1);
@@ -341,6 +366,7 @@ pub fn receive_all(
     let n = capture.superframes;
     for q in 0..n {
         let next = receive_next(
+            rt,
             profile,
             capture,
             q,
@@ -356,7 +382,7 @@ pub fn receive_all(
         flips = flips + next.flips;
         lost = lost + next.lost;
         differing = differing + next.overhead;
-        message::progress(q + 1, n);
+        message::progress(rt, q + 1, n);
     }
     Received {
         refusal: 0,

@@ -1,15 +1,15 @@
 // The print of the counters of `loopback_core`.
 ghost use Rattle.std.specs.Prelude.{◌<◌};
 
-use libc::STDOUT_FILENO;
+use std::io;
 
 // Prints a byte, or a count for a number sign, and answers whether it could.
-fn put(byte: u8, count: u32) -> bool {
+fn put<R: Print>(rt: &R, byte: u8, count: u32) -> io::Result<()> {
     if byte == b'#' {
-        return io::print_decimal(STDOUT_FILENO, count as u64);
+        return rt.print(count);
     }
     let one = [byte; 1];
-    io::write_all(STDOUT_FILENO, &one)
+    rt.write_all(&one)
 }
 
 // The place of the next count, behind a byte.
@@ -24,30 +24,31 @@ fn next(at: usize, byte: u8) -> usize
 }
 
 // Prints a text with the counts, from a place on, for its number signs; or says why it cannot.
-fn print(text: &[u8], counts: &[u32; 41], from: usize) {
+fn print<R: Print + Eprint>(rt: &R, text: &[u8], counts: &[u32; 41], from: usize) {
     let mut at = from % 41;
-    let mut whole = true;
+    let mut printed: io::Result<()> = Ok(());
     for i in 0..text.len() {
         let byte = text[i];
-        if !put(byte, counts[at]) {
-            whole = false;
+        if let Err(error) = put(rt, byte, counts[at]) {
+            printed = Err(error);
         }
         at = next(at, byte);
     }
-    if !whole {
-        os::fail(b"standard output");
+    if let Err(error) = printed {
+        report::fail(rt, "standard output", error);
     }
 }
 
 // Prints that the counts of QPSK follow.
-pub fn print_qpsk() {
+pub fn print_qpsk<R: Print + Eprint>(rt: &R) {
     let none = [0u32; 41];
-    print(b"qpsk\n", &none, 0);
+    print(rt, b"qpsk\n", &none, 0);
 }
 
 // Prints what an encoder did.
-pub fn print_encoder(counts: &[u32; 41]) {
+pub fn print_encoder<R: Print + Eprint>(rt: &R, counts: &[u32; 41]) {
     print(
+        rt,
         b"encoder: pairs #, calls done #, refused by number # # # # #\n",
         counts,
         0,
@@ -55,8 +56,9 @@ pub fn print_encoder(counts: &[u32; 41]) {
 }
 
 // Prints what the line did.
-pub fn print_line(counts: &[u32; 41]) {
+pub fn print_line<R: Print + Eprint>(rt: &R, counts: &[u32; 41]) {
     print(
+        rt,
         b"\
 line: refused by number # # # # #
 overhead cells that differ #
@@ -67,8 +69,9 @@ overhead cells that differ #
 }
 
 // Prints what a receiver did, and what came of it.
-pub fn print_receiver(counts: &[u32; 41]) {
+pub fn print_receiver<R: Print + Eprint>(rt: &R, counts: &[u32; 41]) {
     print(
+        rt,
         b"\
 receiver: pairs #, calls done #, refused by number # # # # #
 words with 0 wrong bits: marked 0 #, 1 #, 2 #, lost #

@@ -156,7 +156,7 @@ fn receive_all(encoder: u32, sent: &[u8], got: &[u8], counts: &mut [u32])
 }
 
 // The same, and a print of what came of it.
-pub fn receive(encoder: u32, sent: &[u8], got: &[u8])
+pub fn receive<R: Print + Eprint>(rt: &R, encoder: u32, sent: &[u8], got: &[u8])
     requires { (encoder < 2) × (length sent.now ≡ 172032) × (length got.now ≡ 172032) }
 {
     let mut counts = [0u32; 41];
@@ -164,5 +164,5 @@ pub fn receive(encoder: u32, sent: &[u8], got: &[u8])
     // The step refuses none of its calls, as its contract says.
     add(&mut counts, 0, 336);
     add(&mut counts, 1, 336);
-    print_receiver(&counts);
+    print_receiver(rt, &counts);
 }

@@ -93,7 +93,7 @@ pub fn encode_part(profile: Profile, encoder: u32, q: usize, pairs: &mut [u8])
 }
 
 // and all, with a print of what was done.
-pub fn encode(encoder: u32, coded: &mut [u8])
+pub fn encode<R: Print + Eprint>(rt: &R, encoder: u32, coded: &mut [u8])
     requires { (encoder < 2) × (length coded.old ≡ 172032) }
     ensures { coded.new ≡ end_to_end 2 86016 (sent_in encoder) }
 {
@@ -102,5 +102,5 @@ pub fn encode(encoder: u32, coded: &mut [u8])
     // The step refuses none of its calls, as its contract says.
     add(&mut counts, 0, 336);
     add(&mut counts, 1, 336);
-    print_encoder(&counts);
+    print_encoder(rt, &counts);
 }
