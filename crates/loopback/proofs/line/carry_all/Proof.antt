@@ -10,18 +10,18 @@ use Rattle.loopback.proofs.line.carry_all.Tie as tie
 
 ruleset kit = (rules, carrying)
 
-abbrev invariant-loop : tie.invariant-loop
-invariant-loop profile encoder list got₀ counts₀ n c q₀ got counts q = (length counts ≡ 41) × Carrying profile list encoder counts₀ n c q got counts
+abbrev invariant-loop-q : tie.invariant-loop-q
+invariant-loop-q profile encoder list got₀ counts₀ n c q₀ got counts q = (length counts ≡ 41) × Carrying profile list encoder counts₀ n c q got counts
 
-abbrev decreases-loop : tie.decreases-loop
-decreases-loop profile encoder list got₀ counts₀ n c q₀ got counts q = n - q
+abbrev decreases-loop-q : tie.decreases-loop-q
+decreases-loop-q profile encoder list got₀ counts₀ n c q₀ got counts q = n - q
 
 pub carry_all_spec : {M : Type 1} → statement M
 carry_all_spec =
     tie.close
     (tie.spec
-    invariant-loop
-    decreases-loop
+    invariant-loop-q
+    decreases-loop-q
     (λ c κs. search kit)  -- superframes-requires
     (λ c κs. search kit)  -- buffers-requires
     (λ c. search kit)  -- mul-c

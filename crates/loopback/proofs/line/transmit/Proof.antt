@@ -19,7 +19,7 @@ transmit_spec =
     (λ c κs. search rules)  -- value-or-requires
     (λ c. search rules)  -- same-length
     (λ c. search rules)  -- same-length-2
-    (λ c. first_taken _ _ _ _ _ _ (search rules) (search rules) (search rules) (line_carried _ _ _ _ _ _ _ _ _ _ _ _ c.before.before.before.before.before.before.before.before.before.before.before.before.before.send.ensures c.before.before.before.before.before.before.before.before.before.before.pass.ensures (search rules) (search rules) c.before.before.before.before.before.take-apart.ensures _ c.value-or.ensures))  -- returns
+    (λ c. first_taken _ _ _ _ _ _ (search rules) (search rules) (search rules) (line_carried _ _ _ _ _ _ _ _ _ _ _ _ c.before.before.before.before.before.before.before.before.before.before.before.before.before.send.ensures c.before.before.before.before.before.before.before.before.before.before.pass.ensures (search rules) (search rules) c.before.before.before.before.before.take_apart.ensures _ c.value_or.ensures))  -- returns
     (λ c. search rules)  -- slice-aggregate-send-2
     (λ c κs. search rules)  -- send-requires-2
     (λ c. search rules)  -- slice-aggregate-pass-2
@@ -29,4 +29,4 @@ transmit_spec =
     (λ c κs. search rules)  -- value-or-requires-2
     (λ c. search rules)  -- same-length-3
     (λ c. search rules)  -- same-length-4
-    (λ c. second_taken _ _ _ _ _ _ (search rules) (search rules) (search rules) (search rules) (line_carried _ _ _ _ _ _ _ _ _ _ _ _ c.before.before.before.before.before.before.before.before.before.before.before.before.before.send2.ensures c.before.before.before.before.before.before.before.before.before.before.pass2.ensures (search rules) (search rules) c.before.before.before.before.before.take-apart2.ensures _ c.value-or2.ensures)))  -- returns-2
+    (λ c. second_taken _ _ _ _ _ _ (search rules) (search rules) (search rules) (search rules) (line_carried _ _ _ _ _ _ _ _ _ _ _ _ c.before.before.before.before.before.before.before.before.before.before.before.before.before.send-2.ensures c.before.before.before.before.before.before.before.before.before.before.pass-2.ensures (search rules) (search rules) c.before.before.before.before.before.take_apart-2.ensures _ c.value_or-2.ensures)))  -- returns-2

@@ -12,18 +12,18 @@ use Rattle.loopback.proofs.receiving.compare.Tie as tie
 
 ruleset kit = (rules, step_none, words_done)
 
-abbrev invariant-loop : tie.invariant-loop
-invariant-loop k encoder sent got history out marks counts₀ w₀ counts w = (length counts ≡ 41) × Stepping (word_compared encoder k sent got history out marks) 32 counts₀ w counts
+abbrev invariant-loop-w : tie.invariant-loop-w
+invariant-loop-w k encoder sent got history out marks counts₀ w₀ counts w = (length counts ≡ 41) × Stepping (word_compared encoder k sent got history out marks) 32 counts₀ w counts
 
-abbrev decreases-loop : tie.decreases-loop
-decreases-loop k encoder sent got history out marks counts₀ w₀ counts w = 32 - w
+abbrev decreases-loop-w : tie.decreases-loop-w
+decreases-loop-w k encoder sent got history out marks counts₀ w₀ counts w = 32 - w
 
 pub compare_spec : {M : Type 1} → statement M
 compare_spec =
     tie.close
     (tie.spec
-    invariant-loop
-    decreases-loop
+    invariant-loop-w
+    decreases-loop-w
     (λ c. search kit)  -- loop-holds
     (λ c. search kit)  -- shared-slice-read-compare-coded
     (λ c κs. search kit)  -- compare-coded-requires
@@ -32,9 +32,9 @@ compare_spec =
     (λ c. search kit)  -- add-w
     (λ c. search kit)  -- loop-less
     (λ c.
-    let l = c.before.before.before.before.before.before.before.before.before.before.before.loop in (
+    let l = c.before.before.before.before.before.before.before.before.before.before.before.loop-w in (
       search rules,
-      words_more _ _ _ _ _ _ _ _ _ _ _ _ l.invariant.1 (search rules) c.before.before.before.before.before.before.before.compare-coded.ensures c.before.before.compare-payload.ensures,
+      words_more _ _ _ _ _ _ _ _ _ _ _ _ l.invariant.1 (search rules) c.before.before.before.before.before.before.before.compare_coded.ensures c.before.before.compare_payload.ensures,
     ))  -- loop-again
     (λ c. search kit)  -- same-length
     (λ c. search kit))  -- returns

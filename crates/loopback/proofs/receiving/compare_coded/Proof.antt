@@ -25,7 +25,7 @@ compare_coded_spec =
     (λ c κs. search rules)  -- count-bits-requires
     (λ c. search rules)  -- same-length
     (λ c.
-    coded_counted_lem _ _ _ _ _ _ _ _ _ _ _ _ _ _ c.before.before.before.before.before.before.before.before.before.before.before.before.before.before.before.before.before.word.ensures
-    c.before.before.before.before.before.before.before.before.before.before.before.before.before.before.before.before.word2.ensures
-    c.before.before.before.before.before.before.before.before.before.before.before.before.before.before.before.kept_word.ensures c.before.before.before.before.before.before.before.before.before.before.before.word-kind.ensures.0
-    c.before.before.before.before.before.before.before.before.before.before.add.ensures c.before.before.before.before.before.before.before.lost.ensures.0 c.before.before.count-bits.ensures))  -- returns
+    coded_counted_lem _ _ _ _ _ _ _ _ _ _ _ _ _ _ c.before.before.before.before.before.before.before.before.before.before.before.before.before.before.before.before.before.word-s.ensures
+    c.before.before.before.before.before.before.before.before.before.before.before.before.before.before.before.before.word-g.ensures
+    c.before.before.before.before.before.before.before.before.before.before.before.before.before.before.before.kept_word-h.ensures c.before.before.before.before.before.before.before.before.before.before.before.word_kind.ensures.0
+    c.before.before.before.before.before.before.before.before.before.before.add.ensures c.before.before.before.before.before.before.before.lost.ensures.0 c.before.before.count_bits.ensures))  -- returns

@@ -28,5 +28,5 @@ compare_payload_spec =
     (λ c κs. search rules)  -- count-bits-requires
     (λ c. search rules)  -- same-length
     (λ c.
-    payload_counted_lem _ _ _ _ _ _ _ _ _ _ _ (payload_drawn _ _ _ _ _ refl (search rules) c.before.before.before.before.before.before.before.before.before.before.before.before.fill.ensures) c.before.before.before.before.before.before.before.before.before.payload-word.ensures
-    c.before.before.before.before.before.before.before.before.payload-word2.ensures c.before.before.before.before.before.before.before.lost.ensures.0 c.before.before.count-bits.ensures))  -- returns
+    payload_counted_lem _ _ _ _ _ _ _ _ _ _ _ (payload_drawn _ _ _ _ _ refl (search rules) c.before.before.before.before.before.before.before.before.before.before.before.before.fill.ensures) c.before.before.before.before.before.before.before.before.before.payload_word-s.ensures
+    c.before.before.before.before.before.before.before.before.payload_word-o.ensures c.before.before.before.before.before.before.before.lost.ensures.0 c.before.before.count_bits.ensures))  -- returns

@@ -16,18 +16,18 @@ use Rattle.loopback.proofs.receiving.receive_all.Tie as tie
 
 ruleset kit = (rules, before_none, step_none, step_done)
 
-abbrev invariant-loop : tie.invariant-loop
-invariant-loop encoder sent got counts₀ history₀ k₀ counts history k = BeforePair encoder k history × (length counts ≡ 41) × (history ≡ history_of encoder k (history_before pair_receiver 1 (part_of 512 got) k)) × Stepping (next_received encoder sent got) 336 counts₀ k counts
+abbrev invariant-loop-k : tie.invariant-loop-k
+invariant-loop-k encoder sent got counts₀ history₀ k₀ counts history k = BeforePair encoder k history × (length counts ≡ 41) × (history ≡ history_of encoder k (history_before pair_receiver 1 (part_of 512 got) k)) × Stepping (next_received encoder sent got) 336 counts₀ k counts
 
-abbrev decreases-loop : tie.decreases-loop
-decreases-loop encoder sent got counts₀ history₀ k₀ counts history k = 336 - k
+abbrev decreases-loop-k : tie.decreases-loop-k
+decreases-loop-k encoder sent got counts₀ history₀ k₀ counts history k = 336 - k
 
 pub receive_all_spec : {M : Type 1} → statement M
 receive_all_spec =
     tie.close
     (tie.spec
-    invariant-loop
-    decreases-loop
+    invariant-loop-k
+    decreases-loop-k
     (λ c κs. search kit)  -- fresh-requires
     (λ c. (before_fresh _ _ (search rules), search rules, before_none _ _ _ _ _ (search rules), search kit))  -- loop-holds
     (λ c. search kit)  -- slice-aggregate-refuse-receiving
@@ -37,9 +37,9 @@ receive_all_spec =
     (λ c. search kit)  -- add-k
     (λ c. search kit)  -- loop-less
     (λ c.
-    let l = c.before.before.before.before.before.before.before.before.before.before.before.before.before.loop in
-    let left = c.before.before.before.before.before.before.before.before.before.refuse-receiving.ensures in
-    let made = c.before.before.before.receive-next.ensures in
+    let l = c.before.before.before.before.before.before.before.before.before.before.before.before.before.loop-k in
+    let left = c.before.before.before.before.before.before.before.before.before.refuse_receiving.ensures in
+    let made = c.before.before.before.receive_next.ensures in
     let next = before_pair _ _ _ _ _ _ (left.0 ∙ l.invariant.2) made.0 in (
       before_is _ _ _ _ (search rules) next,
       search rules,

@@ -13,18 +13,18 @@ use Rattle.loopback.proofs.sending.draw.Tie as tie
 
 ruleset kit = (rules, by_blocks, payload_stream_is)
 
-abbrev invariant-loop : tie.invariant-loop
-invariant-loop encoder q payload₀ k₀ payload k = Blocks (byte_of_each 444 (λ j. pair_payload encoder (q * 168 + j))) 444 168 k payload
+abbrev invariant-loop-k : tie.invariant-loop-k
+invariant-loop-k encoder q payload₀ k₀ payload k = Blocks (byte_of_each 444 (λ j. pair_payload encoder (q * 168 + j))) 444 168 k payload
 
-abbrev decreases-loop : tie.decreases-loop
-decreases-loop encoder q payload₀ k₀ payload k = 168 - k
+abbrev decreases-loop-k : tie.decreases-loop-k
+decreases-loop-k encoder q payload₀ k₀ payload k = 168 - k
 
 pub draw_spec : {M : Type 1} → statement M
 draw_spec =
     tie.close
     (tie.spec
-    invariant-loop
-    decreases-loop
+    invariant-loop-k
+    decreases-loop-k
     (λ c. search kit)  -- loop-holds
     (λ c. search kit)  -- mul-f
     (λ c. search kit)  -- add-g
@@ -40,7 +40,7 @@ draw_spec =
     (λ c. search kit)  -- add-k
     (λ c. search kit)  -- loop-less
     (λ c.
-    let l = c.before.before.before.before.before.loop in
+    let l = c.before.before.before.before.before.loop-k in
     blocks_next {d = l.payload} (l.k * 444) (l.k * 444 + 444) _ l.invariant (search rules) refl refl
     (pair_block _ _ l.k _ (part (l.k * 444) (l.k * 444 + 444 - l.k * 444) l.payload) _ (search rules) (search (rules, part_long)) c.before.before.fill.ensures))  -- loop-again
     (λ c. search kit)  -- same-length

@@ -20,18 +20,18 @@ use Rattle.loopback.proofs.sending.encode_both.Tie as tie
 
 ruleset kit = (rules, by_blocks, before_none, step_none, step_done, is_end_to_end)
 
-abbrev invariant-loop : tie.invariant-loop
-invariant-loop encoder coded₀ counts₀ history₀ q₀ coded counts history q = BeforePair encoder (168 * q) history × (length counts ≡ 41) × Blocks (byte_of_each 86016 (sent_in encoder)) 86016 2 q coded × (history ≡ history_of encoder (168 * q) (history_before pair_encoder 168 (payload_in encoder) q)) × Stepping (λ i. half_sent) 2 counts₀ q counts
+abbrev invariant-loop-q : tie.invariant-loop-q
+invariant-loop-q encoder coded₀ counts₀ history₀ q₀ coded counts history q = BeforePair encoder (168 * q) history × (length counts ≡ 41) × Blocks (byte_of_each 86016 (sent_in encoder)) 86016 2 q coded × (history ≡ history_of encoder (168 * q) (history_before pair_encoder 168 (payload_in encoder) q)) × Stepping (λ i. half_sent) 2 counts₀ q counts
 
-abbrev decreases-loop : tie.decreases-loop
-decreases-loop encoder coded₀ counts₀ history₀ q₀ coded counts history q = 2 - q
+abbrev decreases-loop-q : tie.decreases-loop-q
+decreases-loop-q encoder coded₀ counts₀ history₀ q₀ coded counts history q = 2 - q
 
 pub encode_both_spec : {M : Type 1} → statement M
 encode_both_spec =
     tie.close
     (tie.spec
-    invariant-loop
-    decreases-loop
+    invariant-loop-q
+    decreases-loop-q
     (λ c κs. search kit)  -- fresh-requires
     (λ c. (before_fresh _ _ (search rules), search rules, search kit, before_none _ _ _ _ _ (search rules), search kit))  -- loop-holds
     (λ c. search kit)  -- mul-f
@@ -47,9 +47,9 @@ encode_both_spec =
     (λ c. search kit)  -- add-q
     (λ c. search kit)  -- loop-less
     (λ c.
-    let l = c.before.before.before.before.before.before.before.before.before.before.before.before.before.loop in
-    let left = c.before.before.before.before.before.before.before.before.before.refuse-encodings.ensures in
-    let made = c.before.before.before.encode-next.ensures in
+    let l = c.before.before.before.before.before.before.before.before.before.before.before.before.before.loop-q in
+    let left = c.before.before.before.before.before.before.before.before.before.refuse_encodings.ensures in
+    let made = c.before.before.before.encode_next.ensures in
     let next = before_more _ _ _ _ _ _ _ _ _ (left.0 ∙ l.invariant.3) refl (search rules) made.1 in (
       before_is _ _ _ _ (search rules) next,
       search rules,

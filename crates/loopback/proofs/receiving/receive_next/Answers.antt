@@ -1,0 +1,10 @@
+-- The stream's history behind the pair, and what was made of it.
+use Rattle.std.proofs.Common.{refl, rules}
+use Rattle.loopback.specs.StreamLaws.{step_history, pair_taken_lem}
+use Rattle.loopback.proofs.receiving.receive_next.Goals as goal
+
+pub returns : goal.returns
+returns c = (
+  step_history _ _ _ _ _ _ refl refl _ _ _ c.receive.ensures,
+  pair_taken_lem _ _ _ _ _ _ refl refl _ _ _ c.receive.ensures _ _ _ (search rules) c.compare.ensures,
+)
