@@ -16,7 +16,8 @@ ghost use Rattle.std.specs.Prelude.{◌≡◌, ◌<◌, length};
 
 use profile::Profile;
 
-// Runs an encoder.
+// Runs an encoder. Not compiled into its caller, which would then hold its array beside the line's.
+#[inline(never)]
 fn run_encoder<R: Print + Eprint>(rt: &R, encoder: u32)
     requires { encoder < 2 }
 {
@@ -54,11 +55,15 @@ fn run<R: Print + Eprint>(rt: &R, profile: Profile) {
     run_receiver(rt, profile, 1);
 }
 
+// Says that an argument is one too many. Not compiled into its caller, which would then hold the text's buffer all along.
+#[inline(never)]
+fn say_argument<R: Eprint>(rt: &R) {
+    let _ = eprintln!(rt; "loopback takes no argument: it reads nothing and makes its own payload");
+}
+
 fn main(rt: HostRuntime) {
     if files::has_argument(&rt, 1) {
-        let _ = eprintln!(rt;
-            "loopback takes no argument: it reads nothing and makes its own payload"
-        );
+        say_argument(&rt);
     }
     run(&rt, Profile::Qam16);
     printing::print_qpsk(&rt);
