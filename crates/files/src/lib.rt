@@ -1,6 +1,6 @@
 // The files of a program: opened by argument and measured, or made under a name that they take when they are whole; and what is
 // said of them on standard error.
-// Over `report`, `filestatus` and `filenames`, below `linemake` and `linereceive`.
+// Over `report`, `filestatus` and `filenames`, below the programs.
 #![tactic(auto)]
 
 mod making;

@@ -60,19 +60,27 @@ fn subset_rows(pairs0: &[u8], pairs1: &[u8], x: usize) -> [[u16; 128]; 4]
     rows
 }
 
-// All block rows, reordered, those of the four subsets side by side. Not compiled into its callers: its array would then need stack beside
-// theirs.
+// Puts all block rows, reordered, those of the four subsets side by side. Not compiled into its callers: its own arrays would then need
+// stack beside theirs.
 #[inline(never)]
+fn put_rows(pairs0: &[u8], pairs1: &[u8], rows: &mut [[u16; 512]; 21])
+    requires { (length pairs0.now ≡ 10752) × (length pairs1.now ≡ 10752) }
+    ensures { rows.new ≡ tabulate 21 (joined_row pairs0.now pairs1.now) }
+{
+    for x in 0..21 {
+        let four = subset_rows(pairs0, pairs1, x);
+        rows[x] = side_by_side(&four);
+    }
+}
+
+// All block rows, reordered, those of the four subsets side by side.
 pub fn reordered_rows(pairs0: &[u8], pairs1: &[u8]) -> [[u16; 512]; 21]
     requires { (length pairs0.now ≡ 10752) × (length pairs1.now ≡ 10752) }
     ensures { result ≡ tabulate 21 (joined_row pairs0.now pairs1.now) }
 {
     let none = [0u16; 512];
     let mut rows = [none; 21];
-    for x in 0..21 {
-        let four = subset_rows(pairs0, pairs1, x);
-        rows[x] = side_by_side(&four);
-    }
+    put_rows(pairs0, pairs1, &mut rows);
     rows
 }
 
