@@ -1,7 +1,7 @@
 // The text of file names: the folder, the name that a symbolic link leads to, and one beside a name. Below `files`.
 #![tactic(auto)]
 
-ghost use Rattle.std.specs.Prelude.{◌≡◌, ◌+◌, ◌≤◌, ◌<◌, length, IfOk};
+ghost use Rattle.std.specs.Prelude.{◌≡◌, ◌+◌, ◌≤◌, ◌<◌, length, IfOk, OnErr};
 ghost use Rattle.filenames.specs.Counts.{IsPrefixLen};
 
 use std::io::ErrorKind;
@@ -78,10 +78,11 @@ fn lead(text: &[u8], name: &mut [u8], n: usize) -> usize
 }
 
 // Puts the name that a symbolic link leads to in the place of the link's, and answers its length; 0 where the name is no link's. It fails
-// where the link's text is no UTF-8, or memory for it is short.
+// where the link's text is no UTF-8, or memory for it is short, and the name is as it was.
 pub fn follow<R: Files + Alloc>(rt: &R, name: &mut [u8], n: usize) -> io::Result<usize>
     requires { IsPrefixLen n name.old }
-    ensures { IfOk result (λ k. IsPrefixLen k name.new) }
+    ensures ok { IfOk result (λ k. IsPrefixLen k name.new) }
+    ensures err { OnErr result (name.new ≡ name.old) }
 {
     let Ok(link) = path(&name[..n]) else {
         return Ok(0);
@@ -97,10 +98,11 @@ pub fn follow<R: Files + Alloc>(rt: &R, name: &mut [u8], n: usize) -> io::Result
     }
 }
 
-// The same to the end of a chain of links, and the answer is the length of the last name.
+// The same to the end of a chain of links, and the answer is the length of the last name. Where it fails, a name on the way may stand there.
 pub fn follow_all<R: Files + Alloc>(rt: &R, name: &mut [u8], n: usize) -> io::Result<usize>
     requires { IsPrefixLen n name.old }
-    ensures { IfOk result (λ k. IsPrefixLen k name.new) }
+    ensures ok { IfOk result (λ k. IsPrefixLen k name.new) }
+    ensures err { OnErr result (length name.new ≡ length name.old) }
 {
     let mut end = n;
     for _ in 0..LINKS {
