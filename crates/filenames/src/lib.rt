@@ -98,7 +98,8 @@ pub fn follow<R: Files + Alloc>(rt: &R, name: &mut [u8], n: usize) -> io::Result
     }
 }
 
-// The same to the end of a chain of links, and the answer is the length of the last name. Where it fails, a name on the way may stand there.
+// The same to the end of a chain of links, and the answer is the length of the last name. Where it fails, a name on the way may stand
+// there.
 pub fn follow_all<R: Files + Alloc>(rt: &R, name: &mut [u8], n: usize) -> io::Result<usize>
     requires { IsPrefixLen n name.old }
     ensures ok { IfOk result (λ k. IsPrefixLen k name.new) }
