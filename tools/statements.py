@@ -4,8 +4,9 @@
 usage: python3 tools/statements.py OLD NEW      folders with crates/, in the same spelling
        python3 tools/statements.py --list CRATE FILE      prints what crates/CRATE/proofs/FILE.antt states, for a page
 
-Of a definition (abbrev, unfoldable, record, data) the whole text counts, of a theorem its statement, with the parameters of the modules
-around it. Each one of OLD's specs/ must stand in NEW under its name, in a file of the same name. Prints those that do not, and a count.
+Of a definition (abbrev, unfoldable, record, data) the whole text counts, of anything else its signature, with the parameters of the modules
+around it. Each one of OLD's specs/ must stand in NEW under its name, in a file of the same name, and be public if it was. Prints those that
+do not, then those whose text below the signature differs (proofs, and values that are neither abbrev nor unfoldable), and the counts.
 """
 
 import glob
@@ -23,8 +24,8 @@ LATER = {"S1In": "S1_in", "S3In": "S3_in", "S1Checks": "S1_checks", "S3Checks": 
 class Node:
     """A declaration, or a module with what is in it."""
 
-    def __init__(self, lines, kind, name, kids=None, head=None):
-        self.lines, self.kind, self.name, self.kids, self.head, self.path = lines, kind, name, kids, head, ()
+    def __init__(self, lines, kind, name, kids=None, head=None, is_pub=False):
+        self.lines, self.kind, self.name, self.kids, self.head, self.is_pub, self.path = lines, kind, name, kids, head, is_pub, ()
 
 
 def code(line):
@@ -89,7 +90,7 @@ def parse(lines, ind=0):
             j = end_of(lines, k, ind)
         words = (m[1] + m[3]).split()
         kind = kind or ("unfoldable" if "unfoldable" in words else "abbrev" if "abbrev" in words else "theorem")
-        nodes.append(Node(lines[i:j], kind, name))
+        nodes.append(Node(lines[i:j], kind, name, is_pub="pub" in words))
         i = j
     return nodes
 
@@ -138,22 +139,25 @@ def everything(root, parts):
                 continue
             for n in leaves(read(path)):
                 around = tuple(flat(p.head) for p in n.path)
-                out.setdefault(later(n.name), []).append((file, around, flat(statement(n)), os.path.relpath(path, root)))
+                whole = flat([code(line) for line in n.lines])
+                out.setdefault(later(n.name), []).append((file, around, flat(statement(n)), whole, n.is_pub, os.path.relpath(path, root)))
     return out
 
 
 def compare(old, new):
     was, now = everything(old, ["specs"]), everything(new, ["specs", "proofs"])
-    same, other = 0, 0
+    same, lost, bodies = 0, [], []
     for name, found in was.items():
-        for file, around, text, path in found:
-            if any(it[:3] == (file, around, text) for it in now.get(name, [])):
-                same += 1
-            else:
-                other += 1
-                print(f"{path}: {name}: {text[:300]}")
-    print(f"{same} stand as they were, {other} do not")
-    return 1 if other else 0
+        for *key, whole, is_pub, path in found:
+            there = [it for it in now.get(name, []) if list(it[:3]) == key and it[4] >= is_pub]
+            if not there:
+                lost.append(f"{path}: {name}: {key[2][:300]}")
+                continue
+            same += 1
+            if all(it[3] != whole for it in there):
+                bodies.append(f"another text below the signature: {there[0][5]}: {name}")
+    print("\n".join(lost + bodies + [f"{same} stand as they were, {len(lost)} do not; {len(bodies)} have another text below the signature"]))
+    return 1 if lost else 0
 
 
 def listed(nodes):
