@@ -4,9 +4,9 @@
 usage: python3 tools/statements.py OLD NEW      folders with crates/, in the same spelling
        python3 tools/statements.py --list CRATE FILE      prints what crates/CRATE/proofs/FILE.antt states, for a page
 
-Of a definition (abbrev, unfoldable, record, data) the whole text counts, of anything else its signature, with the parameters of the modules
-around it. Each one of OLD's specs/ must stand in NEW under its name, in a file of the same name, and be public if it was. Prints those that
-do not, then those whose text below the signature differs (proofs, and values that are neither abbrev nor unfoldable), and the counts.
+Of a definition (abbrev, unfoldable, record, data, ruleset, or a number, a list, a test, a word or a type by any other word) the whole text
+counts, of a theorem its signature, with the parameters of the modules around it. Each one of OLD's specs/ must stand in NEW under its name,
+in a file of the same name, and be public if it was. Prints those that do not, then the theorems with another proof, and the counts.
 """
 
 import glob
@@ -16,7 +16,8 @@ import sys
 
 TOKEN = re.compile(r"[^\s(){}\[\];,.\"«»|`]+")
 HEAD = re.compile(r"^((?:unfoldable |abbrev |pub )*)(?:(record|data|ruleset|module)\s+)?((?:abbrev |pub )*)([^\s(){}:]+)")
-WHOLE = ("unfoldable", "abbrev", "record", "data")
+# What a declaration's signature ends with that is a value and no theorem.
+VALUE = re.compile(r"(ℕ|ℤ|Bool|Word|List|Type)\b[^≡≢<≤⊥]*$")
 # Renamed by hand after tools/respell.py.
 LATER = {"S1In": "S1_in", "S3In": "S3_in", "S1Checks": "S1_checks", "S3Checks": "S3_checks", "·_shiftA": "·_shift_a"}
 
@@ -113,16 +114,22 @@ def later(text):
     return TOKEN.sub(lambda m: LATER.get(m[0], m[0]), text)
 
 
-def statement(n):
-    """Its lines that count."""
+def signature(n):
     out = []
     for i, line in enumerate(n.lines):
-        if not code(line).strip():
-            continue
-        if i and n.kind == "theorem" and depth(line) <= depth(n.lines[0]):
+        if i and depth(line) <= depth(n.lines[0]) and code(line).strip():
             break
         out.append(code(line).rstrip())
-    return out
+    return [line for line in out if line]
+
+
+def statement(n):
+    """Its lines that count."""
+    if n.kind == "theorem":
+        head = signature(n)
+        if not VALUE.match(re.split(r"[→:]\s", " ".join(head))[-1].strip()):
+            return head
+    return [code(line).rstrip() for line in n.lines if code(line).strip()]
 
 
 def flat(lines):
@@ -155,8 +162,8 @@ def compare(old, new):
                 continue
             same += 1
             if all(it[3] != whole for it in there):
-                bodies.append(f"another text below the signature: {there[0][5]}: {name}")
-    print("\n".join(lost + bodies + [f"{same} stand as they were, {len(lost)} do not; {len(bodies)} have another text below the signature"]))
+                bodies.append(f"another proof: {there[0][5]}: {name}")
+    print("\n".join(lost + bodies + [f"{same} stand as they were, {len(lost)} do not; {len(bodies)} have another proof"]))
     return 1 if lost else 0
 
 
