@@ -14,8 +14,11 @@ use std::{fs, io};
 // What the X's of a path become.
 const LETTERS: [u8; 62] = *b"abcdefghijklmnopqrstuvwxyzABCDEFGHIJKLMNOPQRSTUVWXYZ0123456789";
 
-// How many paths are tried.
-const TRIES: usize = 100;
+// The system's number for a path that is there already.
+const EXISTS: i32 = 17;
+
+// How many paths are tried, as in the C library.
+const TRIES: usize = 238328;
 
 // The system's number for what no path has, as one without X's.
 const INVALID: i32 = 22;
@@ -62,7 +65,7 @@ fn create_at<R: Files + RandomSource>(rt: &R, path: &mut [u8]) -> io::Result<R::
             }
         }
     }
-    Err(io::Error::from(ErrorKind::AlreadyExists))
+    Err(io::Error::from_raw_os_error(EXISTS))
 }
 
 // Makes a new file at path for this name; or says why it cannot.
@@ -88,7 +91,7 @@ fn create_like<R: Files + RandomSource + Eprint>(
     path: &mut [u8],
 ) -> Option<R::File> {
     if !is_regular(old) {
-        message::of(rt, name, "not a regular file");
+        message::of(rt, name, b"not a regular file");
         return None;
     }
     let file = create_new(rt, name, path)?;

@@ -29,12 +29,12 @@ pub fn name_of<R: Env + Eprint>(rt: &R, argument: usize, name: &mut [u8]) -> usi
         Ok(n) => n,
         Err(FillError::NotPresent) => 0,
         Err(FillError::TooLong) => {
-            message::line(rt, argument, "the name is too long");
+            message::line(rt, argument, b"the name is too long");
             return 0;
         }
     };
     if let Some(words) = flaw(&name[..n]) {
-        message::line(rt, argument, words);
+        message::line(rt, argument, words.as_bytes());
         return 0;
     }
     n
@@ -46,7 +46,7 @@ fn is_there<R: Files + Env + Eprint>(rt: &R, argument: usize, name: &[u8]) -> bo
         Ok(_) => true,
         Err(error) => {
             if error.kind() == ErrorKind::NotFound {
-                message::line(rt, argument, "a symbolic link to a file that is not there");
+                message::line(rt, argument, b"a symbolic link to a file that is not there");
             } else {
                 message::fail(rt, name, error);
             }
@@ -77,7 +77,7 @@ pub fn target<R: Files + Alloc + Env + Eprint>(rt: &R, argument: usize, name: &m
         return 0;
     }
     let Ok(end) = end_of(rt, name, n) else {
-        message::line(rt, argument, "a symbolic link that cannot be followed");
+        message::line(rt, argument, b"a symbolic link that cannot be followed");
         return 0;
     };
     if end == 0 {

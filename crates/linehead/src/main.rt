@@ -56,10 +56,10 @@ fn explain<R: Eprint, I: Read>(rt: &R, input: &mut I, first: &[u8; 16], size: us
     if size == 0 {
         let mut none = [0u8; 1];
         if let Err(error) = input.read(&mut none[0..0]) {
-            return report::fail(rt, "standard input", error);
+            return report::fail(rt, b"standard input", error);
         }
     }
-    report::explain_header(rt, "standard input", first, size);
+    report::explain_header(rt, b"standard input", first, size);
 }
 
 // Prints what the header says in the input's first bytes, or why it is refused.

@@ -69,7 +69,7 @@ fn fit<R: Env + Eprint, F: Read + Seek + OpenFile>(
 ) -> bool {
     let unit = payload_bytes(profile);
     if bytes < unit {
-        message::size(rt, PAYLOAD0, &inputs.payload0, bytes, "at least ", unit);
+        message::size(rt, PAYLOAD0, &inputs.payload0, bytes, b"at least ", unit);
         return false;
     }
     if bytes % unit != 0 {
@@ -78,7 +78,7 @@ fn fit<R: Env + Eprint, F: Read + Seek + OpenFile>(
             PAYLOAD0,
             &inputs.payload0,
             bytes,
-            "a multiple of ",
+            b"a multiple of ",
             unit,
         );
         return false;
@@ -90,14 +90,14 @@ fn fit<R: Env + Eprint, F: Read + Seek + OpenFile>(
             PAYLOAD1,
             &inputs.payload1,
             others,
-            "as many as the other payload file has, ",
+            b"as many as the other payload file has, ",
             bytes,
         );
         return false;
     }
     let list = size(&mut inputs.overhead);
     if list != LIST {
-        message::size(rt, OVERHEAD, &inputs.overhead, list, "", LIST);
+        message::size(rt, OVERHEAD, &inputs.overhead, list, b"", LIST);
         return false;
     }
     true
@@ -130,23 +130,23 @@ pub fn say_too_many<R: Env + Eprint, F: Read + Seek>(
 ) {
     message::begin(rt, PAYLOAD0);
     message::number(rt, size(&mut inputs.payload0) / payload_bytes(profile));
-    message::text(rt, " super-frames, expected at most ");
+    message::text(rt, b" super-frames, expected at most ");
     message::number(rt, MOST);
-    message::text(rt, "\n");
+    message::text(rt, b"\n");
 }
 
 // Whether the line file's name leads to one of these, which is said.
 pub fn are_led_to<R: Files + Env + Eprint>(rt: &R, inputs: &Inputs<R::File>, name: &[u8]) -> bool {
     if files::leads_to(rt, name, &inputs.payload0) {
-        message::line(rt, LINE, "the same file as PAYLOAD0");
+        message::line(rt, LINE, b"the same file as PAYLOAD0");
         return true;
     }
     if files::leads_to(rt, name, &inputs.payload1) {
-        message::line(rt, LINE, "the same file as PAYLOAD1");
+        message::line(rt, LINE, b"the same file as PAYLOAD1");
         return true;
     }
     if files::leads_to(rt, name, &inputs.overhead) {
-        message::line(rt, LINE, "the same file as OVERHEAD");
+        message::line(rt, LINE, b"the same file as OVERHEAD");
         return true;
     }
     false

@@ -15,7 +15,7 @@ pub fn put<R: Eprint, W: Write>(rt: &R, out: &mut W, bytes: &[u8]) -> u32 {
     match out.write_all(bytes) {
         Ok(()) => 0,
         Err(error) => {
-            report::fail(rt, "line file", error);
+            report::fail(rt, b"line file", error);
             MISFIT
         }
     }
@@ -31,7 +31,7 @@ fn prepare<R: Env + Eprint, F: Read + Seek>(
     overhead: &mut [u8; 12288],
 ) -> u32 {
     if inputs.overhead.read_exact(overhead).is_err() {
-        message::line(rt, OVERHEAD, "the file ended early");
+        message::line(rt, OVERHEAD, b"the file ended early");
         return MISFIT;
     }
     let refusal = calls::refusal_of(line_file::write_header(superframes, header));
@@ -43,7 +43,7 @@ fn prepare<R: Env + Eprint, F: Read + Seek>(
 
 // Says where the list has an illegal byte.
 fn say_illegal<R: Env + Eprint>(rt: &R, index: usize) {
-    message::line_with(rt, OVERHEAD, "a byte of 16 or more at index ", index);
+    message::line_with(rt, OVERHEAD, b"a byte of 16 or more at index ", index);
 }
 
 // Writes header, list and super-frames: 0, or the refusal.

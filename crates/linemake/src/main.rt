@@ -82,7 +82,7 @@ fn print_made<R: Files + Env + Print + Eprint>(rt: &R) {
         length = files::length(&mut file);
     }
     report::print_header(rt, header_core::rules::judge(&first, length));
-    report::explain_header(rt, "line file", &first, length);
+    report::explain_header(rt, b"line file", &first, length);
 }
 
 // Makes the line file of the open files and prints its header, or the refusal.

@@ -20,7 +20,7 @@ fn read_next<R: Env + Eprint, F: Read>(
     if file.read_exact(payload).is_ok() {
         return true;
     }
-    message::line(rt, argument, "the file ended early");
+    message::line(rt, argument, b"the file ended early");
     false
 }
 

@@ -73,7 +73,7 @@ fn whole<R: Env + Eprint>(rt: &R, read: io::Result<()>, argument: usize) -> bool
     if read.is_ok() {
         return true;
     }
-    message::line(rt, argument, "it ended early");
+    message::line(rt, argument, b"it ended early");
     false
 }
 

@@ -42,11 +42,11 @@ fn is_input<R: Files + Env + Eprint>(
     capture: &R::File,
 ) -> bool {
     if files::leads_to(rt, name, line) {
-        message::line(rt, argument, "the same file as LINE");
+        message::line(rt, argument, b"the same file as LINE");
         return true;
     }
     if files::leads_to(rt, name, capture) {
-        message::line(rt, argument, "the same file as CAPTURE");
+        message::line(rt, argument, b"the same file as CAPTURE");
         return true;
     }
     false
@@ -63,7 +63,7 @@ fn is_name_of<R: Files + Env + Alloc + Eprint>(rt: &R, other: usize, name: &[u8]
 fn is_output<R: Files + Env + Alloc + Eprint>(rt: &R, argument: usize, name: &[u8]) -> bool {
     for other in FIRST..argument {
         if is_name_of(rt, other, name) {
-            message::line_with(rt, argument, "the same file as argument ", other);
+            message::line_with(rt, argument, b"the same file as argument ", other);
             return true;
         }
     }
@@ -143,7 +143,7 @@ pub fn make_all<R: Files + Env + RandomSource + Alloc + Eprint>(
 }
 
 // Writes to a file, or says why it cannot.
-pub fn put<R: Eprint, W: Write>(rt: &R, out: &mut W, bytes: &[u8], what: &str) -> bool {
+pub fn put<R: Eprint, W: Write>(rt: &R, out: &mut W, bytes: &[u8], what: &[u8]) -> bool {
     match out.write_all(bytes) {
         Ok(()) => true,
         Err(error) => {

@@ -96,9 +96,9 @@ fn receive_and_write<R: Eprint, W: Write>(
     payload: &mut [u8],
     marks: &mut [u8],
     payload_file: &mut W,
-    payload_name: &str,
+    payload_name: &[u8],
     marks_file: &mut W,
-    marks_name: &str,
+    marks_name: &[u8],
 ) -> Received
     requires { (number ≤ 168) × (length coded.now ≡ number * 512) × (encoder ≤ 1) × (first < 65536) × BeforePair encoder first history.old × (length payload.old ≡ number * 444) × (length marks.old ≡ number * 32) }
     ensures { (result.flips < 4294967296) × (result.lost < 4294967296) × BeforePair encoder (first + number) history.new }
@@ -129,9 +129,9 @@ fn receive<R: Eprint, W: Write>(
     history: &mut [u8],
     space: &mut [u8],
     payload_file: &mut W,
-    payload_name: &str,
+    payload_name: &[u8],
     marks_file: &mut W,
-    marks_name: &str,
+    marks_name: &[u8],
 ) -> Received
     requires { (length coded.now ≡ 86016) × (encoder ≤ 1) × (first < 65536) × BeforePair encoder first history.old × (length space.old ≡ 356352) }
     ensures { (result.flips < 4294967296) × (result.lost < 4294967296) × BeforePair encoder (first + (modulation profile).bits * 21) history.new }
@@ -192,9 +192,9 @@ fn receive_first<R: Eprint, W: Write>(
         history,
         space,
         &mut outputs.payload0.file,
-        "PAYLOAD0",
+        b"PAYLOAD0",
         &mut outputs.marks0.file,
-        "MARKS0",
+        b"MARKS0",
     )
 }
 
@@ -220,9 +220,9 @@ fn receive_second<R: Eprint, W: Write>(
         history,
         space,
         &mut outputs.payload1.file,
-        "PAYLOAD1",
+        b"PAYLOAD1",
         &mut outputs.marks1.file,
-        "MARKS1",
+        b"MARKS1",
     )
 }
 

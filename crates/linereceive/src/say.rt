@@ -4,21 +4,20 @@ use files::message;
 use profile::Profile;
 use std::fs::OpenFile;
 use std::rt::Env;
-use std::str;
 
 // Two files whose numbers of super-frames differ.
 pub fn unequal<R: Env + Eprint>(rt: &R, line: u32, capture: u32) {
     message::begin(rt, LINE);
     message::number(rt, line as usize);
-    message::text(rt, " super-frames, ");
+    message::text(rt, b" super-frames, ");
     message::begin(rt, CAPTURE);
     message::number(rt, capture as usize);
-    message::text(rt, "\n");
+    message::text(rt, b"\n");
 }
 
 // The illegal byte of a file, by its index in it.
 pub fn illegal<R: Env + Eprint>(rt: &R, argument: usize, index: usize) {
-    message::line_with(rt, argument, "a byte of 16 or more at index ", index);
+    message::line_with(rt, argument, b"a byte of 16 or more at index ", index);
 }
 
 // The illegal byte of the capture's frames: of 16 or more, or, in QPSK, a payload cell's that the profile has not.
@@ -28,7 +27,7 @@ pub fn illegal_cell<R: Env + Eprint>(rt: &R, profile: Profile, index: usize) {
         Profile::Qpsk => message::line_with(
             rt,
             CAPTURE,
-            "not a cell of the profile at index ",
+            b"not a cell of the profile at index ",
             index,
         ),
     }
@@ -43,9 +42,9 @@ pub fn header<R: Env + Eprint, F: OpenFile>(
     size: usize,
 ) {
     if !files::is_regular(file) {
-        return message::line(rt, argument, "not a regular file");
+        return message::line(rt, argument, b"not a regular file");
     }
     let mut name = [0u8; 4096];
     let n = rt.arg(argument, &mut name).unwrap_or(0);
-    report::explain_header(rt, str::from_utf8(&name[..n]).unwrap_or(""), first, size);
+    report::explain_header(rt, &name[..n], first, size);
 }

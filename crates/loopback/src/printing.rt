@@ -35,7 +35,7 @@ fn print<R: Print + Eprint>(rt: &R, text: &[u8], counts: &[u32; 41], from: usize
         at = next(at, byte);
     }
     if let Err(error) = printed {
-        report::fail(rt, "standard output", error);
+        report::fail(rt, b"standard output", error);
     }
 }
 

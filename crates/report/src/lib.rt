@@ -18,17 +18,29 @@ fn cause(text: &str) -> &str {
     }
 }
 
-// Says on standard error what failed, as the caller names it, and why. What standard error does not take is lost.
-pub fn fail<R: Eprint>(rt: &R, what: &str, error: io::Error) {
+// Says words on standard error. They are text; in the place of bytes of a name that are none stands the character for that. What standard
+// error does not take is lost.
+pub fn words<R: Eprint>(rt: &R, words: &[u8]) {
+    for chunk in words.utf8_chunks() {
+        let _ = rt.eprint(chunk.valid());
+        if chunk.invalid().len() != 0 {
+            let _ = rt.eprint('\u{FFFD}');
+        }
+    }
+}
+
+// Says on standard error what failed, as the caller names it, and why.
+pub fn fail<R: Eprint>(rt: &R, what: &[u8], error: io::Error) {
     let text = InlineText::<128>::of(error);
     let why = cause(text.as_str());
-    let _ = eprintln!(rt; "{what}: {why}");
+    words(rt, what);
+    let _ = eprintln!(rt; ": {why}");
 }
 
 // Says why a line could not be printed, where it could not.
 fn end<R: Eprint>(rt: &R, printed: io::Result<()>) {
     if let Err(error) = printed {
-        fail(rt, "standard output", error);
+        fail(rt, b"standard output", error);
     }
 }
 
@@ -65,12 +77,13 @@ pub fn print_received<R: Print + Eprint>(
 }
 
 // Says on standard error that a file has a number where another is expected.
-fn say<R: Eprint>(rt: &R, file: &str, what: &str, has: usize, expected: &str, n: usize) {
-    let _ = eprintln!(rt; "{file}{what}{has}{expected}{n}");
+fn say<R: Eprint>(rt: &R, file: &[u8], what: &str, has: usize, expected: &str, n: usize) {
+    words(rt, file);
+    let _ = eprintln!(rt; "{what}{has}{expected}{n}");
 }
 
 // Says that a file has another size than its total, where it has. A count above 2^32 may have stopped before the end.
-fn explain_size<R: Eprint>(rt: &R, file: &str, total: usize, size: usize) {
+fn explain_size<R: Eprint>(rt: &R, file: &[u8], total: usize, size: usize) {
     if 4294967295 < size {
         return say(
             rt,
@@ -89,7 +102,7 @@ fn explain_size<R: Eprint>(rt: &R, file: &str, total: usize, size: usize) {
 // Says which rule of the header fails first, where one does, for the numbers n, o, f and total in a file of so many bytes.
 fn explain_numbers<R: Eprint>(
     rt: &R,
-    file: &str,
+    file: &[u8],
     n: usize,
     o: usize,
     f: usize,
@@ -125,7 +138,7 @@ fn explain_numbers<R: Eprint>(
 
 // Says on standard error why the header in a file's first sixteen bytes is refused, in one line that begins with the file; nothing where
 // it is not.
-pub fn explain_header<R: Eprint>(rt: &R, file: &str, first: &[u8; 16], size: usize) {
+pub fn explain_header<R: Eprint>(rt: &R, file: &[u8], first: &[u8; 16], size: usize) {
     if size < 16 {
         return say(rt, file, ": ", size, " bytes, expected at least ", 16);
     }
