@@ -6,7 +6,8 @@ usage: python3 tools/statements.py OLD NEW      folders with crates/, in the sam
 
 Of a definition (abbrev, unfoldable, record, data, ruleset, or a number, a list, a test, a word or a type by any other word) the whole text
 counts, of a theorem its signature, with the parameters of the modules around it. Each one of OLD's specs/ must stand in NEW under its name,
-in a file of the same name, and be public if it was. Prints those that do not, then the theorems with another proof, and the counts.
+in a file of the same name, and be public if it was. Prints those that do not, then the theorems with another proof, and the counts. It does
+not read imports, nor which files a Lib.antt declares: that everything is checked is the prover's to say.
 """
 
 import glob
