@@ -10,3 +10,4 @@ pub mod Numbers32Laws
 pub mod PartLaws
 pub mod TestLaws
 pub mod XorLaws
+pub mod FromFn
