@@ -1,7 +1,7 @@
 -- What the exported functions answer: the answers of the library in numbers, by its own definitions.
 -- Assumes nothing.
 use Rattle.std.specs.Prelude.{Bool, not, ℕ, eqb}
-use Rattle.calls.specs.declared.Answer.{Answer}
+use Rattle.calls.specs.Answers.{Answer}
 use Rattle.calls.specs.Answers.{refusal_of, index_of, value_or}
 use Rattle.calls.specs.Results.{Result}
 use Rattle.line_file_spec.specs.declared.Header.{Header}

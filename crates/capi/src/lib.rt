@@ -43,7 +43,7 @@ fn outcome_of(a: Answer, refused: u32) -> Outcome
 {
     Outcome {
         refusal: calls::refusal_of(a),
-        value: calls::value_or(a, refused),
+        value: a.unwrap_or(refused),
         index: calls::index_of(a) as u64,
     }
 }

@@ -35,7 +35,7 @@ pub fn refused(r: Refusal) -> Header
     ensures { result ≡ header·refused r }
 {
     Header {
-        answer: Answer::Refused(r),
+        answer: Err(r),
         superframes: 0,
         overhead: 0,
         frames: 0,
@@ -57,7 +57,7 @@ pub fn judge(first: &[u8], size: usize) -> Header
     let total = number(first, 3);
     if rules_hold(n, o, f, total, size) {
         return Header {
-            answer: Answer::Done(0),
+            answer: Ok(0),
             superframes: n as u32,
             overhead: o as u32,
             frames: f as u32,

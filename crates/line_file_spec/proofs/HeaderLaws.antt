@@ -6,8 +6,8 @@ use Rattle.std.proofs.Common.{◌∙◌, arith, get_or-take}
 use borrow.Author.Tests.{le-leb, eq-eqb, leb-true, eqb-true}
 use Rattle.bits.proofs.Numbers32Laws.{number_below, number_same}
 use Rattle.bits.specs.Tests.{both}
-use Rattle.calls.specs.declared.Answer.{Answer}
-use Rattle.calls.specs.declared.Answer.TheVariants.{Done, Refused}
+use Rattle.calls.specs.Answers.{Answer}
+use Rattle.std.specs.Prelude.{Ok, Err}
 use Rattle.calls.specs.declared.Refusal.{Refusal}
 use Rattle.calls.specs.declared.Refusal.TheVariants.{Misfit, BadHeader}
 use Rattle.calls.specs.Calls.{verdict}
@@ -112,11 +112,11 @@ module _ (bytes : List ℕ) (size : ℕ) where
 
   pub judged_short : size < 16 → judged bytes size ≡ refused_header Misfit
   unfolding header_tests
-  judged_short l = sym (header_is (Refused Misfit) (is_short_file _ size l))
+  judged_short l = sym (header_is (Err Misfit) (is_short_file _ size l))
 
   pub judged_broken : 16 ≤ size → (RulesOf bytes size → ⊥) → judged bytes size ≡ refused_header BadHeader
   unfolding header_tests
-  judged_broken l h = sym (header_is (Refused BadHeader) (no_short_file _ size _ l (is_bad_header _ _ (rules_false _ _ _ _ _ h))))
+  judged_broken l h = sym (header_is (Err BadHeader) (no_short_file _ size _ l (is_bad_header _ _ (rules_false _ _ _ _ _ h))))
 
   pub judged_good : 16 ≤ size → RulesOf bytes size → Sound bytes size
   unfolding header_tests
@@ -124,17 +124,17 @@ module _ (bytes : List ℕ) (size : ℕ) where
       record {
         long = l;
         rules = r;
-        is = sym (header_is (Done 0) (no_short_file _ size _ l (no_bad_header _ _ _ (rules_true _ _ _ _ _ r) none_left)));
+        is = sym (header_is (Ok 0) (no_short_file _ size _ l (no_bad_header _ _ _ (rules_true _ _ _ _ _ r) none_left)));
       }
 
   -- A header that is not refused keeps the rules, and its numbers are those of the bytes.
-  pub judged_done : (v : ℕ) → (judged bytes size).answer ≡ Done v → Sound bytes size
+  pub judged_done : (v : ℕ) → (judged bytes size).answer ≡ Ok v → Sound bytes size
   unfolding judged header_tests
   judged_done v e =
       let p = passed_all (header_tests bytes size) v e in judged_good (search (told, p)) (rules_are _ _ _ _ _ (search (told, p)))
 
   -- A refused header has zeros.
-  pub judged_refused : (r : Refusal) → (judged bytes size).answer ≡ Refused r → judged bytes size ≡ refused_header r
+  pub judged_refused : (r : Refusal) → (judged bytes size).answer ≡ Err r → judged bytes size ≡ refused_header r
   unfolding judged
   judged_refused r e = ap (λ x. header_when x (header_number bytes 0) (header_number bytes 1) (header_number bytes 2) (header_number bytes 3)) e
 
@@ -152,11 +152,11 @@ module _ (bytes : List ℕ) (size : ℕ) where
     unfolding header_tests
     case_good t =
         rw (en, eo, ef, et)
-        (header_is (Done 0) (no_short_file _ size _ l (no_bad_header _ _ _ (rw (en, eo, ef, et) at (sym e ∙ t)) none_left)))
+        (header_is (Ok 0) (no_short_file _ size _ l (no_bad_header _ _ _ (rw (en, eo, ef, et) at (sym e ∙ t)) none_left)))
 
     pub case_broken : (h : Header) → h ≡ refused_header BadHeader → hold ≡ false → h ≡ judged bytes size
     unfolding header_tests
     case_broken h q t =
-        q ∙ header_is (Refused BadHeader) (no_short_file _ size _ l (is_bad_header _ _ (rw (en, eo, ef, et) at (sym e ∙ t))))
+        q ∙ header_is (Err BadHeader) (no_short_file _ size _ l (is_bad_header _ _ (rw (en, eo, ef, et) at (sym e ∙ t))))
 
 pub ruleset header_cases = (case_short, case_good, case_broken)

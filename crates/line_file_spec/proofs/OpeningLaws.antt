@@ -3,8 +3,8 @@
 use Rattle.std.specs.Prelude.{◌≡◌, List, [], ℕ, ◌+◌, ◌*◌, ◌<◌, ◌≤◌, length}
 use Rattle.std.proofs.Common.{sym, ◌∙◌}
 use Rattle.std.proofs.Math.Path.{ap}
-use Rattle.calls.specs.declared.Answer.{Answer}
-use Rattle.calls.specs.declared.Answer.TheVariants.{Done, Refused}
+use Rattle.calls.specs.Answers.{Answer}
+use Rattle.std.specs.Prelude.{Ok, Err}
 use Rattle.calls.specs.declared.Refusal.{Refusal}
 use Rattle.calls.specs.declared.Refusal.TheVariants.{Misfit, BadHeader}
 use Rattle.calls.specs.Answers.{refusal_of, Accepted}
@@ -20,10 +20,10 @@ module _ (file : List ℕ) (h : Header) (is : h ≡ header_of file) where
   unfolding judged
   answer_of = ap (λ (x : Header). x.answer) is
 
-  pub open_part_done : (v : ℕ) → h.answer ≡ Done v → file ≡ open_part file
+  pub open_part_done : (v : ℕ) → h.answer ≡ Ok v → file ≡ open_part file
   open_part_done v e = ap (λ (x : Answer). part_when x file) (sym e ∙ answer_of)
 
-  pub open_part_refused : (r : Refusal) → h.answer ≡ Refused r → [] ≡ open_part file
+  pub open_part_refused : (r : Refusal) → h.answer ≡ Err r → [] ≡ open_part file
   open_part_refused r e = ap (λ (x : Answer). part_when x file) (sym e ∙ answer_of)
 
 pub ruleset open_parts = (open_part_done, open_part_refused)
@@ -31,22 +31,22 @@ pub ruleset open_parts = (open_part_done, open_part_refused)
 -- ---- the call, case by case
 
 module _ (file : List ℕ) where
-  -- Refused, whatever the refusal: the empty part and zeros.
-  pub open_refused : (r : Refusal) → open_answer file ≡ Refused r → open_call file ≡ open_file [] 0 0 0
+  -- Err, whatever the refusal: the empty part and zeros.
+  pub open_refused : (r : Refusal) → open_answer file ≡ Err r → open_call file ≡ open_file [] 0 0 0
   unfolding open_call judged
   open_refused r e = ap (open_with file) (judged_refused file (length file) r e)
 
-  -- Done: the file itself, with the numbers in its bytes.
+  -- Ok: the file itself, with the numbers in its bytes.
   pub open_done : Sound file (length file) → open_call file ≡ open_file file (header_number file 0) (header_number file 1) (header_number file 2)
   unfolding open_call
   open_done s = ap (open_with file) s.is
 
   -- Which refusal it is, and when there is none.
-  pub open_misfit : length file < 16 → open_answer file ≡ Refused Misfit
+  pub open_misfit : length file < 16 → open_answer file ≡ Err Misfit
   unfolding judged
   open_misfit l = ap (λ (h : Header). h.answer) (judged_short file (length file) l)
 
-  pub open_bad_header : 16 ≤ length file → (RulesOf file (length file) → ⊥) → open_answer file ≡ Refused BadHeader
+  pub open_bad_header : 16 ≤ length file → (RulesOf file (length file) → ⊥) → open_answer file ≡ Err BadHeader
   unfolding judged
   open_bad_header l h = ap (λ (h : Header). h.answer) (judged_broken file (length file) l h)
 

@@ -3,8 +3,8 @@
 use Rattle.std.specs.Prelude.{◌≡◌, refl, cond, not, ◌||◌, List, [], ℕ, eqb, ltb, leb, length, take, drop}
 use Rattle.std.proofs.Common.{◌∙◌, ne_eqb}
 use Rattle.bits.specs.Tests.{both}
-use Rattle.calls.specs.declared.Answer.{Answer}
-use Rattle.calls.specs.declared.Answer.TheVariants.{Done, Refused}
+use Rattle.calls.specs.Answers.{Answer}
+use Rattle.std.specs.Prelude.{Ok, Err}
 use Rattle.calls.specs.Answers.{number_of, refusal_of}
 use Rattle.calls.proofs.AnswerLaws.{refused_turned}
 use Rattle.calls.specs.Results.{result, result_of}
@@ -44,8 +44,8 @@ write_result n header = call_result 0 _ _ _ ∙ simp results
 -- ---- what is handed back, by the companion's number: the part where that is 0, and the empty part otherwise
 
 part_result : (a : Answer) (part : List ℕ) → part_when a part ≡ cond (eqb (refusal_of a) 0) part []
-part_result (Done v) part = refl
-part_result (Refused r) part = simp (ne_eqb (number_of r) 0 (refused_turned r))
+part_result (Ok v) part = refl
+part_result (Err r) part = simp (ne_eqb (number_of r) 0 (refused_turned r))
 
 pub open_part_result : (file : List ℕ) → (open_call file).file ≡ cond (eqb (open_refusal file) 0) file []
 unfolding open_call judged

@@ -8,7 +8,7 @@ use Rattle.bits.specs.Numbers32.{bytes32}
 use Rattle.bits.proofs.Numbers32Laws.{bytes32_length, number_written}
 use Rattle.bits.specs.Parts.{part, end_to_end}
 use Rattle.bits.specs.Tests.{both}
-use Rattle.calls.specs.declared.Answer.TheVariants.{Done}
+use Rattle.std.specs.Prelude.{Ok}
 use Rattle.calls.specs.Answers.{refusal_of, Accepted, TurnedBack}
 use Rattle.calls.specs.Calls.{After, after}
 use Rattle.calls.proofs.CallLaws.{none_left, no_misfit, no_bad_header, call_done, call_keeps}
@@ -38,8 +38,8 @@ pub ruleset n_rule = (n_none, n_many, n_fits)
 
 module _ (n : ℕ) (header : List ℕ) where
   pub write_done : (h : List ℕ) → length header ≡ 16 → 1 ≤ n → n ≤ 64 → h ≡ bytes32 (numbers_for n)
-      → after (Done 0) h ≡ write_call n header
-  write_done h e a b q = call_done _ _ _ _ (no_misfit _ _ _ _ e (no_bad_header _ _ _ (n_fits n a b) none_left)) (ap (after (Done 0)) q)
+      → after (Ok 0) h ≡ write_call n header
+  write_done h e a b q = call_done _ _ _ _ (no_misfit _ _ _ _ e (no_bad_header _ _ _ (n_fits n a b) none_left)) (ap (after (Ok 0)) q)
 
   -- A refused call leaves the buffer as it was.
   pub write_keeps : TurnedBack (write_call n header).answer → (write_call n header).written ≡ header

@@ -4,8 +4,8 @@
 use Rattle.std.specs.Prelude.{List, [], ◌∷◌, Bool, ℕ, ◌+◌, ◌*◌, leb, eqb}
 use Rattle.bits.specs.Numbers32.{number32}
 use Rattle.bits.specs.Tests.{both}
-use Rattle.calls.specs.declared.Answer.{Answer}
-use Rattle.calls.specs.declared.Answer.TheVariants.{Done, Refused}
+use Rattle.calls.specs.Answers.{Answer}
+use Rattle.std.specs.Prelude.{Ok, Err}
 use Rattle.calls.specs.declared.Refusal.{Refusal}
 use Rattle.calls.specs.Calls.{Test, short_file, bad_header, verdict}
 use Rattle.line_file_spec.specs.declared.Header.{Header}
@@ -30,18 +30,18 @@ header_tests bytes size = short_file size ∷ bad_header (rules_hold (header_num
 
 -- The header by their answer: its numbers where it keeps the rules, and zeros where it is refused.
 abbrev pub number_when : Answer → ℕ → ℕ
-number_when (Done v) n = n
-number_when (Refused r) n = 0
+number_when (Ok v) n = n
+number_when (Err r) n = 0
 
 abbrev pub header_when : Answer → ℕ → ℕ → ℕ → ℕ → Header
 header_when a n o f total =
     record { answer = a; superframes = number_when a n; overhead = number_when a o; frames = number_when a f; total = number_when a total }
 
 abbrev pub good : ℕ → ℕ → ℕ → ℕ → Header
-good n o f total = header_when (Done 0) n o f total
+good n o f total = header_when (Ok 0) n o f total
 
 abbrev pub refused_header : Refusal → Header
-refused_header r = header_when (Refused r) 0 0 0 0
+refused_header r = header_when (Err r) 0 0 0 0
 
 unfoldable pub judged : List ℕ → ℕ → Header
 judged bytes size = header_when (verdict (header_tests bytes size)) (header_number bytes 0) (header_number bytes 1) (header_number bytes 2) (header_number bytes 3)

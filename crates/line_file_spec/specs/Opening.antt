@@ -1,8 +1,8 @@
 -- Opening a line file.
 -- Assumes nothing.
 use Rattle.std.specs.Prelude.{List, [], ℕ, length}
-use Rattle.calls.specs.declared.Answer.{Answer}
-use Rattle.calls.specs.declared.Answer.TheVariants.{Done, Refused}
+use Rattle.calls.specs.Answers.{Answer}
+use Rattle.std.specs.Prelude.{Ok, Err}
 use Rattle.calls.specs.Answers.{refusal_of}
 use Rattle.calls.specs.Calls.{verdict}
 use Rattle.line_file_spec.specs.declared.Header.{Header}
@@ -22,8 +22,8 @@ open_refusal file = refusal_of (open_answer file)
 
 -- A part of the file that a call hands on where it is done; the empty part where it is refused.
 abbrev pub part_when : Answer → List ℕ → List ℕ
-part_when (Done v) part = part
-part_when (Refused r) part = []
+part_when (Ok v) part = part
+part_when (Err r) part = []
 
 abbrev pub open_part : List ℕ → List ℕ
 open_part file = part_when (open_answer file) file

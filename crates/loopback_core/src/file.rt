@@ -31,7 +31,7 @@ fn begin(list: &[u8], file: &mut [u8])
     ensures { file.new ≡ line_file list.now (drop 12304 file.old) }
 {
     copy(list, &mut file[16..12304]);
-    line_file::write_header(1, &mut file[0..16]);
+    let _ = line_file::write_header(1, &mut file[0..16]);
 }
 
 // Writes the whole file.

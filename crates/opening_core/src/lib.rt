@@ -35,7 +35,7 @@ pub fn open_part(file: &[u8]) -> &[u8]
     let h = open_header(file);
     let a = h.answer;
     match a {
-        Answer::Done(_) => file,
-        Answer::Refused(_) => &file[..0],
+        Ok(_) => file,
+        Err(_) => &file[..0],
     }
 }

@@ -52,7 +52,7 @@ pub fn print_refusal<R: Print + Eprint>(rt: &R, number: u32) {
 // Prints the numbers of a header, or its refusal.
 pub fn print_header<R: Print + Eprint>(rt: &R, h: Header) {
     let answer = h.answer;
-    if let Answer::Refused(_) = answer {
+    if let Err(_) = answer {
         return print_refusal(rt, calls::refusal_of(answer));
     }
     let (superframes, overhead, frames, total) = (h.superframes, h.overhead, h.frames, h.total);

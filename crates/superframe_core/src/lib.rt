@@ -31,7 +31,7 @@ fn sub_frame(profile: Profile, s: usize, cells: &[u8], overhead: &[u8], frame: &
 {
     let a = start(s);
     let e = start(s + 1);
-    frame::frame(profile, s as u32, &cells[a..e], overhead, frame);
+    let _ = frame::frame(profile, s as u32, &cells[a..e], overhead, frame);
 }
 
 // All of them, end to end.
@@ -53,10 +53,7 @@ fn unframe_next(profile: Profile, s: usize, line: &[u8], overhead: &[u8], cells:
 {
     let a = s * 7424;
     let e = a + 7424;
-    calls::value_or(
-        frame::unframe(profile, s as u32, &line[a..e], overhead, cells),
-        0,
-    )
+    frame::unframe(profile, s as u32, &line[a..e], overhead, cells).unwrap_or(0)
 }
 
 // That of all of them, end to end, and the number of their overhead cells that differ.

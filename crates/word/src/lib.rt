@@ -76,7 +76,7 @@ pub fn repair_word(word: &mut [u8], front: bool) -> Answer
     ensures { after result word.new ≡ repair_call word.old front }
 {
     if word.len() != 32 {
-        return Answer::Refused(Refusal::Misfit);
+        return Err(Refusal::Misfit);
     }
     let columns = tables::checks();
     let v = checks::check_of(word, &columns);
@@ -85,5 +85,5 @@ pub fn repair_word(word: &mut [u8], front: bool) -> Answer
     let cubes = gf256::cubes();
     let roots = locating_core::roots();
     let r = repair_in_place(word, v, front, &table, &logs, &cubes, &roots);
-    Answer::Done(mark_of(r) as u32)
+    Ok(mark_of(r) as u32)
 }

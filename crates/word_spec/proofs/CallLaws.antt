@@ -5,7 +5,7 @@ use Rattle.std.proofs.Common.{sym, ap, ◌∙◌, arith}
 use Rattle.bits.specs.Bits.{bit, pack}
 use Rattle.bits.proofs.BitLaws.{pack_bit, pack_ext}
 use Rattle.calls.specs.Answers.{TurnedBack}
-use Rattle.calls.specs.declared.Answer.TheVariants.{Done}
+use Rattle.std.specs.Prelude.{Ok}
 use Rattle.calls.specs.Calls.{After, after}
 use Rattle.calls.proofs.CallLaws.{cases, call_keeps}
 use Rattle.word_spec.specs.CodeWord.{Word, parity}
@@ -47,7 +47,7 @@ pub ruleset marking = (mark_sound, mark_one, mark_two, mark_three)
 module _ (word : List ℕ) (front : Bool) where
   -- Every word of 32 bytes is accepted.
   pub repair_done : (r : Repair) (m : ℕ) (d : List ℕ) → length word ≡ 32 → r ≡ repair front (bit word) → m ≡ mark r
-      → d ≡ pack 32 (repaired (repair front (bit word)) (bit word)) → after (Done m) d ≡ repair_call word front
+      → d ≡ pack 32 (repaired (repair front (bit word)) (bit word)) → after (Ok m) d ≡ repair_call word front
   repair_done r m d l e f g = rw (g, f, e) (search cases)
 
   -- A refused call leaves the word as it was.
