@@ -23,18 +23,14 @@ pub fn read_answer(
 ) -> Answer
     ensures { result ≡ read_answer file.now superframes overhead frames superframe subframe }
 {
-    let h = open_header(file);
-    let opening = h.answer;
-    if let Err(r) = opening {
-        return Err(r);
-    }
-    if superframes != h.superframes {
+    let header = open_header(file)?;
+    if superframes != header.superframes {
         return Err(Refusal::BadHeader);
     }
-    if overhead != h.overhead {
+    if overhead != header.overhead {
         return Err(Refusal::BadHeader);
     }
-    if frames != h.frames {
+    if frames != header.frames {
         return Err(Refusal::BadHeader);
     }
     if 47 < subframe {
