@@ -56,7 +56,9 @@ pub fn frame(
 ) -> Answer
     ensures { after result frame.new ≡ frame_call (modulation profile) number payload.now overhead.now frame.old }
 {
-    judge(number, overhead, frame, payload)?;
+    if let Err(r) = judge(number, overhead, frame, payload) {
+        return Err(r);
+    }
     let to = first_illegal_payload(profile, payload);
     if to < payload.len() {
         return Err(Refusal::OffGrid(to));
@@ -80,7 +82,9 @@ pub fn unframe(
 ) -> Answer
     ensures { after result payload.new ≡ unframe_call (modulation profile) number frame.now overhead.now payload.old }
 {
-    judge(number, overhead, frame, payload)?;
+    if let Err(r) = judge(number, overhead, frame, payload) {
+        return Err(r);
+    }
     let to = frame_legal_core::first_illegal(profile, number, frame);
     if to < frame.len() {
         return Err(Refusal::OffGrid(to));

@@ -5,7 +5,7 @@
 ghost use Rattle.std.specs.Prelude.{◌^◌, ◌<◌};
 
 use bits::numbers::number;
-use calls::Answer;
+use calls::Refusal;
 use line_file_spec::Header;
 use std::fmt::InlineText;
 use std::io;
@@ -50,16 +50,18 @@ pub fn print_refusal<R: Print + Eprint>(rt: &R, number: u32) {
 }
 
 // Prints the numbers of a header, or its refusal.
-pub fn print_header<R: Print + Eprint>(rt: &R, h: Header) {
-    let answer = h.answer;
-    if let Err(_) = answer {
-        return print_refusal(rt, calls::refusal_of(answer));
+pub fn print_header<R: Print + Eprint>(rt: &R, header: Result<Header, Refusal>) {
+    match header {
+        Ok(h) => {
+            let (superframes, overhead, frames, total) =
+                (h.superframes, h.overhead, h.frames, h.total);
+            end(
+                rt,
+                println!(rt; "superframes {superframes} overhead {overhead} frames {frames} total {total}"),
+            );
+        }
+        Err(refusal) => print_refusal(rt, refusal.number()),
     }
-    let (superframes, overhead, frames, total) = (h.superframes, h.overhead, h.frames, h.total);
-    end(
-        rt,
-        println!(rt; "superframes {superframes} overhead {overhead} frames {frames} total {total}"),
-    );
 }
 
 // Prints what was received: super-frames, flips, lost words, overhead cells that differ.
