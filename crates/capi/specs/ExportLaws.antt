@@ -8,7 +8,6 @@ use Rattle.calls.specs.Answers.{Answer, number_of, refusal_of, index_of, value_o
 use Rattle.calls.specs.Calls.{After, after}
 use Rattle.line_file_spec.specs.declared.Header.{Header}
 use Rattle.line_file_spec.specs.Opening.{header_of}
-use Rattle.line_file_spec.proofs.OpeningLaws.{answer_of}
 use Rattle.line_file_spec.specs.Reading.{read_refusal, start_of, read_part}
 use Rattle.line_file_spec.proofs.ReadingLaws.{stretch_refused, handed_length, stretch_done}
 use Rattle.capi.specs.declared.Outcome.{Outcome}

@@ -53,11 +53,17 @@ pub fn print_refusal<R: Print + Eprint>(rt: &R, number: u32) {
 pub fn print_header<R: Print + Eprint>(rt: &R, header: Result<Header, Refusal>) {
     match header {
         Ok(h) => {
-            let (superframes, overhead, frames, total) =
-                (h.superframes, h.overhead, h.frames, h.total);
+            let (superframes, overhead, frames, total) = (
+                h.superframes,
+                h.overhead,
+                h.frames,
+                h.total,
+            );
             end(
                 rt,
-                println!(rt; "superframes {superframes} overhead {overhead} frames {frames} total {total}"),
+                println!(rt;
+                    "superframes {superframes} overhead {overhead} frames {frames} total {total}"
+                ),
             );
         }
         Err(refusal) => print_refusal(rt, refusal.number()),

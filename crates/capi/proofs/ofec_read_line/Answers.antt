@@ -8,3 +8,6 @@ returns-then-n-ne0 c = search (rules, readings)
 
 pub returns : goal.returns
 returns c = search (rules, readings)
+
+pub overflow_cast-result : goal.overflow_cast-result
+overflow_cast-result c = search (rules, readings)
