@@ -2,6 +2,7 @@
 // it.
 #![tactic(auto)]
 
+pub mod lanes;
 pub mod numbers;
 
 ghost use Rattle.std.specs.Prelude.{◌≡◌, ◌+◌, ◌*◌, ◌%◌, ◌<◌, length};
