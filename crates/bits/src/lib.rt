@@ -4,6 +4,7 @@
 
 pub mod lanes;
 pub mod numbers;
+pub mod parts;
 
 ghost use Rattle.std.specs.Prelude.{◌≡◌, ◌+◌, ◌*◌, ◌%◌, ◌<◌, length};
 ghost use Rattle.bits.specs.Bits.{bit, pack, flipped};
