@@ -47,7 +47,7 @@ fn repair_in_place(w: &mut [u8], v: u32, front: bool) -> Repair
     r
 }
 
-// The number of a repair: its flips, or 3 for lost.
+// The number of a repair: its flips, or 3 for lost. (A `From` would have to stand in `word_spec`, whose two types have no functions.)
 pub fn mark_of(r: Repair) -> u8
     ensures { (result ≡ mark r) × (result < 4) }
 {
