@@ -6,7 +6,7 @@ use Rattle.std.proofs.Common.{subst}
 use native.Mathlib.Omega.{arith}
 use Rattle.profile.specs.declared.Profile.{Profile}
 use Rattle.profile.specs.declared.Profile.TheVariants.{Qam16, Qpsk}
-use Rattle.cells_spec.specs.Modulation.{cells_per_buffer, buffers_in, pairs_in}
+use Rattle.cells_spec.specs.Modulation.{cells_per_buffer}
 use Rattle.cells_spec.specs.Cells.{payload_rule, Legal}
 use Rattle.profiles_spec.specs.Profiles.{qam16, qpsk, modulation}
 
@@ -24,10 +24,6 @@ module _ (f : Profile) where
     pub legal_qam16 : (cells : List ℕ) → Legal (payload_rule (modulation f)) cells → Legal (payload_rule qam16) cells
     legal_qam16 cells = subst (λ p. Legal (payload_rule p) cells) is_qam16
 
-    pub first_qam16 : (q : ℕ) → q * 168 ≡ pairs_in (modulation f) q
-    unfolding buffers_in qam16
-    first_qam16 q = rw is_qam16 (omega arith)
-
   module _ (e : f ≡ Qpsk) where
     pub is_qpsk : modulation f ≡ qpsk
     unfolding modulation
@@ -41,12 +37,6 @@ module _ (f : Profile) where
     pub legal_qpsk : (cells : List ℕ) → Legal (payload_rule (modulation f)) cells → Legal (payload_rule qpsk) cells
     legal_qpsk cells = subst (λ p. Legal (payload_rule p) cells) is_qpsk
 
-    pub first_qpsk : (q : ℕ) → q * 84 ≡ pairs_in (modulation f) q
-    unfolding buffers_in qpsk
-    first_qpsk q = rw is_qpsk (omega arith)
-
 pub ruleset by_profile = (is_qam16, is_qpsk)
 
 pub ruleset profile_fits = (fits_qam16, legal_qam16, fits_qpsk, legal_qpsk)
-
-pub ruleset first_pairs = (first_qam16, first_qpsk)
