@@ -39,8 +39,7 @@ fn judge(number: u32, overhead: &[u8], frame: &[u8], payload: &[u8]) -> Answer
         return Answer::Refused(Refusal::Misfit);
     }
     let own = layout::own_overhead(number, overhead);
-    let at = first_illegal(own);
-    if at < own.len() {
+    if let Some(at) = first_illegal(own) {
         return Answer::Refused(Refusal::OffGrid(layout::overhead_start(number) * 2 + at));
     }
     Answer::Done(0)
@@ -59,9 +58,8 @@ pub fn frame(
     if let Answer::Refused(r) = judge(number, overhead, frame, payload) {
         return Answer::Refused(r);
     }
-    let to = first_illegal_payload(profile, payload);
-    if to < payload.len() {
-        return Answer::Refused(Refusal::OffGrid(to));
+    if let Some(at) = first_illegal_payload(profile, payload) {
+        return Answer::Refused(Refusal::OffGrid(at));
     }
     placing::place(
         number,
@@ -85,9 +83,8 @@ pub fn unframe(
     if let Answer::Refused(r) = judge(number, overhead, frame, payload) {
         return Answer::Refused(r);
     }
-    let to = frame_legal_core::first_illegal(profile, number, frame);
-    if to < frame.len() {
-        return Answer::Refused(Refusal::OffGrid(to));
+    if let Some(at) = frame_legal_core::first_illegal(profile, number, frame) {
+        return Answer::Refused(Refusal::OffGrid(at));
     }
     placing::extract(number, frame, payload);
     let own = layout::own_overhead(number, overhead);
