@@ -18,10 +18,7 @@ fn start(s: usize) -> usize
     requires { s ≤ 48 }
     ensures { result ≡ payload_start s * 2 }
 {
-    if s == 0 {
-        return 0;
-    }
-    s * 7172 - 192
+    if s == 0 { 0 } else { s * 7172 - 192 }
 }
 
 // Sub-frame s.
@@ -29,9 +26,8 @@ fn sub_frame(profile: Profile, s: usize, cells: &[u8], overhead: &[u8], frame: &
     requires { (s < 48) × CellsToFrames (modulation profile) 7424 cells.now overhead.now frame.old }
     ensures { frame.new ≡ sub_frame cells.now overhead.now s }
 {
-    let a = start(s);
-    let e = start(s + 1);
-    frame::frame(profile, s as u32, &cells[a..e], overhead, frame);
+    let own = &cells[start(s)..start(s + 1)];
+    frame::frame(profile, s as u32, own, overhead, frame);
 }
 
 // All of them, end to end.
@@ -40,9 +36,8 @@ pub fn frame_all(profile: Profile, cells: &[u8], overhead: &[u8], line: &mut [u8
     ensures { line.new ≡ frames_end_to_end cells.now overhead.now }
 {
     for s in 0..48 {
-        let f = s * 7424;
-        let g = f + 7424;
-        sub_frame(profile, s, cells, overhead, &mut line[f..g]);
+        let at = s * 7424;
+        sub_frame(profile, s, cells, overhead, &mut line[at..at + 7424]);
     }
 }
 
@@ -51,12 +46,9 @@ fn unframe_next(profile: Profile, s: usize, line: &[u8], overhead: &[u8], cells:
     requires { (s < 48) × FramesToCells (modulation profile) (payload_cells s * 2) line.now overhead.now cells.old }
     ensures { (cells.new ≡ unframed s (part_of 7424 line.now s)) × (result ≡ differing_in line.now overhead.now s) }
 {
-    let a = s * 7424;
-    let e = a + 7424;
-    calls::value_or(
-        frame::unframe(profile, s as u32, &line[a..e], overhead, cells),
-        0,
-    )
+    let at = s * 7424;
+    let own = &line[at..at + 7424];
+    calls::value_or(frame::unframe(profile, s as u32, own, overhead, cells), 0)
 }
 
 // That of all of them, end to end, and the number of their overhead cells that differ.
@@ -64,11 +56,10 @@ pub fn unframe_all(profile: Profile, line: &[u8], overhead: &[u8], cells: &mut [
     requires { FramesToCells (modulation profile) 344064 line.now overhead.now cells.old }
     ensures { (cells.new ≡ taken_cells line.now) × (result ≡ differing_all line.now overhead.now) }
 {
-    let mut n = 0u32;
+    let mut n = 0;
     for s in 0..48 {
-        let f = start(s);
-        let g = start(s + 1);
-        n = n + unframe_next(profile, s, line, overhead, &mut cells[f..g]);
+        let own = &mut cells[start(s)..start(s + 1)];
+        n += unframe_next(profile, s, line, overhead, own);
     }
     n
 }
