@@ -10,6 +10,7 @@ ghost use Rattle.superframe_spec.specs.Superframe.{buffer_cells, payload_of_pair
 ghost use Rattle.superframe_spec.specs.Apart.{buffer_pairs, taken_pairs};
 ghost use Rattle.superframe_spec.specs.Lent.{PairsToCells, CellsToPairs};
 
+use bits::parts::fill_parts;
 use cells_core::sizes::{buffers, cell_bytes};
 use profile::Profile;
 
@@ -29,11 +30,7 @@ pub fn join(profile: Profile, pairs0: &[u8], pairs1: &[u8], cells: &mut [u8])
     requires { PairsToCells (modulation profile) 344064 pairs0.now pairs1.now cells.old }
     ensures { cells.new ≡ payload_of_pairs (modulation profile) pairs0.now pairs1.now }
 {
-    let n = cell_bytes(profile);
-    for b in 0..buffers(profile) {
-        let a = b * n;
-        buffer(profile, b, pairs0, pairs1, &mut cells[a..a + n]);
-    }
+    fill_parts(cells, cell_bytes(profile), |b, own| buffer(profile, b, pairs0, pairs1, own));
 }
 
 // The pairs of buffer b.

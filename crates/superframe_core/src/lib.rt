@@ -11,6 +11,7 @@ ghost use Rattle.superframe_spec.specs.Superframe.{frames_end_to_end, sub_frame}
 ghost use Rattle.superframe_spec.specs.Apart.{taken_cells, differing_in, differing_all, line_rule};
 ghost use Rattle.superframe_spec.specs.Lent.{CellsToFrames, FramesToCells};
 
+use bits::parts::fill_parts;
 use profile::Profile;
 
 // The first payload byte of a sub-frame: sub-frame 0 has 6,980, and each other 7,172, which is 192 more.
@@ -35,10 +36,7 @@ pub fn frame_all(profile: Profile, cells: &[u8], overhead: &[u8], line: &mut [u8
     requires { CellsToFrames (modulation profile) 356352 cells.now overhead.now line.old }
     ensures { line.new ≡ frames_end_to_end cells.now overhead.now }
 {
-    for s in 0..48 {
-        let at = s * 7424;
-        sub_frame(profile, s, cells, overhead, &mut line[at..at + 7424]);
-    }
+    fill_parts(line, 7424, |s, frame| sub_frame(profile, s, cells, overhead, frame));
 }
 
 // The payload of sub-frame s, and the number of its overhead cells that differ.
