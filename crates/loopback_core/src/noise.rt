@@ -29,11 +29,10 @@ pub fn superframes(profile: Profile) -> usize
 fn legal_byte(profile: Profile, y: usize) -> u8
     ensures { result ≡ legal_byte profile y }
 {
-    let byte = match profile {
-        Profile::Qam16 => y % 16,
-        Profile::Qpsk => 5 + y / 2 % 2 * 4 + y % 2,
-    };
-    byte as u8
+    match profile {
+        Profile::Qam16 => (y % 16) as u8,
+        Profile::Qpsk => (5 + y / 2 % 2 * 4 + y % 2) as u8,
+    }
 }
 
 // The byte of a buffer's bits that is struck: number i of five for an encoder in buffer b of 16.
