@@ -1,13 +1,13 @@
 -- Laws of calls: the tests one by one, what a refused call leaves, what an accepted one is.
 -- Assumes nothing.
-use Rattle.std.specs.Prelude.{◌≡◌, Bool, true, false, cond, not, ◌||◌, List, [], ◌∷◌, ◌++◌, ◌≢◌, ℕ, ◌<◌, ◌≤◌, eqb, ltb, leb, length}
+use Rattle.std.specs.Prelude.{◌≡◌, Bool, true, false, cond, ◌||◌, List, [], ◌∷◌, ◌++◌, ◌≢◌, ℕ, ◌<◌, ◌≤◌, ltb, length}
 use Rattle.std.proofs.Math.Path.{refl, sym, ap}
 use Rattle.std.proofs.Common.{◌∙◌, true≢false}
 use borrow.Author.Tests.{eq-eqb, ne_eqb, lt-ltb, le-ltb, le-leb, lt-leb, eqb-true, eqb-false, ltb-false, leb-false, not-false}
 use Rattle.calls.specs.declared.Refusal.{Refusal}
 use Rattle.calls.specs.declared.Refusal.TheVariants.{Misfit, BadHeader, CountSpent, NoSuchFrame, OffGrid, StrayHistory}
-use Rattle.calls.specs.declared.Answer.{Answer}
-use Rattle.calls.specs.declared.Answer.TheVariants.{Done, Refused}
+use Rattle.calls.specs.Answers.{Answer}
+use Rattle.std.specs.Prelude.{Ok, Err}
 use Rattle.calls.specs.Answers.{refusal_of, Accepted, TurnedBack}
 use Rattle.calls.proofs.AnswerLaws.{refused_turned}
 use Rattle.calls.specs.Calls.{After, after, Test, misfit, short_file, bad_header, count_spent, no_sub_frame, no_super_frame, off_grid, stray_history}
@@ -16,7 +16,7 @@ use Rattle.calls.specs.Calls.{verdict, ends, call}
 -- ---- the answer, test by test
 
 module _ (t : Test) (ts : List Test) where
-  pub test_refuses : t.refuses ≡ true → Refused t.refusal ≡ verdict (t ∷ ts)
+  pub test_refuses : t.refuses ≡ true → Err t.refusal ≡ verdict (t ∷ ts)
   unfolding verdict
   test_refuses e = simp e
 
@@ -67,14 +67,14 @@ own_told e' P' e P h =
 pub own_found : (e' P' e P : ℕ) (b : Bool) → b ≡ (stray_history e' P' e P).refuses → b ≡ false → Own e' P' e P
 own_found e' P' e P b is h = own_told e' P' e P (sym is ∙ h)
 
-pub none_left : Done 0 ≡ verdict []
+pub none_left : Ok 0 ≡ verdict []
 unfolding verdict
 none_left = refl
 
 -- The tests of the table: what refuses, and what passes.
 module _ (ts : List Test) where
   module _ (s : List ℕ) (n : ℕ) where
-    pub is_misfit : length s ≢ n → Refused Misfit ≡ verdict (misfit s n ∷ ts)
+    pub is_misfit : length s ≢ n → Err Misfit ≡ verdict (misfit s n ∷ ts)
     unfolding misfit
     is_misfit h = test_refuses (misfit s n) ts (simp (ne_eqb _ _ h))
 
@@ -84,7 +84,7 @@ module _ (ts : List Test) where
 
     -- Where the code compares with m, which is n.
     module _ (m : ℕ) (e : m ≡ n) where
-      pub is_misfit_of : length s ≢ m → Refused Misfit ≡ verdict (misfit s n ∷ ts)
+      pub is_misfit_of : length s ≢ m → Err Misfit ≡ verdict (misfit s n ∷ ts)
       is_misfit_of h = is_misfit (λ f. h (f ∙ sym e))
 
       pub no_misfit_of : (a : Answer) → length s ≡ m → a ≡ verdict ts → a ≡ verdict (misfit s n ∷ ts)
@@ -94,7 +94,7 @@ module _ (ts : List Test) where
       fits_of h = h ∙ e
 
   module _ (size : ℕ) where
-    pub is_short_file : size < 16 → Refused Misfit ≡ verdict (short_file size ∷ ts)
+    pub is_short_file : size < 16 → Err Misfit ≡ verdict (short_file size ∷ ts)
     unfolding short_file
     is_short_file h = test_refuses (short_file size) ts (lt-ltb _ _ h)
 
@@ -103,7 +103,7 @@ module _ (ts : List Test) where
     no_short_file a h = test_passes (short_file size) ts a (le-ltb _ _ h)
 
   module _ (holds : Bool) where
-    pub is_bad_header : holds ≡ false → Refused BadHeader ≡ verdict (bad_header holds ∷ ts)
+    pub is_bad_header : holds ≡ false → Err BadHeader ≡ verdict (bad_header holds ∷ ts)
     unfolding bad_header
     is_bad_header h = test_refuses (bad_header holds) ts (simp h)
 
@@ -112,7 +112,7 @@ module _ (ts : List Test) where
     no_bad_header a h = test_passes (bad_header holds) ts a (simp h)
 
   module _ (P : ℕ) where
-    pub is_spent : P ≡ 4294967295 → Refused CountSpent ≡ verdict (count_spent P ∷ ts)
+    pub is_spent : P ≡ 4294967295 → Err CountSpent ≡ verdict (count_spent P ∷ ts)
     unfolding count_spent
     is_spent h = test_refuses (count_spent P) ts (eq-eqb _ _ h)
 
@@ -121,7 +121,7 @@ module _ (ts : List Test) where
     not_spent a h = test_passes (count_spent P) ts a (ne_eqb _ _ h)
 
   module _ (s : ℕ) where
-    pub no_sub_frame_lem : 47 < s → Refused NoSuchFrame ≡ verdict (no_sub_frame s ∷ ts)
+    pub no_sub_frame_lem : 47 < s → Err NoSuchFrame ≡ verdict (no_sub_frame s ∷ ts)
     unfolding no_sub_frame
     no_sub_frame_lem h = test_refuses (no_sub_frame s) ts (lt-ltb _ _ h)
 
@@ -130,7 +130,7 @@ module _ (ts : List Test) where
     sub_frame_lem a h = test_passes (no_sub_frame s) ts a (le-ltb _ _ h)
 
   module _ (q n : ℕ) where
-    pub no_super_frame_lem : n ≤ q → Refused NoSuchFrame ≡ verdict (no_super_frame q n ∷ ts)
+    pub no_super_frame_lem : n ≤ q → Err NoSuchFrame ≡ verdict (no_super_frame q n ∷ ts)
     unfolding no_super_frame
     no_super_frame_lem h = test_refuses (no_super_frame q n) ts (le-leb _ _ h)
 
@@ -139,16 +139,16 @@ module _ (ts : List Test) where
     super_frame a h = test_passes (no_super_frame q n) ts a (lt-leb _ _ h)
 
   module _ (index at n : ℕ) where
-    pub is_off_grid : (i : ℕ) → i ≡ index → at < n → Refused (OffGrid i) ≡ verdict (off_grid index at n ∷ ts)
+    pub is_off_grid : (i : ℕ) → i ≡ index → at < n → Err (OffGrid i) ≡ verdict (off_grid index at n ∷ ts)
     unfolding off_grid
-    is_off_grid i e h = ap (λ j. Refused (OffGrid j)) e ∙ test_refuses (off_grid index at n) ts (lt-ltb _ _ h)
+    is_off_grid i e h = ap (λ j. Err (OffGrid j)) e ∙ test_refuses (off_grid index at n) ts (lt-ltb _ _ h)
 
     pub on_grid : (a : Answer) → n ≤ at → a ≡ verdict ts → a ≡ verdict (off_grid index at n ∷ ts)
     unfolding off_grid
     on_grid a h = test_passes (off_grid index at n) ts a (le-ltb _ _ h)
 
   module _ (e' P' e P : ℕ) where
-    pub is_stray : (b : Bool) → b ≡ (stray_history e' P' e P).refuses → b ≡ true → Refused StrayHistory ≡ verdict (stray_history e' P' e P ∷ ts)
+    pub is_stray : (b : Bool) → b ≡ (stray_history e' P' e P).refuses → b ≡ true → Err StrayHistory ≡ verdict (stray_history e' P' e P ∷ ts)
     unfolding stray_history
     is_stray b is h = test_refuses (stray_history e' P' e P) ts (sym is ∙ h)
 
@@ -163,30 +163,30 @@ by_test f false x y = refl
 
 -- Tests of which the first are made apart, with answer a: a refusal stands, and where there is none the others decide.
 abbrev and_then : Answer → Answer → Answer
-and_then (Done v) next = next
-and_then (Refused r) next = Refused r
+and_then (Ok v) next = next
+and_then (Err r) next = Err r
 
 verdict_append : (ts us : List Test) → verdict (ts ++ us) ≡ and_then (verdict ts) (verdict us)
 unfolding verdict
 verdict_append [] us = refl
 verdict_append (t ∷ ts) us =
-    ap (cond t.refuses (Refused t.refusal)) (verdict_append ts us) ∙ sym (by_test (λ a. and_then a (verdict us)) t.refuses _ _)
+    ap (cond t.refuses (Err t.refusal)) (verdict_append ts us) ∙ sym (by_test (λ a. and_then a (verdict us)) t.refuses _ _)
 
 module _ (ts us : List Test) (a : Answer) (e : a ≡ verdict ts) where
-  pub first_refused : (r : Refusal) → a ≡ Refused r → Refused r ≡ verdict (ts ++ us)
+  pub first_refused : (r : Refusal) → a ≡ Err r → Err r ≡ verdict (ts ++ us)
   first_refused r f = sym (verdict_append ts us ∙ ap (λ x. and_then x (verdict us)) (sym e ∙ f))
 
-  pub first_passed : (v : ℕ) (b : Answer) → a ≡ Done v → b ≡ verdict us → b ≡ verdict (ts ++ us)
+  pub first_passed : (v : ℕ) (b : Answer) → a ≡ Ok v → b ≡ verdict us → b ≡ verdict (ts ++ us)
   first_passed v b f g = g ∙ sym (verdict_append ts us ∙ ap (λ x. and_then x (verdict us)) (sym e ∙ f))
 
 -- ---- the call
 
 module _ {B : Type 0} (ts : List Test) (lent : B) (done : After B) where
-  pub call_refused : (r : Refusal) → Refused r ≡ verdict ts → after (Refused r) lent ≡ call ts lent done
+  pub call_refused : (r : Refusal) → Err r ≡ verdict ts → after (Err r) lent ≡ call ts lent done
   unfolding call
   call_refused r e = ap (λ a. ends a lent done) e
 
-  pub call_done : (x : After B) → Done 0 ≡ verdict ts → x ≡ done → x ≡ call ts lent done
+  pub call_done : (x : After B) → Ok 0 ≡ verdict ts → x ≡ done → x ≡ call ts lent done
   unfolding call
   call_done x e f = f ∙ ap (λ a. ends a lent done) e
 
@@ -224,12 +224,12 @@ abbrev pub Passed : List Test → Type 0
 Passed [] = Unit {0}
 Passed (t ∷ ts) = (t.refuses ≡ false) × Passed ts
 
-pub passed_all : (ts : List Test) (v : ℕ) → verdict ts ≡ Done v → Passed ts
+pub passed_all : (ts : List Test) (v : ℕ) → verdict ts ≡ Ok v → Passed ts
 unfolding verdict
 passed_all [] v e = tt
 passed_all (t ∷ ts) v e = go t.refuses refl (passed_all ts v)
   where
-    go : (b : Bool) → t.refuses ≡ b → (verdict ts ≡ Done v → Passed ts) → Passed (t ∷ ts)
+    go : (b : Bool) → t.refuses ≡ b → (verdict ts ≡ Ok v → Passed ts) → Passed (t ∷ ts)
     go true p rest = absurd (refused_turned t.refusal (ap refusal_of (test_refuses t ts p ∙ e)))
     go false p rest = (p, rest (test_passes t ts (verdict ts) p refl ∙ e))
 
@@ -267,8 +267,8 @@ module _ {B : Type 0} (ts : List Test) (lent : B) (done : After B) where
   call_accepted ok = go (verdict ts) refl
     where
       go : (a : Answer) → verdict ts ≡ a → Passed ts × (call ts lent done ≡ done)
-      go (Done v) e = (passed_all ts v e, ap (λ x. ends x lent done) e)
-      go (Refused r) e = absurd (refused_turned r (sym (ap (λ x. refusal_of (ends x lent done).answer) e) ∙ ok))
+      go (Ok v) e = (passed_all ts v e, ap (λ x. ends x lent done) e)
+      go (Err r) e = absurd (refused_turned r (sym (ap (λ x. refusal_of (ends x lent done).answer) e) ∙ ok))
 
   -- A refused call leaves what it may write as it was lent.
   pub call_keeps : Accepted done.answer → TurnedBack (call ts lent done).answer → (call ts lent done).written ≡ lent
@@ -276,5 +276,5 @@ module _ {B : Type 0} (ts : List Test) (lent : B) (done : After B) where
   call_keeps ok bad = go (verdict ts) refl
     where
       go : (a : Answer) → verdict ts ≡ a → (call ts lent done).written ≡ lent
-      go (Done v) e = absurd (bad (ap (λ x. refusal_of (ends x lent done).answer) e ∙ ok))
-      go (Refused r) e = ap (λ x. (ends x lent done).written) e
+      go (Ok v) e = absurd (bad (ap (λ x. refusal_of (ends x lent done).answer) e ∙ ok))
+      go (Err r) e = ap (λ x. (ends x lent done).written) e

@@ -3,18 +3,18 @@
 use Rattle.std.specs.Prelude.{◌≡◌, refl, Bool, true, false, cond, not, ◌||◌, List, [], ◌∷◌, ℕ}
 use Rattle.std.proofs.Common.{◌∙◌}
 use Rattle.calls.specs.declared.Refusal.{Refusal}
-use Rattle.calls.specs.declared.Answer.TheVariants.{Done, Refused}
+use Rattle.std.specs.Prelude.{Ok, Err}
 use Rattle.calls.specs.Answers.{number_of, place_of}
-use Rattle.calls.specs.declared.Answer.{Answer}
+use Rattle.calls.specs.Answers.{Answer}
 use Rattle.calls.specs.Results.{Result, result, result_of}
 use Rattle.calls.specs.Calls.{After, Test, verdict, ends, call}
 use Rattle.calls.proofs.CallLaws.{by_test}
 
-pub result_done : (lent v : ℕ) → result_of lent (Done v) ≡ result 0 v 0
+pub result_done : (lent v : ℕ) → result_of lent (Ok v) ≡ result 0 v 0
 unfolding result_of
 result_done lent v = refl
 
-pub result_refused : (lent : ℕ) (r : Refusal) → result_of lent (Refused r) ≡ result (number_of r) lent (place_of r)
+pub result_refused : (lent : ℕ) (r : Refusal) → result_of lent (Err r) ≡ result (number_of r) lent (place_of r)
 unfolding result_of
 result_refused lent r = refl
 

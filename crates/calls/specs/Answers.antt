@@ -1,10 +1,12 @@
 -- What a call answers, in the numbers of 01, "Turned-back calls", and of 02.
 -- Assumes nothing.
-use Rattle.std.specs.Prelude.{ℕ, ◌≡◌, ◌≢◌}
+use Rattle.std.specs.Prelude.{ℕ, ◌≡◌, ◌≢◌, Result, Ok, Err}
 use Rattle.calls.specs.declared.Refusal.{Refusal}
 use Rattle.calls.specs.declared.Refusal.TheVariants.{Misfit, BadHeader, CountSpent, NoSuchFrame, OffGrid, StrayHistory}
-use Rattle.calls.specs.declared.Answer.{Answer}
-use Rattle.calls.specs.declared.Answer.TheVariants.{Done, Refused}
+
+-- What a call answers: done, with its number where it gives one and 0 otherwise; or refused.
+abbrev pub Answer : Type 0
+Answer = Result ℕ Refusal
 
 -- 01's table: No. 1 misfit, 2 bad header, 3 count spent, 4 no such frame, 5 off grid. 02, E2: "Number 6, stray history".
 abbrev pub number_of : Refusal → ℕ
@@ -26,19 +28,19 @@ place_of StrayHistory = 0
 
 -- An answer's refusal number, 0 where the call was done.
 abbrev pub refusal_of : Answer → ℕ
-refusal_of (Done v) = 0
-refusal_of (Refused r) = number_of r
+refusal_of (Ok v) = 0
+refusal_of (Err r) = number_of r
 
 -- An answer's index.
 abbrev pub index_of : Answer → ℕ
-index_of (Done v) = 0
-index_of (Refused r) = place_of r
+index_of (Ok v) = 0
+index_of (Err r) = place_of r
 
 -- The number that a call gave; in a refusal the one that stands for it there
 -- ("A count (flips, differing cells) in a refused result is 0. Buffers and pair number stay.").
 abbrev pub value_or : Answer → ℕ → ℕ
-value_or (Done v) refused = v
-value_or (Refused r) refused = refused
+value_or (Ok v) refused = v
+value_or (Err r) refused = refused
 
 -- A call that was done, and one that was refused.
 abbrev pub Accepted : Answer → Type 0

@@ -4,8 +4,8 @@
 use Rattle.std.specs.Prelude.{Bool, cond, not, ◌||◌, List, [], ◌∷◌, ℕ, eqb, ltb, leb, length}
 use Rattle.calls.specs.declared.Refusal.{Refusal}
 use Rattle.calls.specs.declared.Refusal.TheVariants.{Misfit, BadHeader, CountSpent, NoSuchFrame, OffGrid, StrayHistory}
-use Rattle.calls.specs.declared.Answer.{Answer}
-use Rattle.calls.specs.declared.Answer.TheVariants.{Done, Refused}
+use Rattle.calls.specs.Answers.{Answer}
+use Rattle.std.specs.Prelude.{Ok, Err}
 
 -- What stands after a call: its answer, and what it may write, a buffer or a record of buffers.
 pub record After (B : Type 0) : Type 0 where
@@ -61,14 +61,14 @@ stray_history e' P' e P = refuse StrayHistory (not (eqb e' e) || not (eqb P' P) 
 
 -- "Tested in this order": the first test that refuses gives the answer.
 unfoldable pub verdict : List Test → Answer
-verdict [] = Done 0
-verdict (t ∷ ts) = cond t.refuses (Refused t.refusal) (verdict ts)
+verdict [] = Ok 0
+verdict (t ∷ ts) = cond t.refuses (Err t.refusal) (verdict ts)
 
 -- "nothing else is turned back"; "Buffers and pair number stay" in a refused call. `lent` is what the call may write, as it was lent, and
 -- `done` is what stands after a call that no test refuses.
 abbrev pub ends : {B : Type 0} → Answer → B → After B → After B
-ends (Done v) lent done = done
-ends (Refused r) lent done = after (Refused r) lent
+ends (Ok v) lent done = done
+ends (Err r) lent done = after (Err r) lent
 
 unfoldable pub call : {B : Type 0} → List Test → B → After B → After B
 call ts lent done = ends (verdict ts) lent done

@@ -2,7 +2,7 @@
 -- order of 01's table: `repair_result`, `encode_result` and so on, in ResultLaws.antt of the call's crate.
 -- Assumes nothing.
 use Rattle.std.specs.Prelude.{ℕ}
-use Rattle.calls.specs.declared.Answer.{Answer}
+use Rattle.calls.specs.Answers.{Answer}
 use Rattle.calls.specs.Answers.{refusal_of, index_of, value_or}
 
 -- The refusal number, or 0; the number that the call gives; the index.

@@ -2,10 +2,10 @@
 #![tactic(auto)]
 
 ghost use Rattle.std.specs.Prelude.{◌≡◌};
-ghost use Rattle.calls.specs.Answers.{refusal_of, index_of, value_or};
+ghost use Rattle.calls.specs.Answers.{number_of, place_of, refusal_of, index_of};
 
 // The reasons for which a call is refused.
-#[derive(Clone, Copy)]
+#[derive(Clone, Copy, Debug, PartialEq, Eq)]
 pub enum Refusal {
     // A lent buffer is not of the stated length.
     Misfit,
@@ -21,53 +21,51 @@ pub enum Refusal {
     StrayHistory,
 }
 
-// Done, with the call's number where it gives one and 0 otherwise; or refused.
-#[derive(Clone, Copy)]
-pub enum Answer {
-    Done(u32),
-    Refused(Refusal),
-}
-
-// The refusal's number in the table of 01; 0 for a call that was done.
-pub fn refusal_of(a: Answer) -> u32
-    ensures { result ≡ refusal_of a }
-{
-    match a {
-        Answer::Done(_) => 0,
-        Answer::Refused(r) => match r {
+impl Refusal {
+    // Its number in the table of 01.
+    pub fn number(self) -> u32
+        ensures { result ≡ number_of self }
+    {
+        match self {
             Refusal::Misfit => 1,
             Refusal::BadHeader => 2,
             Refusal::CountSpent => 3,
             Refusal::NoSuchFrame => 4,
             Refusal::OffGrid(_) => 5,
             Refusal::StrayHistory => 6,
-        },
+        }
+    }
+
+    // The index that it returns.
+    pub fn index(self) -> usize
+        ensures { result ≡ place_of self }
+    {
+        match self {
+            Refusal::OffGrid(index) => index,
+            _ => 0,
+        }
     }
 }
 
-// The index that a refusal returns.
+// What a call answers: its number where it gives one and 0 otherwise; or why it is refused.
+pub type Answer = Result<u32, Refusal>;
+
+// The refusal's number in the table of 01; 0 for a call that was done.
+pub fn refusal_of(a: Answer) -> u32
+    ensures { result ≡ refusal_of a }
+{
+    match a {
+        Ok(_) => 0,
+        Err(refusal) => refusal.number(),
+    }
+}
+
+// The index that a refusal returns; 0 for a call that was done.
 pub fn index_of(a: Answer) -> usize
     ensures { result ≡ index_of a }
 {
     match a {
-        Answer::Done(_) => 0,
-        Answer::Refused(r) => match r {
-            Refusal::OffGrid(i) => i,
-            Refusal::Misfit => 0,
-            Refusal::BadHeader => 0,
-            Refusal::CountSpent => 0,
-            Refusal::NoSuchFrame => 0,
-            Refusal::StrayHistory => 0,
-        },
-    }
-}
-
-// The number that a call gave, or `refused` where it was refused.
-pub fn value_or(a: Answer, refused: u32) -> u32
-    ensures { result ≡ value_or a refused }
-{
-    match a {
-        Answer::Done(v) => v,
-        Answer::Refused(_) => refused,
+        Ok(_) => 0,
+        Err(refusal) => refusal.index(),
     }
 }

@@ -43,7 +43,7 @@ fn outcome_of(a: Answer, refused: u32) -> Outcome
 {
     Outcome {
         refusal: calls::refusal_of(a),
-        value: calls::value_or(a, refused),
+        value: a.unwrap_or(refused),
         index: calls::index_of(a) as u64,
     }
 }
@@ -170,12 +170,19 @@ pub fn ofec_unframe_qpsk(number: u32, frame: &[u8], overhead: &[u8], payload: &m
 pub fn ofec_open_line(file: &[u8]) -> Line
     ensures { result ≡ line_of (header_of file.now) }
 {
-    let h = line_file::open_header(file);
-    Line {
-        refusal: line_file::open_refusal(file),
-        superframes: h.superframes,
-        overhead: h.overhead,
-        frames: h.frames,
+    match line_file::open_header(file) {
+        Ok(header) => Line {
+            refusal: 0,
+            superframes: header.superframes,
+            overhead: header.overhead,
+            frames: header.frames,
+        },
+        Err(refusal) => Line {
+            refusal: refusal.number(),
+            superframes: 0,
+            overhead: 0,
+            frames: 0,
+        },
     }
 }
 

@@ -20,13 +20,13 @@ pub fn bits_to_cells(profile: Profile, bits: &[u8], cells: &mut [u8]) -> Answer
     ensures { after result cells.new ≡ map_call (modulation profile) bits.now cells.old }
 {
     if bits.len() != BITS {
-        return Answer::Refused(Refusal::Misfit);
+        return Err(Refusal::Misfit);
     }
     if cells.len() != cell_bytes(profile) {
-        return Answer::Refused(Refusal::Misfit);
+        return Err(Refusal::Misfit);
     }
     mapping_core::map(profile, bits, cells);
-    Answer::Done(0)
+    Ok(0)
 }
 
 // The bits of a buffer of cells, all of which must be legal.
@@ -34,15 +34,15 @@ pub fn cells_to_bits(profile: Profile, cells: &[u8], bits: &mut [u8]) -> Answer
     ensures { after result bits.new ≡ demap_call (modulation profile) cells.now bits.old }
 {
     if cells.len() != cell_bytes(profile) {
-        return Answer::Refused(Refusal::Misfit);
+        return Err(Refusal::Misfit);
     }
     if bits.len() != BITS {
-        return Answer::Refused(Refusal::Misfit);
+        return Err(Refusal::Misfit);
     }
     let at = first_illegal_in_buffer(profile, cells);
     if at < cells.len() {
-        return Answer::Refused(Refusal::OffGrid(at));
+        return Err(Refusal::OffGrid(at));
     }
     mapping_core::demap(profile, cells, bits);
-    Answer::Done(0)
+    Ok(0)
 }

@@ -2,8 +2,8 @@
 -- Assumes nothing.
 use Rattle.std.specs.Prelude.{◌≡◌, refl, Bool, List, ◌∷◌, ℕ, ◌*◌, ◌<◌, ◌≤◌, length, get_or}
 use Rattle.std.proofs.Common.{ap, sym, ◌∙◌}
-use Rattle.calls.specs.declared.Answer.{Answer}
-use Rattle.calls.specs.declared.Answer.TheVariants.{Done, Refused}
+use Rattle.calls.specs.Answers.{Answer}
+use Rattle.std.specs.Prelude.{Ok, Err}
 use Rattle.calls.specs.declared.Refusal.TheVariants.{OffGrid}
 use Rattle.calls.specs.Answers.{TurnedBack}
 use Rattle.calls.specs.Calls.{after, Test, verdict}
@@ -17,7 +17,7 @@ use Rattle.cells_spec.specs.Calls.{illegal_in, map_call, demap_call}
 -- ---- a buffer with an illegal byte, and one without
 
 module _ (rule : ℕ → ℕ → Bool) (cells : List ℕ) (at : ℕ) (e : at ≡ first_illegal rule cells) where
-  pub is_illegal : (ts : List Test) → at < length cells → Refused (OffGrid at) ≡ verdict (illegal_in rule cells ∷ ts)
+  pub is_illegal : (ts : List Test) → at < length cells → Err (OffGrid at) ≡ verdict (illegal_in rule cells ∷ ts)
   unfolding illegal_in
   is_illegal ts h = is_off_grid ts _ _ _ at e (rw e at h)
 
@@ -35,11 +35,11 @@ pub ruleset legality = (is_illegal, is_legal)
 
 -- The code compares the cells with m.
 module _ (p : Modulation) (bits cells : List ℕ) (hb : length bits ≡ 21504) (m : ℕ) (em : m ≡ cells_per_buffer p * 2) (hc : length cells ≡ m) (d : List ℕ) where
-  pub map_done : d ≡ to_cells p bits → after (Done 0) d ≡ map_call p bits cells
+  pub map_done : d ≡ to_cells p bits → after (Ok 0) d ≡ map_call p bits cells
   map_done e = let fit : length cells ≡ cells_per_buffer p * 2 = hc ∙ em in rw e (search (cases, fit) depth 6)
 
   pub demap_done : (at : ℕ) → at ≡ first_illegal (payload_rule p) cells → length cells ≤ at → d ≡ to_bits p cells
-      → after (Done 0) d ≡ demap_call p cells bits
+      → after (Ok 0) d ≡ demap_call p cells bits
   demap_done at ha h e = let fit : length cells ≡ cells_per_buffer p * 2 = hc ∙ em in rw e (search (cases, legality, fit) depth 7)
 
 -- ---- refused calls leave the buffer as it was
@@ -55,11 +55,11 @@ demap_keeps p cells bits = call_keeps _ _ _ refl
 -- ---- calls that are accepted
 
 pub map_accepts : (p : Modulation) (bits cells : List ℕ) → length bits ≡ 21504 → length cells ≡ cells_per_buffer p * 2
-    → map_call p bits cells ≡ after (Done 0) (to_cells p bits)
+    → map_call p bits cells ≡ after (Ok 0) (to_cells p bits)
 map_accepts p bits cells hb hc = sym (map_done p bits cells hb _ refl hc _ refl)
 
 pub demap_accepts : (p : Modulation) (cells bits : List ℕ) → length cells ≡ cells_per_buffer p * 2 → length bits ≡ 21504
-    → Legal (payload_rule p) cells → demap_call p cells bits ≡ after (Done 0) (to_bits p cells)
+    → Legal (payload_rule p) cells → demap_call p cells bits ≡ after (Ok 0) (to_bits p cells)
 demap_accepts p cells bits hc hb legal =
     sym (demap_done p bits cells hb _ refl hc _ _ refl (none_illegal (payload_rule p) cells legal) refl)
 
@@ -68,16 +68,16 @@ demap_accepts p cells bits hc hb legal =
 -- Cells to bits, lent what bits to cells left, is accepted and gives the bits back, whatever stood in the two buffers.
 pub demap_after_map : (p : Modulation) (bits cells out : List ℕ) → length bits ≡ 21504 → length cells ≡ cells_per_buffer p * 2
     → length out ≡ 21504 → ((i : ℕ) → get_or bits i 0 < 256)
-    → demap_call p (map_call p bits cells).written out ≡ after (Done 0) bits
+    → demap_call p (map_call p bits cells).written out ≡ after (Ok 0) bits
 demap_after_map p bits cells out hb hc ho bytes =
     ap (λ a. demap_call p a.written out) (map_accepts p bits cells hb hc)
     ∙ demap_accepts p (to_cells p bits) out (buffer_cells_lem p bits hb) ho (to_cells_legal p bits)
-    ∙ ap (after (Done 0)) (buffer_back p bits hb bytes)
+    ∙ ap (after (Ok 0)) (buffer_back p bits hb bytes)
 
 pub map_after_demap : (p : Modulation) (cells bits out : List ℕ) → length cells ≡ cells_per_buffer p * 2 → length bits ≡ 21504
     → length out ≡ cells_per_buffer p * 2 → Legal (payload_rule p) cells
-    → map_call p (demap_call p cells bits).written out ≡ after (Done 0) cells
+    → map_call p (demap_call p cells bits).written out ≡ after (Ok 0) cells
 map_after_demap p cells bits out hc hb ho legal =
     ap (λ a. map_call p a.written out) (demap_accepts p cells bits hc hb legal)
     ∙ map_accepts p (to_bits p cells) out (buffer_bits p cells hc) ho
-    ∙ ap (after (Done 0)) (buffer_cells_back p cells hc legal)
+    ∙ ap (after (Ok 0)) (buffer_cells_back p cells hc legal)

@@ -20,21 +20,21 @@ pub fn encode_pair(
     ensures { after_encode result coded.new history.new ≡ encode_call payload.now coded.old history.old encoder pair }
 {
     if payload.len() != 444 {
-        return Answer::Refused(Refusal::Misfit);
+        return Err(Refusal::Misfit);
     }
     if coded.len() != 512 {
-        return Answer::Refused(Refusal::Misfit);
+        return Err(Refusal::Misfit);
     }
     if history.len() != 5128 {
-        return Answer::Refused(Refusal::Misfit);
+        return Err(Refusal::Misfit);
     }
     if history_core::stray(history, encoder, pair) {
-        return Answer::Refused(Refusal::StrayHistory);
+        return Err(Refusal::StrayHistory);
     }
     if pair == SPENT {
-        return Answer::Refused(Refusal::CountSpent);
+        return Err(Refusal::CountSpent);
     }
     encode_into(payload, coded, &mut history[8..], pair);
     history_core::put(encoder, pair + 1, &mut history[0..8]);
-    Answer::Done(pair + 1)
+    Ok(pair + 1)
 }

@@ -26,24 +26,24 @@ fn judge(number: u32, overhead: &[u8], frame: &[u8], payload: &[u8]) -> Answer
     ensures { result ≡ verdict (sub_frame_tests number overhead.now frame.now payload.now) }
 {
     if overhead.len() != OVERHEAD {
-        return Answer::Refused(Refusal::Misfit);
+        return Err(Refusal::Misfit);
     }
     if frame.len() != FRAME {
-        return Answer::Refused(Refusal::Misfit);
+        return Err(Refusal::Misfit);
     }
     // The payload of a number above 47 is not measured.
     if LAST < number {
-        return Answer::Refused(Refusal::NoSuchFrame);
+        return Err(Refusal::NoSuchFrame);
     }
     if payload.len() != layout::payload_cells(number) * 2 {
-        return Answer::Refused(Refusal::Misfit);
+        return Err(Refusal::Misfit);
     }
     let own = layout::own_overhead(number, overhead);
     let at = first_illegal(own);
     if at < own.len() {
-        return Answer::Refused(Refusal::OffGrid(layout::overhead_start(number) * 2 + at));
+        return Err(Refusal::OffGrid(layout::overhead_start(number) * 2 + at));
     }
-    Answer::Done(0)
+    Ok(0)
 }
 
 // A sub-frame, of its payload and its part of the overhead list.
@@ -56,12 +56,12 @@ pub fn frame(
 ) -> Answer
     ensures { after result frame.new ≡ frame_call (modulation profile) number payload.now overhead.now frame.old }
 {
-    if let Answer::Refused(r) = judge(number, overhead, frame, payload) {
-        return Answer::Refused(r);
+    if let Err(r) = judge(number, overhead, frame, payload) {
+        return Err(r);
     }
     let to = first_illegal_payload(profile, payload);
     if to < payload.len() {
-        return Answer::Refused(Refusal::OffGrid(to));
+        return Err(Refusal::OffGrid(to));
     }
     placing::place(
         number,
@@ -69,7 +69,7 @@ pub fn frame(
         layout::own_overhead(number, overhead),
         frame,
     );
-    Answer::Done(0)
+    Ok(0)
 }
 
 // The payload of a sub-frame, and the number of its overhead cells that differ from the overhead list.
@@ -82,14 +82,14 @@ pub fn unframe(
 ) -> Answer
     ensures { after result payload.new ≡ unframe_call (modulation profile) number frame.now overhead.now payload.old }
 {
-    if let Answer::Refused(r) = judge(number, overhead, frame, payload) {
-        return Answer::Refused(r);
+    if let Err(r) = judge(number, overhead, frame, payload) {
+        return Err(r);
     }
     let to = frame_legal_core::first_illegal(profile, number, frame);
     if to < frame.len() {
-        return Answer::Refused(Refusal::OffGrid(to));
+        return Err(Refusal::OffGrid(to));
     }
     placing::extract(number, frame, payload);
     let own = layout::own_overhead(number, overhead);
-    Answer::Done(comparing::differing(number, frame, own))
+    Ok(comparing::differing(number, frame, own))
 }

@@ -1,14 +1,14 @@
 -- Laws of the calls: their tests, what an accepted call gives, what a refused one leaves, and each undoing the other.
 -- Assumes nothing.
-use Rattle.std.specs.Prelude.{◌≡◌, true, false, ◌≢◌, ℕ, ◌+◌, ◌*◌, ◌<◌, ◌≤◌, get_or}
+use Rattle.std.specs.Prelude.{◌≡◌, false, ◌≢◌, ℕ, ◌+◌, ◌*◌, ◌<◌, ◌≤◌, get_or}
 use Rattle.std.proofs.Math.Path.{refl}
 use Rattle.std.proofs.Common.{ap, ap₂, sym, ◌∙◌}
 use mathlib.Core.List.{List, [], ◌∷◌}
 use native.Mathlib.Omega.{arith}
 use borrow.Author.Tests.{eq-eqb, ne_eqb, lt-ltb, le-ltb, eqb-true, not-false}
 use Rattle.std.proofs.Math.ListN.{length}
-use Rattle.calls.specs.declared.Answer.{Answer}
-use Rattle.calls.specs.declared.Answer.TheVariants.{Done, Refused}
+use Rattle.calls.specs.Answers.{Answer}
+use Rattle.std.specs.Prelude.{Ok, Err}
 use Rattle.calls.specs.declared.Refusal.TheVariants.{Misfit, OffGrid}
 use Rattle.calls.specs.Answers.{TurnedBack}
 use Rattle.calls.specs.Calls.{after, Test, verdict}
@@ -32,7 +32,7 @@ module _ (number : ℕ) (payload : List ℕ) (ts : List Test) where
   payload_unmeasured a h = test_passes (payload_misfit number payload) ts a (simp (lt-ltb _ _ h))
 
   module _ (n : ℕ) (e : n ≡ payload_cells number) (l : number ≤ 47) where
-    pub payload_misfit_lem : length payload ≢ n * 2 → Refused Misfit ≡ verdict (payload_misfit number payload ∷ ts)
+    pub payload_misfit_lem : length payload ≢ n * 2 → Err Misfit ≡ verdict (payload_misfit number payload ∷ ts)
     unfolding payload_misfit payload_fits
     payload_misfit_lem h =
         let h' : length payload ≢ payload_cells number * 2 = λ p. h (p ∙ omega arith) in
@@ -47,7 +47,7 @@ module _ (number : ℕ) (payload : List ℕ) (ts : List Test) where
 -- The sub-frame's cells of the overhead list.
 module _ (number : ℕ) (overhead own : List ℕ) (eo : own ≡ own_overhead number overhead) (at : ℕ) (ea : at ≡ first_illegal overhead_rule own) (ts : List Test) where
   pub overhead_illegal_lem : (start : ℕ) → start ≡ overhead_start number → at < length own
-      → Refused (OffGrid (start * 2 + at)) ≡ verdict (overhead_illegal number overhead ∷ ts)
+      → Err (OffGrid (start * 2 + at)) ≡ verdict (overhead_illegal number overhead ∷ ts)
   unfolding overhead_illegal overhead_index
   overhead_illegal_lem start es h = is_off_grid ts _ _ _ (start * 2 + at) (rw (es, ea, eo)) (rw (ea, eo) at h)
 
@@ -64,7 +64,7 @@ pub payload_told : (number : ℕ) (payload : List ℕ) → number ≤ 47 → (pa
 unfolding payload_misfit payload_fits
 payload_told number payload l e = eqb-true _ _ (not-false _ (simp (le-ltb 47 number l) at e))
 
-module _ (number : ℕ) (overhead frame payload : List ℕ) (a : Answer) (v : ℕ) (is : a ≡ verdict (sub_frame_tests number overhead frame payload)) (ea : a ≡ Done v) where
+module _ (number : ℕ) (overhead frame payload : List ℕ) (a : Answer) (v : ℕ) (is : a ≡ verdict (sub_frame_tests number overhead frame payload)) (ea : a ≡ Ok v) where
   passed : Passed (sub_frame_tests number overhead frame payload)
   passed = passed_all (sub_frame_tests number overhead frame payload) v (sym is ∙ ea)
 
@@ -86,18 +86,18 @@ module _ (number : ℕ) (overhead frame payload : List ℕ) (a : Answer) (v : �
 
 pub ruleset judging = (judged_fits, judged_overhead, judged_frame, judged_payload)
 
-module _ (p : Modulation) (number v : ℕ) (a : Answer) (ea : a ≡ Done v) (overhead frame payload own : List ℕ) (eo : own ≡ own_overhead number overhead)
+module _ (p : Modulation) (number v : ℕ) (a : Answer) (ea : a ≡ Ok v) (overhead frame payload own : List ℕ) (eo : own ≡ own_overhead number overhead)
     (is : a ≡ verdict (sub_frame_tests number overhead frame payload)) (to : ℕ) where
   pub frame_done : to ≡ first_illegal (payload_rule p) payload → length payload ≤ to → (d : List ℕ) → d ≡ framed number payload own
-      → after (Done 0) d ≡ frame_call p number payload overhead frame
+      → after (Ok 0) d ≡ frame_call p number payload overhead frame
   frame_done et h d e =
-      call_done _ _ _ _ (first_passed _ _ a is v _ ea (is_legal (payload_rule p) payload to et _ _ h none_left)) (ap (after (Done 0)) (e ∙ ap (framed number payload) eo))
+      call_done _ _ _ _ (first_passed _ _ a is v _ ea (is_legal (payload_rule p) payload to et _ _ h none_left)) (ap (after (Ok 0)) (e ∙ ap (framed number payload) eo))
 
   pub unframe_done : to ≡ first_illegal (frame_rule p number) frame → length frame ≤ to → (d : List ℕ) (n : ℕ) → d ≡ unframed number frame
-      → n ≡ differing number frame own → after (Done n) d ≡ unframe_call p number frame overhead payload
+      → n ≡ differing number frame own → after (Ok n) d ≡ unframe_call p number frame overhead payload
   unframe_done et h d n e en =
       call_done _ _ _ _ (first_passed _ _ a is v _ ea (is_legal (frame_rule p number) frame to et _ _ h none_left))
-      (ap₂ (λ x y. after (Done x) y) (en ∙ ap (differing number frame) eo) e)
+      (ap₂ (λ x y. after (Ok x) y) (en ∙ ap (differing number frame) eo) e)
 
 -- ---- refused calls leave the buffer as it was
 
@@ -115,23 +115,23 @@ unframe_keeps p number frame overhead payload = call_keeps _ _ _ refl
 
 module _ (p : Modulation) (number : ℕ) (overhead frame payload : List ℕ) (ln : number ≤ 47) (lo : length overhead ≡ 12288) (lf : length frame ≡ 7424)
     (lp : length payload ≡ payload_cells number * 2) (own : Legal overhead_rule (own_overhead number overhead)) where
-  tests_pass : Done 0 ≡ verdict (sub_frame_tests number overhead frame payload)
+  tests_pass : Ok 0 ≡ verdict (sub_frame_tests number overhead frame payload)
   unfolding sub_frame_tests
   tests_pass =
       let measured : (ts : List Test) (a : Answer) → a ≡ verdict ts → a ≡ verdict (payload_misfit number payload ∷ ts) =
       λ ts a. payload_measured number payload ts _ refl ln a lp in
-      let legal = overhead_legal number overhead _ refl _ refl [] (Done 0) (none_illegal overhead_rule (own_overhead number overhead) own) none_left in
+      let legal = overhead_legal number overhead _ refl _ refl [] (Ok 0) (none_illegal overhead_rule (own_overhead number overhead) own) none_left in
       search (tests, measured, legal)
 
   pub frame_accepts : Legal (payload_rule p) payload
-      → frame_call p number payload overhead frame ≡ after (Done 0) (framed number payload (own_overhead number overhead))
+      → frame_call p number payload overhead frame ≡ after (Ok 0) (framed number payload (own_overhead number overhead))
   frame_accepts legal =
-      sym (frame_done p number 0 (Done 0) refl overhead frame payload _ refl tests_pass _ refl (none_illegal (payload_rule p) payload legal) _ refl)
+      sym (frame_done p number 0 (Ok 0) refl overhead frame payload _ refl tests_pass _ refl (none_illegal (payload_rule p) payload legal) _ refl)
 
   pub unframe_accepts : Legal (frame_rule p number) frame
-      → unframe_call p number frame overhead payload ≡ after (Done (differing number frame (own_overhead number overhead))) (unframed number frame)
+      → unframe_call p number frame overhead payload ≡ after (Ok (differing number frame (own_overhead number overhead))) (unframed number frame)
   unframe_accepts legal =
-      sym (unframe_done p number 0 (Done 0) refl overhead frame payload _ refl tests_pass _ refl (none_illegal (frame_rule p number) frame legal) _ _ refl refl)
+      sym (unframe_done p number 0 (Ok 0) refl overhead frame payload _ refl tests_pass _ refl (none_illegal (frame_rule p number) frame legal) _ _ refl refl)
 
 -- ---- each call undoes the other
 
@@ -139,22 +139,22 @@ module _ (p : Modulation) (number : ℕ) (overhead frame payload : List ℕ) (ln
     (lp : length payload ≡ payload_cells number * 2) (own : Legal overhead_rule (own_overhead number overhead)) where
   -- Unframing, lent what framing left and the same list, is accepted and gives the payload and 0, whatever stood in the buffers.
   pub unframe_after_frame : (out : List ℕ) → length out ≡ payload_cells number * 2 → Legal (payload_rule p) payload
-      → unframe_call p number (frame_call p number payload overhead frame).written overhead out ≡ after (Done 0) payload
+      → unframe_call p number (frame_call p number payload overhead frame).written overhead out ≡ after (Ok 0) payload
   unframe_after_frame out lq legal =
       ap (λ a. unframe_call p number a.written overhead out) (frame_accepts p number overhead frame payload ln lo lf lp own legal)
       ∙ unframe_accepts p number overhead (framed number payload (own_overhead number overhead)) out ln lo
       (framed_length number payload (own_overhead number overhead)) lq own
       (framed_legal p number payload (own_overhead number overhead) lp (own_length number overhead ln lo) legal own)
-      ∙ ap₂ (λ v d. after (Done v) d) (differing_framed number payload (own_overhead number overhead)) (unframed_framed number payload (own_overhead number overhead) lp)
+      ∙ ap₂ (λ v d. after (Ok v) d) (differing_framed number payload (own_overhead number overhead)) (unframed_framed number payload (own_overhead number overhead) lp)
 
   -- Framing, lent what unframing left and the same list, gives the frame back where no overhead cell differed.
   pub frame_after_unframe : (out : List ℕ) → length out ≡ 7424 → Legal (frame_rule p number) frame
       → differing number frame (own_overhead number overhead) ≡ 0
-      → frame_call p number (unframe_call p number frame overhead payload).written overhead out ≡ after (Done 0) frame
+      → frame_call p number (unframe_call p number frame overhead payload).written overhead out ≡ after (Ok 0) frame
   frame_after_unframe out lq legal zero =
       ap (λ a. frame_call p number a.written overhead out) (unframe_accepts p number overhead frame payload ln lo lf lp own legal)
       ∙ frame_accepts p number overhead out (unframed number frame) ln lo lq (unframed_length number frame) own (unframed_legal p number frame lf legal)
-      ∙ ap (after (Done 0)) (framed_unframed number frame (own_overhead number overhead) lf zero)
+      ∙ ap (after (Ok 0)) (framed_unframed number frame (own_overhead number overhead) lf zero)
 
 -- ---- overhead errors never touch payload
 

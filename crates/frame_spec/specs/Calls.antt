@@ -1,7 +1,7 @@
 -- The calls: framing and unframing a sub-frame, with the refusals tested in the order of 01, "Turned-back calls".
 -- Assumes nothing.
 use Rattle.std.specs.Prelude.{Bool, not, ◌||◌, List, [], ◌∷◌, ◌++◌, ℕ, ◌+◌, ◌*◌, eqb, ltb, length}
-use Rattle.calls.specs.declared.Answer.TheVariants.{Done}
+use Rattle.std.specs.Prelude.{Ok}
 use Rattle.calls.specs.declared.Refusal.TheVariants.{Misfit}
 use Rattle.calls.specs.Calls.{After, after, Test, refuse, misfit, no_sub_frame, off_grid, call}
 use Rattle.cells_spec.specs.Modulation.{Modulation}
@@ -33,10 +33,10 @@ sub_frame_tests number overhead frame payload =
 abbrev pub frame_call : Modulation → ℕ → List ℕ → List ℕ → List ℕ → After (List ℕ)
 frame_call p number payload overhead frame =
     call (sub_frame_tests number overhead frame payload ++ illegal_in (payload_rule p) payload ∷ []) frame
-    (after (Done 0) (framed number payload (own_overhead number overhead)))
+    (after (Ok 0) (framed number payload (own_overhead number overhead)))
 
 -- Unframing reads the frame and writes the payload; it gives the number of overhead cells that differ.
 abbrev pub unframe_call : Modulation → ℕ → List ℕ → List ℕ → List ℕ → After (List ℕ)
 unframe_call p number frame overhead payload =
     call (sub_frame_tests number overhead frame payload ++ illegal_in (frame_rule p number) frame ∷ []) payload
-    (after (Done (differing number frame (own_overhead number overhead))) (unframed number frame))
+    (after (Ok (differing number frame (own_overhead number overhead))) (unframed number frame))

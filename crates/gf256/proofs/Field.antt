@@ -1,6 +1,6 @@
 -- Laws of specs/Field.antt.
 -- Assumes nothing.
-use Rattle.std.specs.Prelude.{◌≡◌, refl, [], ◌∷◌, map, ℕ, zero, suc, ◌*◌, ◌/◌, ◌%◌, ◌<◌}
+use Rattle.std.specs.Prelude.{◌≡◌, refl, ◌∷◌, map, ℕ, zero, suc, ◌*◌, ◌/◌, ◌%◌, ◌<◌}
 use Rattle.std.proofs.Common.{sym, ap, ap₂, ◌∙◌, mod-lt, zero-lt-suc, add-zero}
 use Rattle.bits.specs.Xor.{◌⊕◌}
 use Rattle.bits.proofs.XorLaws.{⊕_zero, sums, bit_times_⊕}

@@ -48,13 +48,9 @@ power_log : (x : ℕ) → x < 255 → get_or powers (get_or logs (suc x) 0) 0 �
 unfolding powers logs
 power_log = agree 255 (λ x. get_or powers (get_or logs (suc x) 0) 0) suc tt
 
-log_of : (x : ℕ) → 0 < x → x < 256 → (get_or logs x 0 < 255) × (get_or powers (get_or logs x 0) 0 ≡ x)
+pub log_of : (x : ℕ) → 0 < x → x < 256 → (get_or logs x 0 < 255) × (get_or powers (get_or logs x 0) 0 ≡ x)
 log_of zero p h = absurd (omega arith)
 log_of (suc x) p h = (log_lt (suc x) h, power_log x (omega arith))
-
--- A lookup in a lent table.
-pub log_in : (t : List ℕ) (x : ℕ) → t ≡ logs → 0 < x → x < 256 → (get_or t x 0 < 255) × (get_or powers (get_or t x 0) 0 ≡ x)
-log_in t x e p l = rw e (log_of x p l)
 
 -- ---- products by exponents
 
@@ -79,21 +75,20 @@ exponents_round (suc i) j zero e hi hj =
 exponents_round (suc i) j (suc k) e hi hj =
     factor_step i j (omega arith) ∙ ap shift_a (exponents_round i j k (omega arith) (omega arith) (omega arith)) ∙ powers_next k (omega arith)
 
--- Lookups in a lent table, with the exponents of two elements.
-module _ (t : List ℕ) (x y i j : ℕ) (e : t ≡ powers) (hi : i < 255) (p : get_or powers i 0 ≡ x) (hj : j < 255) (q : get_or powers j 0 ≡ y) where
-  pub times_low : i + j < 255 → get_or t (i + j) 0 ≡ x · y
-  times_low h = sym (ap₂ ◌·◌ (sym p) (sym q) ∙ exponents_add i j (i + j) refl h ∙ ap (λ s. get_or s (i + j) 0) (sym e))
+-- With the exponents of two elements.
+module _ (x y i j : ℕ) (hi : i < 255) (p : get_or powers i 0 ≡ x) (hj : j < 255) (q : get_or powers j 0 ≡ y) where
+  pub times_low : i + j < 255 → get_or powers (i + j) 0 ≡ x · y
+  times_low h = sym (ap₂ ◌·◌ (sym p) (sym q) ∙ exponents_add i j (i + j) refl h)
 
-  pub times_round : 255 ≤ i + j → get_or t (i + j - 255) 0 ≡ x · y
-  times_round h =
-      sym (ap₂ ◌·◌ (sym p) (sym q) ∙ exponents_round i j (i + j - 255) (omega arith) hi hj ∙ ap (λ s. get_or s (i + j - 255) 0) (sym e))
+  pub times_round : 255 ≤ i + j → get_or powers (i + j - 255) 0 ≡ x · y
+  times_round h = sym (ap₂ ◌·◌ (sym p) (sym q) ∙ exponents_round i j (i + j - 255) (omega arith) hi hj)
 
-  pub over_low : j ≤ i → get_or t (i - j) 0 · y ≡ x
-  over_low h = ap₂ (λ (s : List ℕ) (u : ℕ). get_or s (i - j) 0 · u) e (sym q) ∙ exponents_add (i - j) j i (omega arith) hi ∙ p
+  pub over_low : j ≤ i → get_or powers (i - j) 0 · y ≡ x
+  over_low h = ap (λ u. get_or powers (i - j) 0 · u) (sym q) ∙ exponents_add (i - j) j i (omega arith) hi ∙ p
 
-  pub over_round : i < j → get_or t (i + 255 - j) 0 · y ≡ x
+  pub over_round : i < j → get_or powers (i + 255 - j) 0 · y ≡ x
   over_round h =
-      ap₂ (λ (s : List ℕ) (u : ℕ). get_or s (i + 255 - j) 0 · u) e (sym q) ∙ exponents_round (i + 255 - j) j i (omega arith) (omega arith) hj ∙ p
+      ap (λ u. get_or powers (i + 255 - j) 0 · u) (sym q) ∙ exponents_round (i + 255 - j) j i (omega arith) (omega arith) hj ∙ p
 
 pub over_zero : (x y : ℕ) → x ≡ 0 → 0 · y ≡ x
 over_zero x y e = zero_· y ∙ sym e
@@ -169,12 +164,11 @@ cubed_power (suc k) h =
     ∙ ap (λ u. shift_a (shift_a (shift_a u))) (cubed_power k (omega arith)) ∙ sym (cube_shift_a (get_or powers k 0))
     ∙ ap cube (powers_next k (omega arith))
 
-cubed_at : (x : ℕ) → x < 256 → get_or cubed x 0 ≡ cube x
+pub cubed_at : (x : ℕ) → x < 256 → get_or cubed x 0 ≡ cube x
 cubed_at zero h = cubed_zero ∙ sym cube_zero
 cubed_at (suc x) h =
     let e = power_log x (omega arith) in
     ap (λ u. get_or cubed u 0) (sym e) ∙ cubed_power (get_or logs (suc x) 0) (log_lt (suc x) h) ∙ ap cube e
 
--- A lookup in a lent table.
 pub cube_in : (t : List ℕ) (x : ℕ) → t ≡ cubed → x < 256 → get_or t x 0 ≡ cube x
 cube_in t x e l = ap (λ s. get_or s x 0) e ∙ cubed_at x l

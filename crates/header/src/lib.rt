@@ -14,15 +14,15 @@ pub fn write_header(superframes: u32, header: &mut [u8]) -> Answer
     ensures { after result header.new ≡ write_call superframes header.old }
 {
     if header.len() != 16 {
-        return Answer::Refused(Refusal::Misfit);
+        return Err(Refusal::Misfit);
     }
     if superframes < 1 {
-        return Answer::Refused(Refusal::BadHeader);
+        return Err(Refusal::BadHeader);
     }
     if 64 < superframes {
-        return Answer::Refused(Refusal::BadHeader);
+        return Err(Refusal::BadHeader);
     }
     let numbers = [superframes, 16, 12304, 12304 + 356352 * superframes];
     put_numbers(&numbers, header);
-    Answer::Done(0)
+    Ok(0)
 }

@@ -15,17 +15,17 @@ pub fn interleave(pairs0: &[u8], pairs1: &[u8], bits: &mut [u8]) -> Answer
     ensures { after result bits.new ≡ interleave_call pairs0.now pairs1.now bits.old }
 {
     if pairs0.len() != 10752 {
-        return Answer::Refused(Refusal::Misfit);
+        return Err(Refusal::Misfit);
     }
     if pairs1.len() != 10752 {
-        return Answer::Refused(Refusal::Misfit);
+        return Err(Refusal::Misfit);
     }
     if bits.len() != 21504 {
-        return Answer::Refused(Refusal::Misfit);
+        return Err(Refusal::Misfit);
     }
     let rows = reordered_rows(pairs0, pairs1);
     write_bits(&rows, bits);
-    Answer::Done(0)
+    Ok(0)
 }
 
 // Takes 21,504 bytes apart to 21 pairs of each encoder.
@@ -33,15 +33,15 @@ pub fn deinterleave(bits: &[u8], pairs0: &mut [u8], pairs1: &mut [u8]) -> Answer
     ensures { after_deinterleave result pairs0.new pairs1.new ≡ deinterleave_call bits.now pairs0.old pairs1.old }
 {
     if bits.len() != 21504 {
-        return Answer::Refused(Refusal::Misfit);
+        return Err(Refusal::Misfit);
     }
     if pairs0.len() != 10752 {
-        return Answer::Refused(Refusal::Misfit);
+        return Err(Refusal::Misfit);
     }
     if pairs1.len() != 10752 {
-        return Answer::Refused(Refusal::Misfit);
+        return Err(Refusal::Misfit);
     }
     write_pairs(bits, 0, pairs0);
     write_pairs(bits, 1, pairs1);
-    Answer::Done(0)
+    Ok(0)
 }

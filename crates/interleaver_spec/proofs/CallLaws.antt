@@ -4,7 +4,7 @@ use Rattle.std.specs.Prelude.{◌≡◌, refl, List, ℕ, ◌<◌, length, get_o
 use Rattle.std.proofs.Common.{sym, ◌∙◌, arith}
 use Rattle.std.proofs.Math.Path.{ap, ap₂}
 use Rattle.bits.specs.Bits.{bit}
-use Rattle.calls.specs.declared.Answer.TheVariants.{Done}
+use Rattle.std.specs.Prelude.{Ok}
 use Rattle.calls.specs.Answers.{refusal_of, Accepted, TurnedBack}
 use Rattle.calls.specs.Calls.{after}
 use Rattle.calls.proofs.CallLaws.{cases, call_keeps}
@@ -18,19 +18,19 @@ use Rattle.interleaver_spec.specs.Calls.{interleave_call, pair_buffers, after_de
 
 pub join_done : (pairs0 pairs1 bits s : List ℕ) → length pairs0 ≡ 10752 → length pairs1 ≡ 10752 → length bits ≡ 21504
     → s ≡ interleaved pairs0 pairs1
-    → after (Done 0) s ≡ interleave_call pairs0 pairs1 bits
+    → after (Ok 0) s ≡ interleave_call pairs0 pairs1 bits
 join_done pairs0 pairs1 bits s p q r e = rw e (search cases depth 7)
 
 pub part_done : (bits pairs0 pairs1 s t : List ℕ) → length bits ≡ 21504 → length pairs0 ≡ 10752 → length pairs1 ≡ 10752 → s ≡ apart bits 0
     → t ≡ apart bits 1
-    → after_deinterleave (Done 0) s t ≡ deinterleave_call bits pairs0 pairs1
+    → after_deinterleave (Ok 0) s t ≡ deinterleave_call bits pairs0 pairs1
 part_done bits pairs0 pairs1 s t p q r e f = rw (e, f) (search cases depth 7)
 
 -- ---- calls that are accepted
 
 -- Where the lengths are right the call is accepted and gives the definition's bits, or pairs.
 module _ (pairs0 pairs1 bits : List ℕ) (long0 : length pairs0 ≡ 10752) (long1 : length pairs1 ≡ 10752) (long : length bits ≡ 21504) where
-  pub interleave_done : interleave_call pairs0 pairs1 bits ≡ after (Done 0) (interleaved pairs0 pairs1)
+  pub interleave_done : interleave_call pairs0 pairs1 bits ≡ after (Ok 0) (interleaved pairs0 pairs1)
   interleave_done = sym (join_done pairs0 pairs1 bits (interleaved pairs0 pairs1) long0 long1 long refl)
 
   pub interleave_accepts : Accepted (interleave_call pairs0 pairs1 bits).answer
@@ -40,7 +40,7 @@ module _ (pairs0 pairs1 bits : List ℕ) (long0 : length pairs0 ≡ 10752) (long
   interleave_bits = ap (λ a. a.written) interleave_done
 
 module _ (bits pairs0 pairs1 : List ℕ) (long : length bits ≡ 21504) (long0 : length pairs0 ≡ 10752) (long1 : length pairs1 ≡ 10752) where
-  pub deinterleave_done : deinterleave_call bits pairs0 pairs1 ≡ after_deinterleave (Done 0) (apart bits 0) (apart bits 1)
+  pub deinterleave_done : deinterleave_call bits pairs0 pairs1 ≡ after_deinterleave (Ok 0) (apart bits 0) (apart bits 1)
   deinterleave_done = sym (part_done bits pairs0 pairs1 (apart bits 0) (apart bits 1) long long0 long1 refl refl)
 
   pub deinterleave_accepts : Accepted (deinterleave_call bits pairs0 pairs1).answer
@@ -66,21 +66,21 @@ deinterleave_keeps bits pairs0 pairs1 = call_keeps _ _ _ refl
 module _ (pairs0 pairs1 : List ℕ) (long0 : length pairs0 ≡ 10752) (long1 : length pairs1 ≡ 10752)
     (bytes0 : (j : ℕ) → get_or pairs0 j 0 < 256) (bytes1 : (j : ℕ) → get_or pairs1 j 0 < 256) where
   pub deinterleave_after_interleave : (bits out0 out1 : List ℕ) → length bits ≡ 21504 → length out0 ≡ 10752 → length out1 ≡ 10752
-      → deinterleave_call (interleave_call pairs0 pairs1 bits).written out0 out1 ≡ after_deinterleave (Done 0) pairs0 pairs1
+      → deinterleave_call (interleave_call pairs0 pairs1 bits).written out0 out1 ≡ after_deinterleave (Ok 0) pairs0 pairs1
   unfolding pairs_of
   deinterleave_after_interleave bits out0 out1 long l0 l1 =
       ap (λ s. deinterleave_call s out0 out1) (interleave_bits pairs0 pairs1 bits long0 long1 long)
       ∙ deinterleave_done (interleaved pairs0 pairs1) out0 out1 (length_interleaved pairs0 pairs1) l0 l1
-      ∙ ap₂ (after_deinterleave (Done 0)) (apart_interleaved pairs0 pairs1 0 (omega arith) long0 bytes0) (apart_interleaved pairs0 pairs1 1 (omega arith) long1 bytes1)
+      ∙ ap₂ (after_deinterleave (Ok 0)) (apart_interleaved pairs0 pairs1 0 (omega arith) long0 bytes0) (apart_interleaved pairs0 pairs1 1 (omega arith) long1 bytes1)
 
 pub interleave_after_deinterleave : (bits out0 out1 out : List ℕ) → length bits ≡ 21504 → ((j : ℕ) → get_or bits j 0 < 256) → length out0 ≡ 10752
     → length out1 ≡ 10752
     → length out ≡ 21504
-    → interleave_call (deinterleave_call bits out0 out1).written.pairs0 (deinterleave_call bits out0 out1).written.pairs1 out ≡ after (Done 0) bits
+    → interleave_call (deinterleave_call bits out0 out1).written.pairs0 (deinterleave_call bits out0 out1).written.pairs1 out ≡ after (Ok 0) bits
 interleave_after_deinterleave bits out0 out1 out long bytes l0 l1 l =
     ap₂ (λ s t. interleave_call s t out) (deinterleave_pairs0 bits out0 out1 long l0 l1) (deinterleave_pairs1 bits out0 out1 long l0 l1)
     ∙ interleave_done (apart bits 0) (apart bits 1) out (length_apart bits 0) (length_apart bits 1) l
-    ∙ ap (after (Done 0)) (interleaved_apart bits long bytes)
+    ∙ ap (after (Ok 0)) (interleaved_apart bits long bytes)
 
 -- Encoder 0's pairs are the same however encoder 1's bits alter, and the reverse.
 module _ (s t out0 out1 : List ℕ) (ls : length s ≡ 21504) (lt : length t ≡ 21504) (l0 : length out0 ≡ 10752) (l1 : length out1 ≡ 10752) where

@@ -23,27 +23,23 @@ pub fn read_answer(
 ) -> Answer
     ensures { result ≡ read_answer file.now superframes overhead frames superframe subframe }
 {
-    let h = open_header(file);
-    let opening = h.answer;
-    if let Answer::Refused(r) = opening {
-        return Answer::Refused(r);
+    let header = open_header(file)?;
+    if superframes != header.superframes {
+        return Err(Refusal::BadHeader);
     }
-    if superframes != h.superframes {
-        return Answer::Refused(Refusal::BadHeader);
+    if overhead != header.overhead {
+        return Err(Refusal::BadHeader);
     }
-    if overhead != h.overhead {
-        return Answer::Refused(Refusal::BadHeader);
-    }
-    if frames != h.frames {
-        return Answer::Refused(Refusal::BadHeader);
+    if frames != header.frames {
+        return Err(Refusal::BadHeader);
     }
     if 47 < subframe {
-        return Answer::Refused(Refusal::NoSuchFrame);
+        return Err(Refusal::NoSuchFrame);
     }
     if superframes <= superframe {
-        return Answer::Refused(Refusal::NoSuchFrame);
+        return Err(Refusal::NoSuchFrame);
     }
-    Answer::Done(0)
+    Ok(0)
 }
 
 // The reader's companion: the refusal number, or 0.
@@ -80,7 +76,7 @@ pub fn read_at(
     ensures { result.now ≡ read_part file.now superframes overhead frames superframe subframe }
 {
     match read_answer(file, superframes, overhead, frames, superframe, subframe) {
-        Answer::Done(_) => stretch(file, start(frames, superframe, subframe)),
-        Answer::Refused(_) => &file[..0],
+        Ok(_) => stretch(file, start(frames, superframe, subframe)),
+        Err(_) => &file[..0],
     }
 }

@@ -8,8 +8,8 @@ use Rattle.std.proofs.Math.Nat.{add-sub_cancel_left}
 use borrow.Author.Tests.{eq-eqb, ne_eqb, eqb-true}
 use Rattle.bits.specs.Parts.{part, end_to_end}
 use Rattle.bits.proofs.PartLaws.{part_length, part_at, end_to_end_length, end_to_end_at}
-use Rattle.calls.specs.declared.Answer.{Answer}
-use Rattle.calls.specs.declared.Answer.TheVariants.{Done, Refused}
+use Rattle.calls.specs.Answers.{Answer}
+use Rattle.std.specs.Prelude.{Result, Ok, Err}
 use Rattle.calls.specs.declared.Refusal.{Refusal}
 use Rattle.calls.specs.declared.Refusal.TheVariants.{Misfit, BadHeader, NoSuchFrame}
 use Rattle.calls.specs.Answers.{refusal_of, Accepted, TurnedBack}
@@ -19,31 +19,36 @@ use Rattle.calls.specs.Calls.{Test, no_sub_frame, no_super_frame, verdict}
 use Rattle.calls.proofs.CallLaws.{none_left, is_bad_header, no_bad_header, no_sub_frame_lem, sub_frame_lem, no_super_frame_lem, super_frame}
 use Rattle.calls.proofs.CallLaws.{first_refused, first_passed, passed_all, rules_kept, told}
 use Rattle.line_file_spec.specs.declared.Header.{Header}
-use Rattle.line_file_spec.specs.Header.{header_number, header_tests, judged}
+use Rattle.line_file_spec.specs.Header.{header_number, header_tests}
 use Rattle.line_file_spec.proofs.HeaderLaws.{Sound, both_true, rules_are, judged_good, judged_done}
 use Rattle.line_file_spec.specs.Opening.{header_of, open_answer, part_when, open_call}
-use Rattle.line_file_spec.proofs.OpeningLaws.{open_done, open_refused, open_misfit}
+use Rattle.line_file_spec.proofs.OpeningLaws.{header_done, header_refused, open_done, open_refused, open_misfit}
 use Rattle.line_file_spec.specs.Reading.{other_numbers, read_answer, read_refusal, read_answer_in, start_of, read_part, stretch_result}
 
 -- ---- the numbers of an open file, beside the header of its bytes
 
-module _ (file : List ℕ) (n o f : ℕ) (h : Header) (is : h ≡ header_of file) (v : ℕ) (opens : h.answer ≡ Done v) (ts : List Test) where
+-- A number of a header that was not refused.
+abbrev number_in : (Header → ℕ) → Result Header Refusal → ℕ
+number_in number (Ok h) = number h
+number_in number (Err r) = 0
+
+module _ (file : List ℕ) (n o f : ℕ) (h : Header) (is : Ok h ≡ header_of file) (ts : List Test) where
   numbers : (h.superframes ≡ header_number file 0) × (h.overhead ≡ header_number file 1) × (h.frames ≡ header_number file 2)
   numbers =
-      let p = is ∙ (judged_done file (length file) v (ap (λ (x : Header). x.answer) (sym is) ∙ opens)).is in
-      (ap (λ (x : Header). x.superframes) p, ap (λ (x : Header). x.overhead) p, ap (λ (x : Header). x.frames) p)
+      let p = is ∙ (judged_done file (length file) 0 (sym (header_done file (Ok h) is h refl))).is in
+      (ap (number_in (λ x. x.superframes)) p, ap (number_in (λ x. x.overhead)) p, ap (number_in (λ x. x.frames)) p)
 
-  pub other_n : (n ≡ h.superframes → ⊥) → Refused BadHeader ≡ verdict (other_numbers file n o f ∷ ts)
+  pub other_n : (n ≡ h.superframes → ⊥) → Err BadHeader ≡ verdict (other_numbers file n o f ∷ ts)
   unfolding other_numbers
   other_n d = let e = numbers in is_bad_header ts _ (simp (ne_eqb n (header_number file 0) (λ p. d (p ∙ sym e.0))))
 
-  pub other_o : n ≡ h.superframes → (o ≡ h.overhead → ⊥) → Refused BadHeader ≡ verdict (other_numbers file n o f ∷ ts)
+  pub other_o : n ≡ h.superframes → (o ≡ h.overhead → ⊥) → Err BadHeader ≡ verdict (other_numbers file n o f ∷ ts)
   unfolding other_numbers
   other_o en d =
       let e = numbers in is_bad_header ts _ (simp (eq-eqb _ _ (en ∙ e.0), ne_eqb o (header_number file 1) (λ p. d (p ∙ sym e.1))))
 
   module _ (en : n ≡ h.superframes) (eo : o ≡ h.overhead) where
-    pub other_f : (f ≡ h.frames → ⊥) → Refused BadHeader ≡ verdict (other_numbers file n o f ∷ ts)
+    pub other_f : (f ≡ h.frames → ⊥) → Err BadHeader ≡ verdict (other_numbers file n o f ∷ ts)
     unfolding other_numbers
     other_f d =
         let e = numbers in
@@ -56,6 +61,17 @@ module _ (file : List ℕ) (n o f : ℕ) (h : Header) (is : h ≡ header_of file
 
 pub ruleset open_numbers = (other_n, other_o, other_f, same_numbers)
 
+-- The reader's answer as a worker meets it: it has the file's header.
+module _ (file : List ℕ) (n o f q s : ℕ) (h : Result Header Refusal) (is : h ≡ header_of file) where
+  pub read_unopened : (r : Refusal) → h ≡ Err r → Err r ≡ read_answer file n o f q s
+  unfolding read_answer
+  read_unopened r e = first_refused (header_tests file (length file)) _ (open_answer file) refl r (sym (header_refused file h is r e))
+
+  pub read_opened : (x : Header) → h ≡ Ok x → (a : Answer) → a ≡ verdict (other_numbers file n o f ∷ no_sub_frame s ∷ no_super_frame q n ∷ [])
+      → a ≡ read_answer file n o f q s
+  unfolding read_answer
+  read_opened x e a g = first_passed (header_tests file (length file)) _ (open_answer file) refl 0 a (sym (header_done file h is x e)) g
+
 -- What holds where the reader is not refused.
 pub record Reads (file : List ℕ) (n o f q s : ℕ) : Type 0 where
   pub sound : Sound file (length file)
@@ -66,7 +82,7 @@ pub record Reads (file : List ℕ) (n o f q s : ℕ) : Type 0 where
   pub superframe : q < n
 
 module _ (file : List ℕ) (n o f q s : ℕ) where
-  pub reads : (v : ℕ) → read_answer file n o f q s ≡ Done v → Reads file n o f q s
+  pub reads : (v : ℕ) → read_answer file n o f q s ≡ Ok v → Reads file n o f q s
   unfolding read_answer header_tests other_numbers
   reads v e =
       let p = passed_all (header_tests file (length file) ++ other_numbers file n o f ∷ no_sub_frame s ∷ no_super_frame q n ∷ []) v e in
@@ -87,15 +103,15 @@ module _ (file : List ℕ) (n o f q s : ℕ) where
 
   -- The part as a worker meets it.
   module _ (a : ℕ) (answer : Answer) (is : answer ≡ read_answer file n o f q s) where
-    pub part_fits : (v : ℕ) → answer ≡ Done v → a ≡ start_of f q s → a + 7424 ≤ length file
+    pub part_fits : (v : ℕ) → answer ≡ Ok v → a ≡ start_of f q s → a + 7424 ≤ length file
     part_fits v e ea = rw ea (stretch_within (reads v (sym is ∙ e)))
 
-    pub part_read : (part : List ℕ) (v : ℕ) → part ≡ take 7424 (drop a file) → answer ≡ Done v → a ≡ start_of f q s
+    pub part_read : (part : List ℕ) (v : ℕ) → part ≡ take 7424 (drop a file) → answer ≡ Ok v → a ≡ start_of f q s
         → part ≡ read_part file n o f q s
     unfolding read_part
     part_read part v ep e ea = ep ∙ rw ea (ap (λ (x : Answer). part_when x (take 7424 (drop (start_of f q s) file))) (sym e ∙ is))
 
-  pub part_none : (answer : Answer) (r : Refusal) → answer ≡ read_answer file n o f q s → answer ≡ Refused r → [] ≡ read_part file n o f q s
+  pub part_none : (answer : Answer) (r : Refusal) → answer ≡ read_answer file n o f q s → answer ≡ Err r → [] ≡ read_part file n o f q s
   unfolding read_part
   part_none answer r is e = ap (λ (x : Answer). part_when x (take 7424 (drop (start_of f q s) file))) (sym e ∙ is)
 
@@ -113,8 +129,8 @@ module _ (file : List ℕ) (n o f q s : ℕ) where
   read_refused_empty t = go (read_answer file n o f q s) t
     where
       go : (a : Answer) → TurnedBack a → part_when a (take 7424 (drop (start_of f q s) file)) ≡ []
-      go (Done v) h = absurd (h refl)
-      go (Refused r) h = refl
+      go (Ok v) h = absurd (h refl)
+      go (Err r) h = refl
 
   -- One that is not refused hands back the bytes of the file from the start of the stretch on, 7,424 of them.
   pub accepted_reads : Accepted (read_answer file n o f q s) → Reads file n o f q s
@@ -186,23 +202,23 @@ module _ (file : List ℕ) (opens : Accepted (open_answer file)) (q s : ℕ) whe
   -- Where the opening is done, the frame decides.
   pub opened : (a : Answer) → a ≡ verdict (no_sub_frame s ∷ no_super_frame q (open_call file).superframes ∷ [])
       → a ≡ read_answer_in (open_call file) q s
-  unfolding read_answer judged
+  unfolding read_answer
   opened a e =
       let d = accepted_done (open_answer file) opens in
-      let i = open_done file (judged_done file (length file) d.0 d.1) in
+      let sound = judged_done file (length file) d.0 d.1 in
+      let i = open_done file sound in
       rw i
       (first_passed (header_tests file (length file)) _ (open_answer file) refl d.0 a d.1
-      (same_numbers file _ _ _ (header_of file) refl d.0 d.1 _
-      (sym (numbers file 0 0 0 (header_of file) refl d.0 d.1 []).0) (sym (numbers file 0 0 0 (header_of file) refl d.0 d.1 []).1)
-      (sym (numbers file 0 0 0 (header_of file) refl d.0 d.1 []).2) a (rw i at e)))
+      (same_numbers file _ _ _ (record { superframes = header_number file 0; overhead = header_number file 1; frames = header_number file 2; total = header_number file 3 })
+      (sym sound.is) _ refl refl refl a (rw i at e)))
 
-  pub opened_done : s ≤ 47 → q < (open_call file).superframes → read_answer_in (open_call file) q s ≡ Done 0
-  opened_done l h = sym (opened (Done 0) (sub_frame_lem _ s _ l (super_frame _ q _ _ h none_left)))
+  pub opened_done : s ≤ 47 → q < (open_call file).superframes → read_answer_in (open_call file) q s ≡ Ok 0
+  opened_done l h = sym (opened (Ok 0) (sub_frame_lem _ s _ l (super_frame _ q _ _ h none_left)))
 
   pub never_1_or_2 : (refusal_of (read_answer_in (open_call file) q s) ≡ 0) ⊎ (refusal_of (read_answer_in (open_call file) q s) ≡ 4)
   never_1_or_2 =
-      ⊎_elim (λ l. inr (sym (ap refusal_of (opened (Refused NoSuchFrame) (no_sub_frame_lem _ s l)))))
-      (λ l. ⊎_elim (λ h. inl (ap refusal_of (opened_done l h))) (λ h. inr (sym (ap refusal_of (opened (Refused NoSuchFrame) (sub_frame_lem _ s _ l (no_super_frame_lem _ q _ h))))))
+      ⊎_elim (λ l. inr (sym (ap refusal_of (opened (Err NoSuchFrame) (no_sub_frame_lem _ s l)))))
+      (λ l. ⊎_elim (λ h. inl (ap refusal_of (opened_done l h))) (λ h. inr (sym (ap refusal_of (opened (Err NoSuchFrame) (sub_frame_lem _ s _ l (no_super_frame_lem _ q _ h))))))
       (below q (open_call file).superframes))
       (below 47 s)
     where
@@ -210,7 +226,7 @@ module _ (file : List ℕ) (opens : Accepted (open_answer file)) (q s : ℕ) whe
       below a b = ⊎_elim (λ e. inr (omega arith)) (λ l. inl (omega arith)) (eq-zero-or-pos (b - a))
 
 -- A refused opening holds the empty part, so that reading it is refused too.
-pub closed_misfit : (file : List ℕ) (r : Refusal) (q s : ℕ) → open_answer file ≡ Refused r
-    → read_answer_in (open_call file) q s ≡ Refused Misfit
+pub closed_misfit : (file : List ℕ) (r : Refusal) (q s : ℕ) → open_answer file ≡ Err r
+    → read_answer_in (open_call file) q s ≡ Err Misfit
 unfolding read_answer
 closed_misfit file r q s e = rw (open_refused file r e) (sym (first_refused _ _ (open_answer []) refl Misfit (open_misfit [] (omega arith))))

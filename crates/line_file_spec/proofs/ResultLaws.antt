@@ -3,15 +3,15 @@
 use Rattle.std.specs.Prelude.{◌≡◌, refl, cond, not, ◌||◌, List, [], ℕ, eqb, ltb, leb, length, take, drop}
 use Rattle.std.proofs.Common.{◌∙◌, ne_eqb}
 use Rattle.bits.specs.Tests.{both}
-use Rattle.calls.specs.declared.Answer.{Answer}
-use Rattle.calls.specs.declared.Answer.TheVariants.{Done, Refused}
+use Rattle.calls.specs.Answers.{Answer}
+use Rattle.std.specs.Prelude.{Ok, Err}
 use Rattle.calls.specs.Answers.{number_of, refusal_of}
 use Rattle.calls.proofs.AnswerLaws.{refused_turned}
 use Rattle.calls.specs.Results.{result, result_of}
 use Rattle.calls.specs.Calls.{misfit, short_file, bad_header, no_sub_frame, no_super_frame}
 use Rattle.calls.proofs.ResultLaws.{results, call_result, verdict_result}
-use Rattle.line_file_spec.specs.Header.{header_number, rules_hold, header_tests, judged}
-use Rattle.line_file_spec.specs.Opening.{open_answer, open_refusal, part_when, open_call}
+use Rattle.line_file_spec.specs.Header.{header_number, rules_hold, header_tests, header_when, judged}
+use Rattle.line_file_spec.specs.Opening.{open_answer, open_refusal, part_when, open_with, open_call}
 use Rattle.line_file_spec.specs.Reading.{other_numbers, read_answer, read_refusal, start_of, read_part}
 use Rattle.line_file_spec.specs.Writing.{write_call}
 
@@ -44,12 +44,18 @@ write_result n header = call_result 0 _ _ _ ∙ simp results
 -- ---- what is handed back, by the companion's number: the part where that is 0, and the empty part otherwise
 
 part_result : (a : Answer) (part : List ℕ) → part_when a part ≡ cond (eqb (refusal_of a) 0) part []
-part_result (Done v) part = refl
-part_result (Refused r) part = simp (ne_eqb (number_of r) 0 (refused_turned r))
+part_result (Ok v) part = refl
+part_result (Err r) part = simp (ne_eqb (number_of r) 0 (refused_turned r))
+
+file_when : (file : List ℕ) (a : Answer) (n o f total : ℕ) → (open_with file (header_when a n o f total)).file ≡ part_when a file
+file_when file (Ok v) n o f total = refl
+file_when file (Err r) n o f total = refl
 
 pub open_part_result : (file : List ℕ) → (open_call file).file ≡ cond (eqb (open_refusal file) 0) file []
 unfolding open_call judged
-open_part_result file = part_result (open_answer file) file
+open_part_result file =
+    file_when file (open_answer file) (header_number file 0) (header_number file 1) (header_number file 2) (header_number file 3)
+    ∙ part_result (open_answer file) file
 
 pub read_part_result : (file : List ℕ) (n o f q s : ℕ)
     → read_part file n o f q s ≡ cond (eqb (read_refusal file n o f q s) 0) (take 7424 (drop (start_of f q s) file)) []

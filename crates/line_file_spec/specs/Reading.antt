@@ -2,7 +2,7 @@
 -- Assumes nothing.
 use Rattle.std.specs.Prelude.{cond, List, [], ◌∷◌, ◌++◌, ℕ, ◌+◌, ◌*◌, eqb, length, take, drop}
 use Rattle.bits.specs.Tests.{both}
-use Rattle.calls.specs.declared.Answer.{Answer}
+use Rattle.calls.specs.Answers.{Answer}
 use Rattle.calls.specs.Answers.{refusal_of}
 use Rattle.calls.specs.Results.{Result, result}
 use Rattle.calls.specs.Calls.{Test, bad_header, no_sub_frame, no_super_frame, verdict}

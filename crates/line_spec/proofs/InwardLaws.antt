@@ -12,7 +12,7 @@ use Rattle.std.proofs.lemmas.List.{length-map}
 use Rattle.bits.specs.Lists.{tabulate}
 use Rattle.bits.specs.ListLaws.{length_tabulate, get_d_tabulate}
 use Rattle.bits.specs.Bits.{bit}
-use Rattle.calls.specs.declared.Answer.TheVariants.{Done}
+use Rattle.std.specs.Prelude.{Ok}
 use Rattle.calls.specs.Answers.{refusal_of}
 use Rattle.calls.specs.Sequences.{At, accepted}
 use Rattle.calls.proofs.SequenceLaws.{At_lt, without_refused}
@@ -47,7 +47,7 @@ module _ (p : Modulation) (n : ℕ) (h : ReceivedLine p n) where
   -- ---- the calls, and the cells that they give
 
   pub unframing_is : (f : ℕ) → f < 48 * n
-      → unframing p n h f ≡ after (Done (differing (f % 48) (get_or h.frames f []) (own_overhead (f % 48) h.overhead))) (unframed (f % 48) (get_or h.frames f []))
+      → unframing p n h f ≡ after (Ok (differing (f % 48) (get_or h.frames f []) (own_overhead (f % 48) h.overhead))) (unframed (f % 48) (get_or h.frames f []))
   unfolding unframing
   unframing_is f lf =
       let l : f % 48 ≤ 47 = omega arith in
@@ -112,7 +112,7 @@ module _ (p : Modulation) (n : ℕ) (h : ReceivedLine p n) where
             ∙ line_legal (b / p.bits) (b % p.bits * cells_per_buffer p + k / 2) (k % 2) (buffer_lt p b n lb) (cell_lt p b (k / 2) (omega arith)) (omega arith);
       }
 
-  demapping_is : (b : ℕ) → b < buffers_in p n → demapping p n h b ≡ after (Done 0) (to_bits p (received_cells p n h b))
+  demapping_is : (b : ℕ) → b < buffers_in p n → demapping p n h b ≡ after (Ok 0) (to_bits p (received_cells p n h b))
   unfolding demapping
   demapping_is b lb = demap_accepts p (received_cells p n h b) (h.lent.bits b) (cells_length b) (h.lent.bits_long b) (cells_legal b lb)
 
@@ -121,7 +121,7 @@ module _ (p : Modulation) (n : ℕ) (h : ReceivedLine p n) where
       ap (λ (a : After (List ℕ)). length a.written) (demapping_is b lb) ∙ buffer_bits p (received_cells p n h b) (cells_length b)
 
   parting_is : (b : ℕ) → b < buffers_in p n
-      → parting p n h b ≡ after_deinterleave (Done 0) (apart (demapping p n h b).written 0) (apart (demapping p n h b).written 1)
+      → parting p n h b ≡ after_deinterleave (Ok 0) (apart (demapping p n h b).written 0) (apart (demapping p n h b).written 1)
   unfolding parting
   parting_is b lb =
       sym

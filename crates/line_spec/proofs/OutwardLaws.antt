@@ -8,7 +8,7 @@ use Prim.Native.Nat.{ℕ, ◌+◌, ◌*◌, ◌/◌, ◌%◌, ◌<◌, ◌≤◌
 use native.Mathlib.Omega.{arith}
 use Rattle.std.proofs.Math.ListN.{length}
 use Rattle.bits.specs.ListLaws.{length_tabulate, get_d_tabulate}
-use Rattle.calls.specs.declared.Answer.TheVariants.{Done}
+use Rattle.std.specs.Prelude.{Ok}
 use Rattle.calls.specs.Answers.{refusal_of}
 use Rattle.calls.specs.Sequences.{At, accepted}
 use Rattle.calls.proofs.SequenceLaws.{At_find, At_map, without_refused}
@@ -57,7 +57,7 @@ module _ (p : Modulation) (o : Outward p) where
   bits : ℕ → List ℕ
   bits b = interleaved (pairs b side0) (pairs b side1)
 
-  interleaving_is : (b : ℕ) → interleaving p o b ≡ after (Done 0) (bits b)
+  interleaving_is : (b : ℕ) → interleaving p o b ≡ after (Ok 0) (bits b)
   unfolding interleaving pairs bits
   interleaving_is b =
       sym
@@ -68,7 +68,7 @@ module _ (p : Modulation) (o : Outward p) where
   unfolding bits
   length_bits b = length_interleaved (pairs b side0) (pairs b side1)
 
-  mapping_is : (b : ℕ) → mapping p o b ≡ after (Done 0) (to_cells p (bits b))
+  mapping_is : (b : ℕ) → mapping p o b ≡ after (Ok 0) (to_cells p (bits b))
   unfolding mapping
   mapping_is b =
       ap (λ (a : After (List ℕ)). mapped a.written) (interleaving_is b)
@@ -101,7 +101,7 @@ module _ (p : Modulation) (o : Outward p) where
   unfolding frame_payload payload_byte line.frame_payload_of line.payload_byte_of cells
   payload_is f = refl
 
-  framing_is : (f : ℕ) → framing p o f ≡ after (Done 0) (framed (f % 48) (frame_payload p o f) (own_overhead (f % 48) o.overhead))
+  framing_is : (f : ℕ) → framing p o f ≡ after (Ok 0) (framed (f % 48) (frame_payload p o f) (own_overhead (f % 48) o.overhead))
   unfolding framing
   framing_is f =
       let l : f % 48 ≤ 47 = omega arith in

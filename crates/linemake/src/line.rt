@@ -61,7 +61,7 @@ fn write_parts<R: Env + Eprint, F: Read, W: Write>(
     let illegal = cells_core::legal::first_illegal(overhead);
     if illegal < overhead.len() {
         say_illegal(rt, illegal);
-        return calls::refusal_of(Answer::Refused(Refusal::OffGrid(illegal)));
+        return calls::refusal_of(Err(Refusal::OffGrid(illegal)));
     }
     let headed = put(rt, out, header);
     if headed != 0 {

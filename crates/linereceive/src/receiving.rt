@@ -67,7 +67,7 @@ fn take<R: Env + Eprint, F: Read>(
     requires { (length overhead.now ≡ 12288) × (length pairs0.old ≡ 86016) × (length pairs1.old ≡ 86016) }
 {
     if !inputs::read_frames(rt, capture, frames) {
-        return Answer::Refused(Refusal::Misfit);
+        return Err(Refusal::Misfit);
     }
     take_apart(profile, frames, overhead, pairs0, pairs1)
 }
@@ -307,7 +307,7 @@ fn receive_from<R: Env + Eprint, F: Read, W: Write>(
     receive_taken(
         rt,
         profile,
-        calls::value_or(taken, 0),
+        taken.unwrap_or(0),
         &pairs0,
         &pairs1,
         first,

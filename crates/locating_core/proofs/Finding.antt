@@ -1,29 +1,26 @@
 -- Laws for code that finds the places from the syndromes.
 -- Assumes nothing.
-use Rattle.std.specs.Prelude.{◌≡◌, refl, List, ◌≢◌, ℕ, ◌-◌, ◌<◌, ◌≤◌, get_or}
-use Rattle.std.proofs.Common.{sym, ap, ap₂, ◌∙◌, arith}
+use Rattle.std.specs.Prelude.{◌≡◌, refl, ◌≢◌, ℕ, ◌-◌, ◌<◌, ◌≤◌, get_or}
+use Rattle.std.proofs.Common.{sym, ap, ap₂, ◌∙◌, arith, min, max}
+use Rattle.std.proofs.Math.Decide.{dec_lt}
 use Rattle.bits.specs.Xor.{◌⊕◌}
 use Rattle.bits.proofs.XorLaws.{⊕_self, ⊕_eq, ⊕_cancel, ⊕_comm}
 use Rattle.gf256.specs.Field.{◌·◌, cube}
 use Rattle.gf256.specs.Tables.{powers}
 use Rattle.locating_core.specs.RootLaws.{Root}
-use Rattle.locating_core.proofs.RootLaws.{cube_positive, pair_of_root, root_of_pair}
+use Rattle.locating_core.proofs.RootLaws.{pair_of_root, root_of_pair}
 use Rattle.gf256.proofs.PowerLaws.{over}
 use Rattle.word_spec.specs.Syndromes.{locator}
 use Rattle.word_spec.proofs.SyndromeLaws.{locator_entry, locator_end}
 use Rattle.word_spec.proofs.Distance.{locator_eq, locator_lt}
 use Rattle.word_spec.specs.Search.{Allowed}
 use Rattle.word_spec.specs.Locating.{Fits, Located}
-use Rattle.word_spec.proofs.Locating.{one_lost, two_lost, sound_lost}
+use Rattle.word_spec.proofs.Locating.{two_lost}
 use Rattle.word_spec.specs.declared.Repair.{Repair}
 use Rattle.word_spec.specs.declared.Repair.TheVariants.{Sound, One, Two, Lost}
 use Rattle.word_spec.specs.declared.Syndromes.{Syndromes}
 
 -- ---- an element and its place
-
--- A lookup in a lent table.
-pub locator_in : (k : ℕ) (t : List ℕ) → t ≡ powers → k < 255 → get_or t (254 - k) 0 ≡ locator k
-locator_in k t e l = ap (λ s. get_or s (254 - k) 0) e ∙ sym (locator_entry k l)
 
 pub place_zero : (x : ℕ) → x ≡ 0 → locator 255 ≡ x
 place_zero x e = sym (e ∙ locator_end 255 (omega arith))
@@ -42,35 +39,17 @@ this_fits s r n t f = record { found = λ _. (t, f); none = λ e. absurd (n e) }
 none_fits : (s : Syndromes) → ((q : Repair) → Allowed 0 q → Fits s q → ⊥) → Located s Lost
 none_fits s f = record { found = λ n. absurd (n refl); none = λ _. f }
 
--- ---- one place, or none
+-- ---- no place
 
-module _ (s : Syndromes) (small : s.parity < 2) where
-  pub odd_one : (c k : ℕ) → s.parity ≡ 1 → c ≡ cube s.s1 → c ≡ s.s3 → k < 256 → locator k ≡ s.s1 → Located s (One k)
-  odd_one c k o e d l p = this_fits s (One k) (one_lost k) (omega arith, l) (sym p, sym d ∙ e ∙ ap cube (sym p), o)
-
-  pub odd_none : (c : ℕ) → s.parity ≡ 1 → c ≡ cube s.s1 → (c ≡ s.s3 → ⊥) → Located s Lost
-  odd_none c o e d = none_fits s go
-    where
-      go : (q : Repair) → Allowed 0 q → Fits s q → ⊥
-      go Sound t f = omega (arith, f.2)
-      go (One i) t f = d (e ∙ ap cube f.0 ∙ sym f.1)
-      go (Two i j) t f = omega (arith, f.2)
-      go Lost t f = f
-
-  pub even_sound : (s.parity ≡ 1 → ⊥) → s.s1 ≡ 0 → s.s3 ≡ 0 → Located s Sound
-  even_sound o e d = this_fits s Sound sound_lost tt (e, d, omega arith)
-
-  pub even_none : (s.parity ≡ 1 → ⊥) → s.s1 ≡ 0 → (s.s3 ≡ 0 → ⊥) → Located s Lost
-  even_none o e d = none_fits s go
-    where
-      go : (q : Repair) → Allowed 0 q → Fits s q → ⊥
-      go Sound t f = d f.1
-      go (One i) t f = o f.2
-      go (Two i j) t f =
-          let z : i ≡ j = locator_eq i j (omega (arith, t.1, t.2)) t.2 (⊕_eq (locator i) (locator j) (sym f.0 ∙ e)) in omega (arith, t.1)
-      go Lost t f = f
-
-pub ruleset decoding = (odd_one, odd_none, even_sound, even_none)
+pub even_none : (s : Syndromes) → s.parity ≡ 0 → s.s1 ≡ 0 → (s.s3 ≡ 0 → ⊥) → Located s Lost
+even_none s o e d = none_fits s go
+  where
+    go : (q : Repair) → Allowed 0 q → Fits s q → ⊥
+    go Sound t f = d f.1
+    go (One i) t f = omega (arith, f.2)
+    go (Two i j) t f =
+        let z : i ≡ j = locator_eq i j (omega (arith, t.1, t.2)) t.2 (⊕_eq (locator i) (locator j) (sym f.0 ∙ e)) in omega (arith, t.1)
+    go Lost t f = f
 
 -- ---- two places
 
@@ -109,12 +88,23 @@ module _ (s : Syndromes) (even : s.parity ≡ 0) (p : 0 < s.s1) (h : s.s1 < 256)
     apart : i ≡ j → ⊥
     apart e = omega (arith, sum ∙ ap (λ k. locator i ⊕ locator k) (sym e) ∙ ⊕_self (locator i))
 
-    pub two_rising : i < j → Located s (Two i j)
-    two_rising l = this_fits s (Two i j) (two_lost i j) (omega arith, l, hj) (sum, cubes, even)
+    rising : i < j → Located s (Two i j)
+    rising l = this_fits s (Two i j) (two_lost i j) (omega arith, l, hj) (sum, cubes, even)
 
-    pub two_falling : j ≤ i → Located s (Two j i)
-    two_falling l =
+    falling : j ≤ i → Located s (Two j i)
+    falling l =
         this_fits s (Two j i) (two_lost j i) (omega arith, omega (arith, apart), hi)
         (sum ∙ ⊕_comm (locator i) (locator j), cubes ∙ ⊕_comm (cube (locator i)) (cube (locator j)), even)
 
-pub ruleset two_places = (cube_positive, two_none, two_rising, two_falling)
+    pub two_found : Located s (Two (min i j) (max i j))
+    two_found = go (dec_lt i j)
+      where
+        go : Dec (i < j) → Located s (Two (min i j) (max i j))
+        go (yes l) =
+            let e : min i j ≡ i = omega arith in
+            let f : max i j ≡ j = omega arith in
+            rw (e, f) (rising l)
+        go (no n) =
+            let e : min i j ≡ j = omega arith in
+            let f : max i j ≡ i = omega arith in
+            rw (e, f) (falling (omega arith))

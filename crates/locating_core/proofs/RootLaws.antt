@@ -1,6 +1,6 @@
 -- The roots of y y + y = c, and the pairs of elements that are told by their sum and by the sum of their cubes.
 -- Assumes nothing.
-use Rattle.std.specs.Prelude.{◌≡◌, refl, Bool, true, List, ◌≢◌, ℕ, zero, suc, ◌<◌, T, eqb, ltb, get_or}
+use Rattle.std.specs.Prelude.{◌≡◌, refl, Bool, true, ◌≢◌, ℕ, zero, suc, ◌<◌, T, eqb, ltb, get_or}
 use Rattle.std.proofs.Common.{sym, ap, ap₂, ◌∙◌, ⊎_elim, arith, eqb→eq, ltb→lt}
 use Rattle.bits.specs.Tests.{each}
 use Rattle.bits.specs.Xor.{◌⊕◌}
@@ -33,7 +33,7 @@ unfolding fits
 fit_is c zero t n = absurd (n refl)
 fit_is c (suc y) t n = eqb→eq (suc y · suc y ⊕ suc y) c t
 
-root_at : (c : ℕ) → c < 256 → Root c (get_or rooted c 0)
+pub root_at : (c : ℕ) → c < 256 → Root c (get_or rooted c 0)
 root_at c h =
     record {
       found = fit_is c (get_or rooted c 0) (all_fit c h);
@@ -41,10 +41,6 @@ root_at c h =
           let p : 0 < get_or rooted (z · z ⊕ z) 0 = ltb→lt 0 (get_or rooted (z · z ⊕ z) 0) (all_found z l) in
           omega (arith, ap (λ u. get_or rooted u 0) d);
     }
-
--- A lookup in a lent table.
-pub root_in : (t : List ℕ) (c : ℕ) → t ≡ rooted → c < 256 → Root c (get_or t c 0)
-root_in t c e h = rw e (root_at c h)
 
 -- ---- two elements with sum s, one of them s y
 

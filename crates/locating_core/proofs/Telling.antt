@@ -1,13 +1,36 @@
--- Laws of specs/Telling.antt.
+-- Laws of specs/Telling.antt, and the cases of `confined`, as code tells them.
 -- Assumes nothing.
-use Rattle.std.specs.Prelude.{◌≡◌, Bool, true, false, cond, ltb}
-use Rattle.std.proofs.Common.{sym, ◌∙◌, arith}
+use Rattle.std.specs.Prelude.{◌≡◌, refl, Bool, true, false, cond, ◌⊎◌, ℕ, ◌<◌, ◌≤◌, ltb}
+use Rattle.std.proofs.Common.{sym, ◌∙◌, inl, inr, arith, lt-ltb, le-ltb}
 use Rattle.word_spec.specs.Locating.{Located, confined}
 use Rattle.word_spec.proofs.Locating.{one_lost, two_lost, located_repair}
 use Rattle.word_spec.specs.declared.Repair.{Repair}
 use Rattle.word_spec.specs.declared.Repair.TheVariants.{Sound, One, Two, Lost}
 use Rattle.word_spec.specs.declared.Syndromes.{Syndromes}
 use Rattle.locating_core.specs.Telling.{Told, Inside}
+
+pub confined_none : (b : Bool) (r : Repair) → (r ≡ Sound) ⊎ (r ≡ Lost) → r ≡ confined b r
+unfolding confined
+confined_none true r h = refl
+confined_none false r (inl e) = rw e refl
+confined_none false r (inr e) = rw e refl
+
+-- Where i is its first place.
+abbrev pub Begins : Repair → ℕ → Type 0
+Begins r i = (r ≡ One i) ⊎ ((j : ℕ) × (r ≡ Two i j))
+
+pub confined_kept : (b : Bool) (r : Repair) (i : ℕ) → Begins r i → (b ≡ true) ⊎ ((b ≡ false) × (128 ≤ i)) → r ≡ confined b r
+unfolding confined
+confined_kept true r i h f = refl
+confined_kept false r i h (inl e) = absurd (let z : ◌≡◌ {A = ℕ} 0 1 = cc in omega arith)
+confined_kept false r i (inl d) (inr f) = rw d (simp (le-ltb i 128 f.1))
+confined_kept false r i (inr (j, d)) (inr f) = rw d (simp (le-ltb i 128 f.1))
+
+pub confined_lost : (b : Bool) (r : Repair) (i : ℕ) → Begins r i → (b ≡ false) × (i < 128) → Lost ≡ confined b r
+unfolding confined
+confined_lost true r i h (e, l) = absurd (let z : ◌≡◌ {A = ℕ} 0 1 = cc in omega arith)
+confined_lost false r i (inl d) f = rw d (simp (lt-ltb i 128 f.1))
+confined_lost false r i (inr (j, d)) f = rw d (simp (lt-ltb i 128 f.1))
 
 pub located_told : (front : Bool) (s : Syndromes) (q r : Repair) → Located s q → r ≡ confined front q → Told front s r
 located_told front s q r L e = record { told = λ w b h. e ∙ sym (located_repair w b front q (rw h at L)) }

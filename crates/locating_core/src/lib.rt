@@ -5,21 +5,13 @@
 pub mod locating;
 mod tables;
 
-ghost use Rattle.std.specs.Prelude.{◌≡◌};
-ghost use Rattle.locating_core.specs.Roots.{rooted};
+ghost use Rattle.std.specs.Prelude.{◌<◌, MatchOption};
 ghost use Rattle.locating_core.specs.RootLaws.{Root};
 
-// The table of roots.
-pub fn roots() -> [u8; 256]
-    ensures { result ≡ rooted }
+// A root of y y + y = c that is not 0, if there is one.
+fn root(c: u8) -> Option<u8>
+    ensures { MatchOption result (Root c 0) (λ y. Root c y × (0 < y)) }
 {
-    tables::ROOTS
-}
-
-// A root of y y + y = c that is not 0, or 0 where there is none, from a lent table.
-fn root_in(roots: &[u8; 256], c: u8) -> u8
-    requires { roots.now ≡ rooted }
-    ensures { Root c result }
-{
-    roots[c as usize]
+    let y = tables::ROOTS[usize::from(c)];
+    if y == 0 { None } else { Some(y) }
 }

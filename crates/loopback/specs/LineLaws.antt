@@ -14,7 +14,7 @@ use Rattle.profile.specs.declared.Profile.TheVariants.{Qam16, Qpsk}
 use Rattle.bits.specs.Filling.{Blocks, blocks_none, blocks_next, blocks_done}
 use Rattle.bits.specs.Parts.{part, byte_of_each, end_to_end}
 use Rattle.bits.proofs.PartLaws.{part_length, part_long, end_to_end_length, end_to_end_at, each_block}
-use Rattle.calls.specs.declared.Answer.{Answer}
+use Rattle.calls.specs.Answers.{Answer}
 use Rattle.calls.specs.Answers.{value_or}
 use Rattle.interleaver_spec.specs.Calls.{Deinterleaved, after_deinterleave}
 use Rattle.cells_spec.specs.Modulation.{Modulation, cells_per_buffer}

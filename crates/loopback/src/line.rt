@@ -1,6 +1,6 @@
 // The line: coded pairs to the frames of a line file, which are damaged, and back.
 ghost use Rattle.std.specs.Prelude.{◌≡◌, ◌-◌, ◌*◌, ◌<◌, length, replicate};
-ghost use Rattle.calls.specs.declared.Answer.TheVariants.{Refused};
+ghost use Rattle.std.specs.Prelude.{Err};
 ghost use Rattle.calls.specs.declared.Refusal.TheVariants.{NoSuchFrame, OffGrid};
 ghost use Rattle.profiles_spec.specs.Profiles.{modulation};
 ghost use Rattle.cells_spec.specs.Cells.{overhead_rule, Legal};
@@ -63,17 +63,11 @@ fn transmit(
     if encoder == 0 {
         send(profile, q, list, own, other, &mut frames);
         file::pass(list, &mut frames);
-        return calls::value_or(
-            superframe::take_apart(profile, &frames, list, own, other),
-            0,
-        );
+        return superframe::take_apart(profile, &frames, list, own, other).unwrap_or(0);
     }
     send(profile, q, list, other, own, &mut frames);
     file::pass(list, &mut frames);
-    calls::value_or(
-        superframe::take_apart(profile, &frames, list, other, own),
-        0,
-    )
+    superframe::take_apart(profile, &frames, list, other, own).unwrap_or(0)
 }
 
 // The pairs of an encoder that come off the line in super-frame q, and the number of overhead cells that differ.
@@ -107,7 +101,7 @@ fn carry_all(profile: Profile, encoder: u32, list: &[u8], got: &mut [u8], counts
 // The same with a list that is drawn, after refused calls.
 pub fn carry(profile: Profile, encoder: u32, got: &mut [u8], counts: &mut [u32])
     requires { (encoder < 2) × (length got.old ≡ 172032) × (length counts.old ≡ 41) }
-    ensures { (got.new ≡ all_off profile drawn_list encoder) × (counts.new ≡ all_counted profile drawn_list (answered (Refused (OffGrid 0)) (answered (Refused NoSuchFrame) counts.old))) }
+    ensures { (got.new ≡ all_off profile drawn_list encoder) × (counts.new ≡ all_counted profile drawn_list (answered (Err (OffGrid 0)) (answered (Err NoSuchFrame) counts.old))) }
 {
     let mut list = [0u8; 12288];
     draw_list(&mut list);

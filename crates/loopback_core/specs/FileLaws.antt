@@ -9,7 +9,7 @@ use Rattle.std.proofs.Math.Seq.{take_at, drop_at, drop-length, take_all}
 use Rattle.bits.specs.Lists.{tabulate}
 use Rattle.bits.specs.Parts.{byte_of_each, end_to_end}
 use Rattle.bits.proofs.PartLaws.{each_block}
-use Rattle.calls.specs.declared.Answer.{Answer}
+use Rattle.calls.specs.Answers.{Answer}
 use Rattle.calls.specs.Calls.{After, after}
 use Rattle.line_file_spec.specs.Opening.{open_call}
 use Rattle.line_file_spec.specs.Reading.{read_refusal_in, read_part_in}

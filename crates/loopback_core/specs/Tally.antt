@@ -3,8 +3,8 @@
 use Rattle.std.specs.Prelude.{ℕ, ◌+◌, ◌*◌, ◌%◌, ◌^◌, cond, List, ◌==◌, nat_lt, slice_index, slice_set}
 use Rattle.bits.specs.Bits.{bit}
 use Rattle.bits.specs.Count.{count, differs, distance}
-use Rattle.calls.specs.declared.Answer.{Answer}
-use Rattle.calls.specs.declared.Answer.TheVariants.{Refused}
+use Rattle.calls.specs.Answers.{Answer}
+use Rattle.std.specs.Prelude.{Err}
 use Rattle.calls.specs.declared.Refusal.TheVariants.{Misfit, CountSpent}
 use Rattle.calls.specs.Answers.{refusal_of}
 use Rattle.loopback_core.specs.Steps.{each_step}
@@ -32,7 +32,7 @@ answered a counts = tally_sum (1 + refusal_of a) 1 counts
 
 -- The refused calls before a pair: one with a byte too few, one with the pair number that no call takes.
 abbrev pub refused_two : List ℕ → List ℕ
-refused_two counts = answered (Refused CountSpent) (answered (Refused Misfit) counts)
+refused_two counts = answered (Err CountSpent) (answered (Err Misfit) counts)
 
 -- ---- kinds
 

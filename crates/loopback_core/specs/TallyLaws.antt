@@ -10,8 +10,8 @@ use Rattle.bits.specs.Bits.{bit}
 use Rattle.bits.specs.Count.{count, differs, distance}
 use Rattle.bits.proofs.CountLaws.{count_le, differs_le, differs_same, differs_other}
 use Rattle.bits.proofs.Folding.{Counting, count_done}
-use Rattle.calls.specs.declared.Answer.{Answer}
-use Rattle.calls.specs.declared.Answer.TheVariants.{Refused}
+use Rattle.calls.specs.Answers.{Answer}
+use Rattle.std.specs.Prelude.{Err}
 use Rattle.calls.specs.declared.Refusal.TheVariants.{Misfit, CountSpent}
 use Rattle.calls.specs.Answers.{refusal_of}
 use Rattle.loopback_core.specs.Steps.{each_step}
@@ -36,7 +36,7 @@ two_answered d d' d'' a b x y e f ea eb = cc
 
 pub refused_more : (before d d' d'' : List ℕ) (k : ℕ) (a b : Answer) → Stepping (λ i. refused_two) 168 before k d → k < 168
     → d' ≡ answered a d → d'' ≡ answered b d'
-    → a ≡ Refused Misfit → b ≡ Refused CountSpent → Stepping (λ i. refused_two) 168 before (k + 1) d''
+    → a ≡ Err Misfit → b ≡ Err CountSpent → Stepping (λ i. refused_two) 168 before (k + 1) d''
 refused_more before d d' d'' k a b s l e f ea eb = step_more d'' s l (two_answered d d' d'' a b _ _ e f ea eb)
 
 pub tallied_more : (n : ℕ) (kind : ℕ → ℕ) (before d : List ℕ) (i : ℕ) (d' : List ℕ) (v : ℕ) → Stepping (one_more kind) n before i d → i < n

@@ -19,7 +19,7 @@ fn begin(list: &OverheadList, file: &mut File)
     ensures { file.new ≡ line_file list.now (drop 12304 file.old) }
 {
     file[16..12304].copy_from_slice(list);
-    line_file::write_header(1, &mut file[0..16]);
+    let _ = line_file::write_header(1, &mut file[0..16]);
 }
 
 // Writes the whole file.

@@ -5,8 +5,8 @@ use Rattle.std.proofs.Math.Path.{refl, sym, ap}
 use Rattle.std.proofs.Common.{◌∙◌}
 use native.Mathlib.Omega.{arith}
 use Rattle.std.proofs.Math.ListN.{length}
-use Rattle.calls.specs.declared.Answer.{Answer}
-use Rattle.calls.specs.declared.Answer.TheVariants.{Refused}
+use Rattle.calls.specs.Answers.{Answer}
+use Rattle.std.specs.Prelude.{Err}
 use Rattle.calls.specs.declared.Refusal.TheVariants.{Misfit, CountSpent, NoSuchFrame, OffGrid}
 use Rattle.calls.specs.Calls.{After, after}
 use Rattle.calls.proofs.CallLaws.{Own, is_misfit, no_misfit, no_sub_frame_lem, sub_frame_lem, tests, call_refused}
@@ -29,16 +29,16 @@ own_spent history e P b ee ep = rw (ee, ep) (own_before b (omega arith) (omega a
 
 module _ (r : Answer) (c h payload coded history : List ℕ) (e P : ℕ) (is : after_encode r c h ≡ encode_call payload coded history e P) where
   module _ (l : length payload ≡ 443) where
-    short : after_encode r c h ≡ after_encode (Refused Misfit) coded history
+    short : after_encode r c h ≡ after_encode (Err Misfit) coded history
     short = let n : length payload ≢ 444 = λ e. omega (arith, l, e) in is ∙ sym (call_refused _ _ _ Misfit (is_misfit _ _ _ n))
 
-    pub encode_misfit : r ≡ Refused Misfit
+    pub encode_misfit : r ≡ Err Misfit
     encode_misfit = ap (λ (x : Encoded). x.answer) short
 
     pub encode_misfit_keeps : h ≡ history
     encode_misfit_keeps = ap (λ (x : Encoded). x.written.history) short
 
-  pub encode_late : length payload ≡ 444 → length coded ≡ 512 → BeforePair 0 4294967295 history → e ≡ 0 → P ≡ 4294967295 → r ≡ Refused CountSpent
+  pub encode_late : length payload ≡ 444 → length coded ≡ 512 → BeforePair 0 4294967295 history → e ≡ 0 → P ≡ 4294967295 → r ≡ Err CountSpent
   encode_late lp lc b ee ep =
       let lh = b.long in
       let o = own_spent history e P b ee ep in
@@ -46,24 +46,24 @@ module _ (r : Answer) (c h payload coded history : List ℕ) (e P : ℕ) (is : a
 
 module _ (r : Answer) (y m h coded payload marks history : List ℕ) (e P : ℕ) (is : after_receive r y m h ≡ receive_call coded payload marks history e P) where
   module _ (l : length coded ≡ 511) where
-    receive_short : after_receive r y m h ≡ after_receive (Refused Misfit) payload marks history
+    receive_short : after_receive r y m h ≡ after_receive (Err Misfit) payload marks history
     receive_short = let n : length coded ≢ 512 = λ e. omega (arith, l, e) in is ∙ sym (call_refused _ _ _ Misfit (is_misfit _ _ _ n))
 
-    pub receive_misfit : r ≡ Refused Misfit
+    pub receive_misfit : r ≡ Err Misfit
     receive_misfit = ap (λ (x : Received). x.answer) receive_short
 
     pub receive_misfit_keeps : h ≡ history
     receive_misfit_keeps = ap (λ (x : Received). x.written.history) receive_short
 
   pub receive_late : length coded ≡ 512 → length payload ≡ 444 → length marks ≡ 32 → BeforePair 0 4294967295 history → e ≡ 0 → P ≡ 4294967295
-      → r ≡ Refused CountSpent
+      → r ≡ Err CountSpent
   receive_late lc lp lm b ee ep =
       let lh = b.long in
       let o = own_spent history e P b ee ep in
       ap (λ (x : Received). x.answer) (is ∙ sym (call_refused _ _ _ CountSpent (search tests depth 8)))
 
 module _ (p : Modulation) (r : Answer) (d payload list frame : List ℕ) (lo : length list ≡ 12288) (lf : length frame ≡ 7424) where
-  pub frame_beyond : after r d ≡ frame_call p 48 payload list frame → r ≡ Refused NoSuchFrame
+  pub frame_beyond : after r d ≡ frame_call p 48 payload list frame → r ≡ Err NoSuchFrame
   unfolding sub_frame_tests
   frame_beyond is =
       let beyond : 47 < 48 = omega arith in
@@ -73,7 +73,7 @@ module _ (p : Modulation) (r : Answer) (d payload list frame : List ℕ) (lo : l
 
   -- The first byte of the list is illegal.
   pub frame_off_grid : after r d ≡ frame_call p 0 payload list frame → length payload ≡ 6980 → get_or list 0 0 ≡ 16
-      → r ≡ Refused (OffGrid 0)
+      → r ≡ Err (OffGrid 0)
   unfolding first_illegal overhead_rule overhead_start count sub_frame_tests
   frame_off_grid is lp e =
       ap (λ (x : After (List ℕ)). x.answer)

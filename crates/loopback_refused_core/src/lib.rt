@@ -3,7 +3,7 @@
 #![tactic(auto)]
 
 ghost use Rattle.std.specs.Prelude.{◌≡◌, length};
-ghost use Rattle.calls.specs.declared.Answer.TheVariants.{Refused};
+ghost use Rattle.std.specs.Prelude.{Err};
 ghost use Rattle.calls.specs.declared.Refusal.TheVariants.{Misfit, CountSpent, NoSuchFrame, OffGrid};
 ghost use Rattle.pair_spec.specs.Front.{BeforePair};
 ghost use Rattle.loopback_core.specs.Steps.{each_step};
@@ -16,7 +16,7 @@ use profile::Profile;
 
 // A call of encoding with a byte too few.
 fn encode_short(history: &mut [u8]) -> Answer
-    ensures { (result ≡ Refused Misfit) × (history.new ≡ history.old) }
+    ensures { (result ≡ Err Misfit) × (history.new ≡ history.old) }
 {
     let payload = [0u8; 443];
     let mut coded = [0u8; 512];
@@ -37,7 +37,7 @@ fn spent() -> History
 
 // A call with that number and such a history.
 fn encode_spent() -> Answer
-    ensures { result ≡ Refused CountSpent }
+    ensures { result ≡ Err CountSpent }
 {
     let payload = [0u8; 444];
     let mut coded = [0u8; 512];
@@ -58,7 +58,7 @@ pub fn refuse_encodings(history: &mut [u8], counts: &mut [u32])
 
 // A call of receiving with a byte too few.
 fn receive_short(history: &mut [u8]) -> Answer
-    ensures { (result ≡ Refused Misfit) × (history.new ≡ history.old) }
+    ensures { (result ≡ Err Misfit) × (history.new ≡ history.old) }
 {
     let coded = [0u8; 511];
     let mut payload = [0u8; 444];
@@ -68,7 +68,7 @@ fn receive_short(history: &mut [u8]) -> Answer
 
 // One with the pair number that no call takes, and a history that shows it.
 fn receive_spent() -> Answer
-    ensures { result ≡ Refused CountSpent }
+    ensures { result ≡ Err CountSpent }
 {
     let coded = [0u8; 512];
     let mut payload = [0u8; 444];
@@ -88,7 +88,7 @@ pub fn refuse_receiving(history: &mut [u8], counts: &mut [u32])
 
 // A call of framing for a sub-frame that there is not.
 fn frame_beyond(profile: Profile) -> Answer
-    ensures { result ≡ Refused NoSuchFrame }
+    ensures { result ≡ Err NoSuchFrame }
 {
     let list = [0u8; 12288];
     let all = &list[..];
@@ -98,7 +98,7 @@ fn frame_beyond(profile: Profile) -> Answer
 
 // One with an illegal overhead list.
 fn frame_off_grid(profile: Profile) -> Answer
-    ensures { result ≡ Refused (OffGrid 0) }
+    ensures { result ≡ Err (OffGrid 0) }
 {
     let list = [16u8; 12288];
     let all = &list[..];
@@ -109,7 +109,7 @@ fn frame_off_grid(profile: Profile) -> Answer
 // Both.
 pub fn refuse_framing(profile: Profile, counts: &mut [u32])
     requires { length counts.old ≡ 41 }
-    ensures { counts.new ≡ answered (Refused (OffGrid 0)) (answered (Refused NoSuchFrame) counts.old) }
+    ensures { counts.new ≡ answered (Err (OffGrid 0)) (answered (Err NoSuchFrame) counts.old) }
 {
     answered(counts, frame_beyond(profile));
     answered(counts, frame_off_grid(profile));

@@ -16,20 +16,14 @@ pub struct Sums {
 fn flips_in(mark: u8) -> u32
     ensures { (result ≡ flips_in mark) × (result ≤ 2) }
 {
-    if mark < 3 {
-        return mark as u32;
-    }
-    0
+    if mark < 3 { u32::from(mark) } else { 0 }
 }
 
 // The lost words that it tells of.
 pub fn lost_in(mark: u8) -> u32
     ensures { (result ≡ lost_in mark) × (result ≤ 1) }
 {
-    if mark == 3 {
-        return 1;
-    }
-    0
+    if mark == 3 { 1 } else { 0 }
 }
 
 // The sums over marks.
@@ -37,12 +31,10 @@ pub fn add_up(marks: &[u8]) -> Sums
     requires { length marks.now ≤ 65536 }
     ensures { result ≡ mark_sums marks.now }
 {
-    let mut flips = 0u32;
-    let mut lost = 0u32;
-    for i in 0..marks.len() {
-        let mark = marks[i];
-        flips = flips + flips_in(mark);
-        lost = lost + lost_in(mark);
+    let mut sums = Sums { flips: 0, lost: 0 };
+    for mark in marks {
+        sums.flips += flips_in(*mark);
+        sums.lost += lost_in(*mark);
     }
-    Sums { flips, lost }
+    sums
 }

@@ -6,7 +6,7 @@ use borrow.Rule.Slice.PartMut.{put_mid}
 use Rattle.bits.specs.Numbers32.{bytes32}
 use Rattle.bits.specs.Parts.{part}
 use Rattle.bits.proofs.PartLaws.{part_behind}
-use Rattle.calls.specs.declared.Answer.TheVariants.{Done}
+use Rattle.std.specs.Prelude.{Ok}
 use Rattle.calls.specs.Answers.{refusal_of, Accepted, TurnedBack}
 use Rattle.calls.specs.Calls.{after}
 use Rattle.calls.proofs.CallLaws.{Own, cases, told, call_accepted, call_keeps}
@@ -25,7 +25,7 @@ use Rattle.pair_spec.specs.Calls.{Received, receive_pair, receive_next, receive_
 -- Where no test refuses, the call is done.
 pub encode_done_lem : (payload coded history : List ℕ) (e P : ℕ) → length payload ≡ 444 → length coded ≡ 512 → length history ≡ history_bytes
     → Own (encoder_of history) (next_pair history) e P → P ≢ 4294967295
-    → (w : EncodeBuffers) → w ≡ encode_next history e P payload → after (Done (P + 1)) w ≡ encode_call payload coded history e P
+    → (w : EncodeBuffers) → w ≡ encode_next history e P payload → after (Ok (P + 1)) w ≡ encode_call payload coded history e P
 encode_done_lem payload coded history e P a b c o d w is = rw is (search cases depth 9)
 
 -- As a worker writes the two.
@@ -56,7 +56,7 @@ pub record EncodeFits (c : Encoding) : Type 0 where
 
 -- What a call leaves where it is done.
 abbrev pub encode_done : Encoding → Encoded
-encode_done c = after (Done (c.pair + 1)) (encode_next c.history c.encoder c.pair c.payload)
+encode_done c = after (Ok (c.pair + 1)) (encode_next c.history c.encoder c.pair c.payload)
 
 -- An accepted call fits, and leaves what encoding gives.
 pub encode_accepted : (c : Encoding) → Accepted (encode c).answer → EncodeFits c × (encode c ≡ encode_done c)
@@ -90,7 +90,7 @@ encode_separate c s = not_lent
 pub receive_done_lem : (coded payload marks' history : List ℕ) (e P : ℕ) → length coded ≡ 512 → length payload ≡ 444 → length marks' ≡ 32
     → length history ≡ history_bytes
     → Own (encoder_of history) (next_pair history) e P → P ≢ 4294967295
-    → (w : ReceiveBuffers) → w ≡ receive_next depth history e P coded → after (Done (P + 1)) w ≡ receive_call coded payload marks' history e P
+    → (w : ReceiveBuffers) → w ≡ receive_next depth history e P coded → after (Ok (P + 1)) w ≡ receive_call coded payload marks' history e P
 receive_done_lem coded payload marks' history e P a b c d o f w is = rw is (search cases depth 10)
 
 pub receive_written : {payload payload' marks marks' history history' : List ℕ} → payload ≡ payload' → marks ≡ marks' → history ≡ history'
@@ -120,7 +120,7 @@ pub record ReceiveFits (c : Receiving) : Type 0 where
 
 -- What a call leaves where it is done, with a history of n pairs.
 abbrev pub receive_done : ℕ → Receiving → Received
-receive_done n c = after (Done (c.pair + 1)) (receive_next n c.history c.encoder c.pair c.coded)
+receive_done n c = after (Ok (c.pair + 1)) (receive_next n c.history c.encoder c.pair c.coded)
 
 pub receive_accepted : (c : Receiving) → Accepted (receive c).answer → ReceiveFits c × (receive c ≡ receive_done depth c)
 unfolding receive

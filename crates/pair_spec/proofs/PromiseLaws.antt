@@ -12,7 +12,7 @@ use Rattle.std.proofs.Math.Decide.{dec_lt}
 use Rattle.std.proofs.Math.ListN.{length, get_or, length-map}
 use Rattle.bits.specs.Bits.{bit}
 use Rattle.bits.proofs.CountLaws.{distance_ext}
-use Rattle.calls.specs.declared.Answer.TheVariants.{Done}
+use Rattle.std.specs.Prelude.{Ok}
 use Rattle.calls.specs.Answers.{Accepted}
 use Rattle.calls.specs.Sequences.{At, Run, accepted}
 use Rattle.calls.proofs.SequenceLaws.{At_lt, At_find, At_map, is_accepted, holds_at}
@@ -113,18 +113,18 @@ module _ (cs : List Receiving) (pair : ℕ → List ℕ) (in_order : (P : ℕ) (
 
   -- and leaves what receiving pair i of it gives.
   pub received_made : (P : ℕ) (c : Receiving) → At (accepted Receivings cs) P c
-      → receive c ≡ after_receive (Done (P + 1)) (payload_out depth (receiver_history depth pair P) P (pair P)) (marks depth (receiver_history depth pair P) P (pair P)) (history_of e (suc P) (receiver_history depth pair (suc P)))
+      → receive c ≡ after_receive (Ok (P + 1)) (payload_out depth (receiver_history depth pair P) P (pair P)) (marks depth (receiver_history depth pair P) P (pair P)) (history_of e (suc P) (receiver_history depth pair (suc P)))
   unfolding receiver_history history_after
   received_made P c a =
       let n = receivings_numbered e small cs run P c a in
       (receive_accepted c (is_accepted Receivings cs a)).1
       ∙ ap₂ (λ h Q. received_of c.encoder h Q c.coded) (receiver_pairs P c a) n.1
       ∙ ap₂ (λ d y. received_of d (receiver_history depth pair P) P y) n.0 (in_order P c a)
-      ∙ ap (λ Q. after_receive (Done (P + 1)) (payload_out depth (receiver_history depth pair P) P (pair P)) (marks depth (receiver_history depth pair P) P (pair P)) (history_of e Q (receiver_history depth pair (suc P)))) (add-one P)
+      ∙ ap (λ Q. after_receive (Ok (P + 1)) (payload_out depth (receiver_history depth pair P) P (pair P)) (marks depth (receiver_history depth pair P) P (pair P)) (history_of e Q (receiver_history depth pair (suc P)))) (add-one P)
     where
       received_of : ℕ → List ℕ → ℕ → List ℕ → Received
       received_of d pairs Q coded =
-          after_receive (Done (Q + 1)) (payload_out depth pairs Q coded) (marks depth pairs Q coded) (history_of d (Q + 1) (shift pairs (newest_pair depth pairs Q coded)))
+          after_receive (Ok (Q + 1)) (payload_out depth pairs Q coded) (marks depth pairs Q coded) (history_of d (Q + 1) (shift pairs (newest_pair depth pairs Q coded)))
 
 -- ---- one word, checked, of a call on pair R div 2 with a history of n pairs that is right and a pair that was delivered
 

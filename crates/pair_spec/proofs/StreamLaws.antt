@@ -9,8 +9,8 @@ use Rattle.std.proofs.Math.ListN.{length}
 use Rattle.bits.specs.Lists.{tabulate}
 use Rattle.bits.specs.Parts.{part, part_of, byte_of_each, end_to_end}
 use Rattle.bits.proofs.PartLaws.{part_long, each_block}
-use Rattle.calls.specs.declared.Answer.{Answer}
-use Rattle.calls.specs.declared.Answer.TheVariants.{Done}
+use Rattle.calls.specs.Answers.{Answer}
+use Rattle.std.specs.Prelude.{Ok}
 use Rattle.calls.specs.Calls.{after}
 use Rattle.pair_spec.specs.History.{depth, shift, fresh}
 use Rattle.pair_spec.proofs.HistoryLaws.{length_shift, history_after}
@@ -37,11 +37,11 @@ module _ (w m k a e : ℕ) (lk : k < m) (ea : a ≡ k * w) (ee : e ≡ a + w) (s
 module _ (m k a b : ℕ) (lk : k < m) (ea : a ≡ k * 444) (eb : b ≡ a + 444) (e number : ℕ) (le : e ≤ 1) (ln : number < 4294967295) (payload : List ℕ)
     (lp : length payload ≡ m * 444) (r : Answer) (c h coded history : List ℕ) (is : after_encode r c h ≡ encode_call (part a (b - a) payload) coded history e number)
     (lc : length coded ≡ 512) (own : BeforePair e number history) where
-  encode_left : after_encode r c h ≡ after (Done (number + 1)) (encode_next history e number (part_of 444 payload k))
+  encode_left : after_encode r c h ≡ after (Ok (number + 1)) (encode_next history e number (part_of 444 payload k))
   encode_left =
       is
       ∙ sym (encode_done_lem (part a (b - a) payload) coded history e number (part_long a b 444 payload eb (omega arith)) lc own.long (own_before own le (omega arith)) (omega arith) _ refl)
-      ∙ ap (λ s. after (Done (number + 1)) (encode_next history e number s)) (lent_is 444 m k a b lk ea eb payload lp)
+      ∙ ap (λ s. after (Ok (number + 1)) (encode_next history e number s)) (lent_is 444 m k a b lk ea eb payload lp)
 
   pub pair_encoded : encode_buffers c h ≡ encode_next history e number (part_of 444 payload k)
   pair_encoded = ap (λ (x : Encoded). x.written) encode_left
@@ -51,11 +51,11 @@ module _ (m k a b : ℕ) (lk : k < m) (ea : a ≡ k * 512) (eb : b ≡ a + 512) 
     (lc : length coded ≡ m * 512) (r : Answer) (y w h payload marks' history : List ℕ)
     (is : after_receive r y w h ≡ receive_call (part a (b - a) coded) payload marks' history e number) (lp : length payload ≡ 444) (lm : length marks' ≡ 32)
     (own : BeforePair e number history) where
-  receive_left : after_receive r y w h ≡ after (Done (number + 1)) (receive_next depth history e number (part_of 512 coded k))
+  receive_left : after_receive r y w h ≡ after (Ok (number + 1)) (receive_next depth history e number (part_of 512 coded k))
   receive_left =
       is
       ∙ sym (receive_done_lem (part a (b - a) coded) payload marks' history e number (part_long a b 512 coded eb (omega arith)) lp lm own.long (own_before own le (omega arith)) (omega arith) _ refl)
-      ∙ ap (λ s. after (Done (number + 1)) (receive_next depth history e number s)) (lent_is 512 m k a b lk ea eb coded lc)
+      ∙ ap (λ s. after (Ok (number + 1)) (receive_next depth history e number s)) (lent_is 512 m k a b lk ea eb coded lc)
 
   pub pair_received : receive_buffers y w h ≡ receive_next depth history e number (part_of 512 coded k)
   pair_received = ap (λ (x : Received). x.written) receive_left

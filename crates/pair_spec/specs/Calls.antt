@@ -4,8 +4,8 @@
 -- directly after 1".
 -- Assumes nothing.
 use Rattle.std.specs.Prelude.{List, [], ◌∷◌, map, ℕ, ◌+◌}
-use Rattle.calls.specs.declared.Answer.{Answer}
-use Rattle.calls.specs.declared.Answer.TheVariants.{Done}
+use Rattle.calls.specs.Answers.{Answer}
+use Rattle.std.specs.Prelude.{Ok}
 use Rattle.calls.specs.Answers.{refusal_of}
 use Rattle.calls.specs.Calls.{After, after, misfit, stray_history, count_spent, call}
 use Rattle.calls.specs.Sequences.{Part, Kind, accepted}
@@ -24,7 +24,7 @@ pub record EncodeBuffers : Type 0 where
 abbrev pub encode_buffers : List ℕ → List ℕ → EncodeBuffers
 encode_buffers coded history = record { coded = coded; history = history }
 
--- What stands after it: Done with the next pair number, and these.
+-- What stands after it: Ok with the next pair number, and these.
 abbrev pub Encoded : Type 0
 Encoded = After EncodeBuffers
 
@@ -45,7 +45,7 @@ encode_call payload coded history e P =
     call
     (misfit payload 444 ∷ misfit coded 512 ∷ misfit history history_bytes ∷ stray_history (encoder_of history) (next_pair history) e P ∷ count_spent P ∷ [])
     (encode_buffers coded history)
-    (after (Done (P + 1)) (encode_next history e P payload))
+    (after (Ok (P + 1)) (encode_next history e P payload))
 
 -- ---- receiving a pair
 
@@ -84,7 +84,7 @@ receive_call coded payload marks' history e P =
     ∷ count_spent P
     ∷ [])
     (receive_buffers payload marks' history)
-    (after (Done (P + 1)) (receive_next depth history e P coded))
+    (after (Ok (P + 1)) (receive_next depth history e P coded))
 
 -- ---- lists of calls
 

@@ -23,7 +23,7 @@ fn encode_next(
 {
     let a = k * 444;
     let e = a + 444;
-    encoder::encode_pair(&payload[a..e], coded, history, encoder, number);
+    let _ = encoder::encode_pair(&payload[a..e], coded, history, encoder, number);
 }
 
 // Encodes the pairs of an encoder, numbered from `first` on.
@@ -69,7 +69,7 @@ fn receive_next(
 {
     let a = k * 512;
     let e = a + 512;
-    receiver::receive_pair(&coded[a..e], payload, marks, history, encoder, number);
+    let _ = receiver::receive_pair(&coded[a..e], payload, marks, history, encoder, number);
 }
 
 // Receives the pairs of an encoder, numbered from `first` on.

@@ -21,24 +21,24 @@ pub fn receive_pair(
     ensures { after_receive result payload.new marks.new history.new ≡ receive_call coded.now payload.old marks.old history.old encoder pair }
 {
     if coded.len() != 512 {
-        return Answer::Refused(Refusal::Misfit);
+        return Err(Refusal::Misfit);
     }
     if payload.len() != 444 {
-        return Answer::Refused(Refusal::Misfit);
+        return Err(Refusal::Misfit);
     }
     if marks.len() != 32 {
-        return Answer::Refused(Refusal::Misfit);
+        return Err(Refusal::Misfit);
     }
     if history.len() != 5128 {
-        return Answer::Refused(Refusal::Misfit);
+        return Err(Refusal::Misfit);
     }
     if history_core::stray(history, encoder, pair) {
-        return Answer::Refused(Refusal::StrayHistory);
+        return Err(Refusal::StrayHistory);
     }
     if pair == SPENT {
-        return Answer::Refused(Refusal::CountSpent);
+        return Err(Refusal::CountSpent);
     }
     receive_into(coded, payload, marks, &mut history[8..], pair);
     history_core::put(encoder, pair + 1, &mut history[0..8]);
-    Answer::Done(pair + 1)
+    Ok(pair + 1)
 }

@@ -3,8 +3,7 @@
 // and coded pairs. Over `cells_core`, `superframe_buffers_core` and `superframe_core`; by the definitions of `superframe_spec`.
 #![tactic(auto)]
 
-ghost use Rattle.std.specs.Prelude.{◌≡◌};
-ghost use Rattle.calls.specs.declared.Answer.TheVariants.{Done};
+ghost use Rattle.std.specs.Prelude.{◌≡◌, Ok};
 ghost use Rattle.profiles_spec.specs.Profiles.{modulation};
 ghost use Rattle.interleaver_spec.specs.Calls.{after_deinterleave};
 ghost use Rattle.superframe_spec.specs.Superframe.{superframe};
@@ -31,7 +30,7 @@ pub fn make(profile: Profile, pairs0: &[u8], pairs1: &[u8], overhead: &[u8], lin
 // The coded pairs of both encoders from legal frames, and the number of overhead cells that differ from the list.
 fn take(profile: Profile, line: &[u8], overhead: &[u8], pairs0: &mut [u8], pairs1: &mut [u8]) -> u32
     requires { LegalFrames (modulation profile) line.now overhead.now × FramesToPairs (modulation profile) line.now overhead.now pairs0.old pairs1.old }
-    ensures { after_deinterleave (Done result) pairs0.new pairs1.new ≡ taken_apart (modulation profile) line.now overhead.now }
+    ensures { after_deinterleave (Ok result) pairs0.new pairs1.new ≡ taken_apart (modulation profile) line.now overhead.now }
 {
     let mut payload = [0; PAYLOAD];
     let differing = superframe_core::unframe_all(profile, line, overhead, &mut payload);
@@ -50,13 +49,11 @@ pub fn take_apart(
     requires { FramesToPairs (modulation profile) line.now overhead.now pairs0.old pairs1.old }
     ensures { after_deinterleave result pairs0.new pairs1.new ≡ take_apart (modulation profile) line.now overhead.now pairs0.old pairs1.old }
 {
-    let list = first_illegal(overhead);
-    if list < overhead.len() {
-        return Answer::Refused(Refusal::OffGrid(list));
+    if let Some(list) = first_illegal(overhead) {
+        return Err(Refusal::OffGrid(list));
     }
-    let at = superframe_core::first_illegal(profile, line);
-    if at < line.len() {
-        return Answer::Refused(Refusal::OffGrid(at));
+    if let Some(at) = superframe_core::first_illegal(profile, line) {
+        return Err(Refusal::OffGrid(at));
     }
-    Answer::Done(take(profile, line, overhead, pairs0, pairs1))
+    Ok(take(profile, line, overhead, pairs0, pairs1))
 }

@@ -21,8 +21,8 @@ fn buffer(profile: Profile, b: usize, pairs0: &[u8], pairs1: &[u8], cells: &mut 
 {
     let a = b * 10752;
     let mut bits = [0u8; 21504];
-    interleaver::interleave(&pairs0[a..a + 10752], &pairs1[a..a + 10752], &mut bits);
-    cells::bits_to_cells(profile, &bits, cells);
+    let _ = interleaver::interleave(&pairs0[a..a + 10752], &pairs1[a..a + 10752], &mut bits);
+    let _ = cells::bits_to_cells(profile, &bits, cells);
 }
 
 // The cells of all.
@@ -41,8 +41,8 @@ fn part_buffer(profile: Profile, b: usize, cells: &[u8], pairs0: &mut [u8], pair
     let n = cell_bytes(profile);
     let a = b * n;
     let mut bits = [0u8; 21504];
-    cells::cells_to_bits(profile, &cells[a..a + n], &mut bits);
-    interleaver::deinterleave(&bits, pairs0, pairs1);
+    let _ = cells::cells_to_bits(profile, &cells[a..a + n], &mut bits);
+    let _ = interleaver::deinterleave(&bits, pairs0, pairs1);
 }
 
 // The pairs of all.

@@ -4,7 +4,7 @@
 
 ghost use Rattle.std.specs.Prelude.{◌≡◌, ◌≤◌, ◌<◌, ◌*◌, length};
 ghost use Rattle.bits.specs.Parts.{part_of};
-ghost use Rattle.cells_spec.specs.Cells.{first_illegal};
+ghost use Rattle.cells_spec.specs.Cells.{first_illegal, found};
 ghost use Rattle.profiles_spec.specs.Profiles.{modulation};
 ghost use Rattle.frame_spec.specs.Frames.{payload_cells, payload_start, unframed};
 ghost use Rattle.superframe_spec.specs.Superframe.{frames_end_to_end, sub_frame};
@@ -28,7 +28,7 @@ fn sub_frame(profile: Profile, s: usize, cells: &[u8], overhead: &[u8], frame: &
     ensures { frame.new ≡ sub_frame cells.now overhead.now s }
 {
     let own = &cells[start(s)..start(s + 1)];
-    frame::frame(profile, s as u32, own, overhead, frame);
+    let _ = frame::frame(profile, s as u32, own, overhead, frame);
 }
 
 // All of them, end to end.
@@ -46,7 +46,7 @@ fn unframe_next(profile: Profile, s: usize, line: &[u8], overhead: &[u8], cells:
 {
     let at = s * 7424;
     let own = &line[at..at + 7424];
-    calls::value_or(frame::unframe(profile, s as u32, own, overhead, cells), 0)
+    frame::unframe(profile, s as u32, own, overhead, cells).unwrap_or(0)
 }
 
 // That of all of them, end to end, and the number of their overhead cells that differ.
@@ -62,18 +62,17 @@ pub fn unframe_all(profile: Profile, line: &[u8], overhead: &[u8], cells: &mut [
     n
 }
 
-// The index of the first illegal byte of all frames, or the number of bytes where all are legal.
-pub fn first_illegal(profile: Profile, line: &[u8]) -> usize
+// The index of the first illegal byte of all frames.
+pub fn first_illegal(profile: Profile, line: &[u8]) -> Option<usize>
     requires { length line.now ≡ 356352 }
-    ensures { result ≡ first_illegal (line_rule (modulation profile)) line.now }
+    ensures { result ≡ found (length line.now) (first_illegal (line_rule (modulation profile)) line.now) }
 {
     for s in 0..48 {
-        let a = s * 7424;
-        let e = a + 7424;
-        let at = frame_legal_core::first_illegal(profile, s as u32, &line[a..e]);
-        if at < 7424 {
-            return a + at;
+        let start = s * 7424;
+        let own = &line[start..start + 7424];
+        if let Some(at) = frame_legal_core::first_illegal(profile, s as u32, own) {
+            return Some(start + at);
         }
     }
-    line.len()
+    None
 }

@@ -15,8 +15,8 @@ use Rattle.bits.specs.Lists.{tabulate}
 use Rattle.bits.specs.ListLaws.{length_tabulate, get_d_tabulate, is_tabulate}
 use Rattle.bits.specs.Parts.{part, part_of, byte_of_each, end_to_end}
 use Rattle.bits.proofs.PartLaws.{part_of_length, part_of_at, part_long, part_within, each_block}
-use Rattle.calls.specs.declared.Answer.{Answer}
-use Rattle.calls.specs.declared.Answer.TheVariants.{Done}
+use Rattle.calls.specs.Answers.{Answer}
+use Rattle.std.specs.Prelude.{Ok}
 use Rattle.calls.specs.Answers.{value_or}
 use Rattle.calls.specs.Calls.{After, after}
 use Rattle.calls.proofs.CallLaws.{cases}
@@ -60,7 +60,7 @@ module _ (p : Modulation) (s : ℕ) (ls : s < 48) (line : List ℕ) (ll : length
   module _ (overhead : List ℕ) (lo : length overhead ≡ 12288) (hl : Legal (line_rule p) line) (ho : Legal overhead_rule overhead) where
     -- Unframing it is accepted.
     pub unframe_is : (lent : List ℕ) → length lent ≡ payload_cells s * 2
-        → unframe_call p s (part_of 7424 line s) overhead lent ≡ after (Done (differing_in line overhead s)) (unframed s (part_of 7424 line s))
+        → unframe_call p s (part_of 7424 line s) overhead lent ≡ after (Ok (differing_in line overhead s)) (unframed s (part_of 7424 line s))
     unfolding differing_in
     unframe_is lent lp =
         unframe_accepts p s overhead (part_of 7424 line s) lent (omega arith) lo frame_long lp (own_legal s overhead (omega arith) lo ho) (frame_legal hl)
@@ -68,7 +68,7 @@ module _ (p : Modulation) (s : ℕ) (ls : s < 48) (line : List ℕ) (ll : length
     -- What the call leaves, lent the part from f to g of the line.
     module _ (f g : ℕ) (ef : f ≡ s * 7424) (eg : g ≡ f + 7424) (r : Answer) (d lent : List ℕ) (is : after r d ≡ unframe_call p s (part f (g - f) line) overhead lent)
         (lp : length lent ≡ payload_cells s * 2) where
-      unframe_left : after r d ≡ after (Done (differing_in line overhead s)) (unframed s (part_of 7424 line s))
+      unframe_left : after r d ≡ after (Ok (differing_in line overhead s)) (unframed s (part_of 7424 line s))
       unframe_left =
           let size : g - f ≡ 7424 = omega arith in
           is ∙ ap₂ (λ x y. unframe_call p s (part x y line) overhead lent) ef size ∙ unframe_is lent lp
@@ -266,7 +266,7 @@ pub ruleset parting = (parting_none, parting_same, parting_below, parting_inside
 
 pub taken_is : (p : Modulation) (line overhead cells x y : List ℕ) (n : ℕ) → n ≡ differing_all line overhead → cells ≡ taken_cells line
     → x ≡ taken_pairs p cells 0
-    → y ≡ taken_pairs p cells 1 → after_deinterleave (Done n) x y ≡ taken_apart p line overhead
+    → y ≡ taken_pairs p cells 1 → after_deinterleave (Ok n) x y ≡ taken_apart p line overhead
 taken_is p line overhead cells x y n en ec ex ey = rw (en, ex, ey, ec)
 
 -- ---- the step

@@ -13,7 +13,7 @@ use Rattle.bits.proofs.DigitLaws.{group_of, place_of, place_lt}
 use Rattle.bits.specs.ListLaws.{length_tabulate, get_d_tabulate, is_tabulate}
 use Rattle.bits.specs.Parts.{part_of, end_to_end}
 use Rattle.bits.proofs.PartLaws.{part_of_length, part_of_at, end_to_end_length, end_to_end_at, part_end_to_end}
-use Rattle.calls.specs.declared.Answer.TheVariants.{Done}
+use Rattle.std.specs.Prelude.{Ok}
 use Rattle.calls.specs.Answers.{value_or}
 use Rattle.calls.specs.Sequences.{At, Run, accepted}
 use Rattle.calls.specs.Calls.{After}
@@ -173,7 +173,7 @@ module _ (p : Modulation) (n : ℕ) (h : ReceivedLine p n) where
     -- THE STEP over super-frame q: the pairs received, and the sum of what each unframing call reports, whatever the buffers were lent
     -- with.
     pub step_back : (pairs0 pairs1 : List ℕ) → take_apart p (received_line q) h.overhead pairs0 pairs1
-        ≡ after_deinterleave (Done (count 48 (λ s. value_or (unframing p n h (48 * q + s)).answer 0))) (received_pairs q side0) (received_pairs q side1)
+        ≡ after_deinterleave (Ok (count 48 (λ s. value_or (unframing p n h (48 * q + s)).answer 0))) (received_pairs q side0) (received_pairs q side1)
     step_back pairs0 pairs1 =
         sym
         (apart_done p (received_line q) h.overhead pairs0 pairs1 _ refl (none_illegal overhead_rule h.overhead h.overhead_legal) _ refl

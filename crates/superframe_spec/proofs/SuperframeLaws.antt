@@ -12,7 +12,7 @@ use Rattle.bits.specs.Filling.{Blocks, blocks_none, blocks_next, blocks_done}
 use Rattle.bits.specs.Lists.{tabulate}
 use Rattle.bits.specs.Parts.{part, part_of, byte_of_each, end_to_end}
 use Rattle.bits.proofs.PartLaws.{part_length, part_at, part_long, end_to_end_length, end_to_end_at, each_block}
-use Rattle.calls.specs.declared.Answer.{Answer}
+use Rattle.calls.specs.Answers.{Answer}
 use Rattle.calls.specs.Calls.{After, after}
 use Rattle.interleaver_spec.specs.Interleaving.{interleaved}
 use Rattle.interleaver_spec.proofs.InterleavingLaws.{length_interleaved}

@@ -5,7 +5,7 @@ use Rattle.std.specs.Prelude.{Bool, List, [], ◌∷◌, ℕ, ◌+◌, ◌-◌, 
 use Rattle.bits.specs.Count.{count}
 use Rattle.bits.specs.Lists.{tabulate}
 use Rattle.bits.specs.Parts.{part_of, end_to_end}
-use Rattle.calls.specs.declared.Answer.TheVariants.{Done}
+use Rattle.std.specs.Prelude.{Ok}
 use Rattle.calls.specs.Calls.{call}
 use Rattle.interleaver_spec.specs.Interleaving.{apart}
 use Rattle.interleaver_spec.specs.Calls.{pair_buffers, Deinterleaved, after_deinterleave}
@@ -42,7 +42,7 @@ line_rule p j v = frame_rule p (j / 7424) (j % 7424) v
 -- What taking a super-frame apart gives: the number of differing overhead cells, and the pairs.
 abbrev pub taken_apart : Modulation → List ℕ → List ℕ → Deinterleaved
 taken_apart p line overhead =
-    after_deinterleave (Done (differing_all line overhead)) (taken_pairs p (taken_cells line) 0) (taken_pairs p (taken_cells line) 1)
+    after_deinterleave (Ok (differing_all line overhead)) (taken_pairs p (taken_cells line) 0) (taken_pairs p (taken_cells line) 1)
 
 -- The step: No. 5, "an illegal byte in cells that the call reads", "overhead list first". The index counts in the whole overhead list, or
 -- in the 48 frames as they stand end to end.

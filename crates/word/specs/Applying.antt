@@ -1,7 +1,7 @@
 -- Laws for code that flips the places of a repair in a word of bytes.
 -- Assumes nothing.
-use Rattle.std.specs.Prelude.{◌≡◌, refl, List, Bool, ℕ, ◌*◌, ◌<◌, length, get_or}
-use Rattle.std.proofs.Common.{sym, ap, ◌∙◌, arith}
+use Rattle.std.specs.Prelude.{◌≡◌, refl, List, Bool, ◌⊎◌, ℕ, ◌<◌, length, get_or}
+use Rattle.std.proofs.Common.{sym, ap, ◌∙◌, inl, inr, arith}
 use Rattle.bits.specs.Bits.{bit, pack, flipped}
 use Rattle.bits.proofs.BitLaws.{bit_lt, bit_pack_of, flipped_lt, length_pack, pack_bit, pack_ext}
 use Rattle.bits.specs.Xor.{◌⊕◌}
@@ -21,28 +21,15 @@ use Rattle.word_spec.specs.declared.Syndromes.{Syndromes}
 use Rattle.word.specs.Checking.{syndromes_are}
 use Rattle.locating_core.specs.Telling.{Told, Inside}
 
-pub inside_one : (r : Repair) (i n : ℕ) → Inside r → r ≡ One i → n ≡ 32 → i < n * 8
-inside_one r i n t e l = omega (arith, rw e at t)
-
-pub inside_second : (r : Repair) (i j n : ℕ) → Inside r → r ≡ Two i j → n ≡ 32 → j < n * 8
-inside_second r i j n t e l = omega (arith, (rw e at t).1)
-
-pub inside_first : (r : Repair) (i j : ℕ) (s t : List ℕ) (f : ℕ → ℕ) → Inside r → r ≡ Two i j → length s ≡ 32 → t ≡ pack (length s) f
-    → i < length t * 8
-inside_first r i j s t f h e l d = omega (arith, (rw e at h).0, ap length d, length_pack (length s) f)
-
 -- Nothing flipped.
 pub apply_none : (s : List ℕ) (r : Repair) → length s ≡ 32 → ((j : ℕ) → get_or s j 0 < 256) → ((w : Word) → repaired r w ≡ w)
     → s ≡ pack 32 (repaired r (bit s))
 apply_none s r l b e = sym (ap (pack 32) (e (bit s)) ∙ pack_bit s 32 l b)
 
-pub sound_none : (r : Repair) → r ≡ Sound → (w : Word) → repaired r w ≡ w
+pub none_flipped : (r : Repair) → (r ≡ Sound) ⊎ (r ≡ Lost) → (w : Word) → repaired r w ≡ w
 unfolding repaired places flip_all
-sound_none r e w = rw e refl
-
-pub lost_none : (r : Repair) → r ≡ Lost → (w : Word) → repaired r w ≡ w
-unfolding repaired places flip_all
-lost_none r e w = rw e refl
+none_flipped r (inl e) w = rw e refl
+none_flipped r (inr e) w = rw e refl
 
 pub apply_one : (s d : List ℕ) (r : Repair) (i : ℕ) → length s ≡ 32 → r ≡ One i → d ≡ pack (length s) (flipped i (bit s))
     → d ≡ pack 32 (repaired r (bit s))
@@ -71,7 +58,7 @@ repaired_in_place s d front v y r e ey t ed =
 pub sound_in_place : (s : List ℕ) (front : Bool) (v : ℕ) → length s ≡ 32 → ((j : ℕ) → get_or s j 0 < 256) → (v ≡ check (bit s)) × (v < 131072)
     → v ≡ 0 → (Sound ≡ repair front (bit s)) × (s ≡ pack 32 (repaired (repair front (bit s)) (bit s)))
 unfolding added repaired places flip_all
-sound_in_place s front v l b e z = (is, apply_none s (repair front (bit s)) l b (sound_none (repair front (bit s)) (sym is)))
+sound_in_place s front v l b e z = (is, apply_none s (repair front (bit s)) l b (none_flipped (repair front (bit s)) (inl (sym is))))
   where
     bits : Bits (bit s)
     bits k h = bit_lt s k
@@ -82,4 +69,4 @@ sound_in_place s front v l b e z = (is, apply_none s (repair front (bit s)) l b 
     is : Sound ≡ repair front (bit s)
     is = sym (repair_is front (bit s) bits Sound tt (code_ext _ _ same (checked_code (bit s) bits)))
 
-pub ruleset applying = (inside_one, inside_second, inside_first, apply_one, apply_two)
+pub ruleset applying = (apply_one, apply_two)

@@ -4,14 +4,12 @@
 
 pub mod checks;
 pub mod syndrome;
-pub mod tables;
+mod tables;
 
 ghost use Rattle.std.specs.Prelude.{◌≡◌, ◌<◌, length};
 ghost use Rattle.bits.specs.Bits.{bit, pack};
 ghost use Rattle.word_spec.specs.Repair.{repair, repaired, mark};
 ghost use Rattle.word_spec.specs.Checks.{check};
-ghost use Rattle.gf256.specs.Tables.{powers, logs as exponents, cubed};
-ghost use Rattle.locating_core.specs.Roots.{rooted};
 ghost use Rattle.locating_core.specs.Telling.{Inside};
 ghost use Rattle.word_spec.specs.Calls.{repair_call};
 ghost use Rattle.calls.specs.Calls.{after};
@@ -26,40 +24,30 @@ fn apply(w: &mut [u8], r: Repair)
     ensures { w.new ≡ pack 32 (repaired r (bit w.old)) }
 {
     match r {
-        Repair::Sound => {}
+        Repair::Sound | Repair::Lost => {}
         Repair::One(i) => bits::flip(w, i),
         Repair::Two(i, j) => {
             bits::flip(w, j);
             bits::flip(w, i);
         }
-        Repair::Lost => {}
     }
 }
 
 // Repairs a word of 32 bytes that has these check bits, and says what it flipped; `front` says whether flips may fall in the front half.
-// The tables are those of powers, exponents, cubes and roots. A word whose check bits are all zero needs no repair.
-fn repair_in_place(
-    w: &mut [u8],
-    v: u32,
-    front: bool,
-    table: &[u8; 255],
-    logs: &[u8; 256],
-    cubes: &[u8; 256],
-    roots: &[u8; 256],
-) -> Repair
-    requires { (length w.old ≡ 32) × ((v ≡ check (bit w.old)) × (v < 131072)) × (table.now ≡ powers) × (logs.now ≡ exponents) × (cubes.now ≡ cubed) × (roots.now ≡ rooted) }
+// A word whose check bits are all zero needs no repair.
+fn repair_in_place(w: &mut [u8], v: u32, front: bool) -> Repair
+    requires { (length w.old ≡ 32) × ((v ≡ check (bit w.old)) × (v < 131072)) }
     ensures { (result ≡ repair front (bit w.old)) × (w.new ≡ pack 32 (repaired (repair front (bit w.old)) (bit w.old))) }
 {
     if v == 0 {
         return Repair::Sound;
     }
-    let s = syndrome::tail_syndromes(v, table, cubes);
-    let r = locating::repair_told(s, front, table, logs, cubes, roots);
+    let r = locating::repair_told(syndrome::tail_syndromes(v), front);
     apply(w, r);
     r
 }
 
-// The number of a repair: its flips, or 3 for lost.
+// The number of a repair: its flips, or 3 for lost. (A `From` would have to stand in `word_spec`, whose two types have no functions.)
 pub fn mark_of(r: Repair) -> u8
     ensures { (result ≡ mark r) × (result < 4) }
 {
@@ -76,14 +64,9 @@ pub fn repair_word(word: &mut [u8], front: bool) -> Answer
     ensures { after result word.new ≡ repair_call word.old front }
 {
     if word.len() != 32 {
-        return Answer::Refused(Refusal::Misfit);
+        return Err(Refusal::Misfit);
     }
-    let columns = tables::checks();
-    let v = checks::check_of(word, &columns);
-    let table = gf256::powers();
-    let logs = gf256::logs();
-    let cubes = gf256::cubes();
-    let roots = locating_core::roots();
-    let r = repair_in_place(word, v, front, &table, &logs, &cubes, &roots);
-    Answer::Done(mark_of(r) as u32)
+    let v = checks::check_of(word);
+    let r = repair_in_place(word, v, front);
+    Ok(u32::from(mark_of(r)))
 }

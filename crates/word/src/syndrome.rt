@@ -2,38 +2,19 @@
 ghost use Rattle.std.specs.Prelude.{◌≡◌, ◌<◌};
 ghost use Rattle.word_spec.specs.Syndromes.{locator, syndromes_of};
 ghost use Rattle.word_spec.specs.Checks.{tail};
-ghost use Rattle.gf256.specs.Tables.{powers, cubed};
-ghost use Rattle.word.specs.Partial.{absorbed};
 
 use word_spec::Syndromes;
 
-// The element of GF(256) that stands for a place, from the table of powers.
-fn locator(k: usize, table: &[u8; 255]) -> u8
-    requires { (k < 256) × (table.now ≡ powers) }
+// The element of GF(256) that stands for a place.
+fn locator(k: usize) -> u8
+    requires { k < 256 }
     ensures { result ≡ locator k }
 {
-    if k < 255 { table[254 - k] } else { 0 }
-}
-
-// The syndromes with bit k taken in.
-fn absorb(s: Syndromes, b: u8, k: usize, table: &[u8; 255], cubes: &[u8; 256]) -> Syndromes
-    requires { (s.parity < 2) × (b < 2) × (k < 256) × (table.now ≡ powers) × (cubes.now ≡ cubed) }
-    ensures { result ≡ absorbed s b k }
-{
-    if b == 0 {
-        return s;
-    }
-    let x = locator(k, table);
-    Syndromes {
-        s1: s.s1 ^ x,
-        s3: s.s3 ^ gf256::cube_in(cubes, x),
-        parity: 1 - s.parity,
-    }
+    if k < 255 { gf256::power(254 - k) } else { 0 }
 }
 
 // The syndromes of a word that has check bits v alone, which are those of every word with these check bits.
-pub fn tail_syndromes(v: u32, table: &[u8; 255], cubes: &[u8; 256]) -> Syndromes
-    requires { (table.now ≡ powers) × (cubes.now ≡ cubed) }
+pub fn tail_syndromes(v: u32) -> Syndromes
     ensures { result ≡ syndromes_of (tail v) }
 {
     let mut s = Syndromes {
@@ -42,8 +23,12 @@ pub fn tail_syndromes(v: u32, table: &[u8; 255], cubes: &[u8; 256]) -> Syndromes
         parity: 0,
     };
     for k in 239..256 {
-        let b = ((v >> (255 - k)) % 2) as u8;
-        s = absorb(s, b, k, table, cubes);
+        if (v >> (255 - k)) % 2 == 1 {
+            let x = locator(k);
+            s.s1 ^= x;
+            s.s3 ^= gf256::cube(x);
+            s.parity ^= 1;
+        }
     }
     s
 }

@@ -1,26 +1,19 @@
 -- Laws of the call that repairs a word.
 -- Assumes nothing.
 use Rattle.std.specs.Prelude.{◌≡◌, refl, Bool, List, ℕ, ◌<◌, length, get_or}
-use Rattle.std.proofs.Common.{sym, ap, ◌∙◌, arith}
+use Rattle.std.proofs.Common.{sym, ap, ◌∙◌}
 use Rattle.bits.specs.Bits.{bit, pack}
 use Rattle.bits.proofs.BitLaws.{pack_bit, pack_ext}
 use Rattle.calls.specs.Answers.{TurnedBack}
-use Rattle.calls.specs.declared.Answer.TheVariants.{Done}
+use Rattle.std.specs.Prelude.{Ok}
 use Rattle.calls.specs.Calls.{After, after}
 use Rattle.calls.proofs.CallLaws.{cases, call_keeps}
-use Rattle.word_spec.specs.CodeWord.{Word, parity}
-use Rattle.word_spec.specs.Syndromes.{syndromes_of}
 use Rattle.word_spec.specs.Repair.{repair, repaired, mark}
 use Rattle.word_spec.specs.Marks.{lost, mark_meaning}
 use Rattle.word_spec.proofs.RepairLaws.{lost_unaltered}
 use Rattle.word_spec.specs.Calls.{repair_call}
 use Rattle.word_spec.specs.declared.Repair.{Repair}
 use Rattle.word_spec.specs.declared.Repair.TheVariants.{Sound, One, Two, Lost}
-use Rattle.word_spec.specs.declared.Syndromes.{Syndromes}
-
-pub parity_small : (s : Syndromes) (w : Word) → s ≡ syndromes_of w → s.parity < 2
-unfolding syndromes_of parity
-parity_small s w e = rw e (omega arith)
 
 -- ---- the number of a repair
 
@@ -47,7 +40,7 @@ pub ruleset marking = (mark_sound, mark_one, mark_two, mark_three)
 module _ (word : List ℕ) (front : Bool) where
   -- Every word of 32 bytes is accepted.
   pub repair_done : (r : Repair) (m : ℕ) (d : List ℕ) → length word ≡ 32 → r ≡ repair front (bit word) → m ≡ mark r
-      → d ≡ pack 32 (repaired (repair front (bit word)) (bit word)) → after (Done m) d ≡ repair_call word front
+      → d ≡ pack 32 (repaired (repair front (bit word)) (bit word)) → after (Ok m) d ≡ repair_call word front
   repair_done r m d l e f g = rw (g, f, e) (search cases)
 
   -- A refused call leaves the word as it was.

@@ -125,40 +125,6 @@ module _ (w : Word) (b : Bits w) where
       gone x y = simp sums
   fits_code Lost t f = absurd f
 
--- The cases of `confined`, as code tells them.
-pub confined_front : (r : Repair) (b : Bool) → b ≡ true → r ≡ confined b r
-unfolding confined
-confined_front r true e = refl
-confined_front r false e = absurd (let q : ◌≡◌ {A = ℕ} 0 1 = ap (λ (t : Bool). cond t 1 0) e in omega arith)
-
-module _ (b : Bool) (e : b ≡ false) (r : Repair) where
-  pub confined_sound : r ≡ Sound → Sound ≡ confined b r
-  unfolding confined
-  confined_sound d = rw (e, d) refl
-
-  pub confined_lost : r ≡ Lost → Lost ≡ confined b r
-  unfolding confined
-  confined_lost d = rw (e, d) refl
-
-  pub confined_one_front : (i : ℕ) → r ≡ One i → i < 128 → Lost ≡ confined b r
-  unfolding confined
-  confined_one_front i d l = rw (e, d) (simp (lt-ltb i 128 l))
-
-  pub confined_one_back : (i : ℕ) → r ≡ One i → 128 ≤ i → One i ≡ confined b r
-  unfolding confined
-  confined_one_back i d l = rw (e, d) (simp (le-ltb i 128 l))
-
-  pub confined_two_front : (i j : ℕ) → r ≡ Two i j → i < 128 → Lost ≡ confined b r
-  unfolding confined
-  confined_two_front i j d l = rw (e, d) (simp (lt-ltb i 128 l))
-
-  pub confined_two_back : (i j : ℕ) → r ≡ Two i j → 128 ≤ i → Two i j ≡ confined b r
-  unfolding confined
-  confined_two_back i j d l = rw (e, d) (simp (le-ltb i 128 l))
-
-pub ruleset confining =
-    (confined_front, confined_sound, confined_lost, confined_one_front, confined_one_back, confined_two_front, confined_two_back)
-
 pub one_lost : (i : ℕ) → One i ≢ Lost
 one_lost i e = let z : ◌≡◌ {A = ℕ} 0 1 = cc in omega arith
 

@@ -2,7 +2,7 @@
 -- Assumes nothing.
 use Rattle.std.specs.Prelude.{Bool, List, [], ◌∷◌, ℕ}
 use Rattle.bits.specs.Bits.{bit, pack}
-use Rattle.calls.specs.declared.Answer.TheVariants.{Done}
+use Rattle.std.specs.Prelude.{Ok}
 use Rattle.calls.specs.Calls.{After, after, misfit, call}
 use Rattle.word_spec.specs.Repair.{repair, repaired, mark}
 
@@ -10,4 +10,4 @@ use Rattle.word_spec.specs.Repair.{repair, repaired, mark}
 abbrev pub repair_call : List ℕ → Bool → After (List ℕ)
 repair_call word front =
     call (misfit word 32 ∷ []) word
-    (after (Done (mark (repair front (bit word)))) (pack 32 (repaired (repair front (bit word)) (bit word))))
+    (after (Ok (mark (repair front (bit word)))) (pack 32 (repaired (repair front (bit word)) (bit word))))

@@ -4,7 +4,6 @@ use Rattle.std.specs.Prelude.{◌≡◌, Bool, ◌≢◌, ltb}
 use Rattle.std.proofs.Math.Bool.{true, false, cond}
 use Rattle.bits.specs.Xor.{◌⊕◌}
 use Rattle.gf256.specs.Field.{cube}
-use Rattle.word_spec.specs.CodeWord.{parity}
 use Rattle.word_spec.specs.Syndromes.{locator}
 use Rattle.word_spec.specs.Search.{Allowed}
 use Rattle.word_spec.specs.declared.Repair.{Repair}

@@ -1,8 +1,6 @@
 -- Which repairs the search goes through.
 -- Assumes nothing.
 use Rattle.std.specs.Prelude.{ℕ, ◌<◌, ◌≤◌}
-use mathlib.Core.List.Memᴰ
-use mathlib.Core.List.{[]}
 use Rattle.word_spec.specs.declared.Repair.{Repair}
 use Rattle.word_spec.specs.declared.Repair.TheVariants.{Sound, One, Two, Lost}
 

@@ -3,8 +3,8 @@ use Rattle.std.proofs.Common.{rules}
 use Rattle.superframe_spec.proofs.LegalLaws.{judging_line}
 use Rattle.superframe_core.proofs.first_illegal.Goals as goal
 
-pub returns-then-at-lt7424 : goal.returns-then-at-lt7424
-returns-then-at-lt7424 c = search (rules, judging_line)
+pub returns-in-Some : goal.returns-in-Some
+returns-in-Some c = search (rules, judging_line)
 
 pub loop-s-preserved : goal.loop-s-preserved
 loop-s-preserved c = search (rules, judging_line)

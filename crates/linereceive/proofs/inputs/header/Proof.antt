@@ -4,8 +4,8 @@ use mathlib.Core.Path.{◌≡◌, refl, ap, ◌∙◌}
 use mathlib.Core.List.{List}
 use Prim.Native.Nat.{ℕ, ◌≤◌}
 use native.Mathlib.Omega.{arith}
-use Rattle.calls.specs.declared.Answer.{Answer}
-use Rattle.calls.specs.declared.Answer.TheVariants.{Done, Refused}
+use Rattle.calls.specs.Answers.{Answer}
+use Rattle.std.specs.Prelude.{Ok, Err}
 use Rattle.line_file_spec.specs.declared.Header.{Header}
 use Rattle.line_file_spec.specs.Header.{header_number, judged}
 use Rattle.line_file_spec.proofs.HeaderLaws.{judged_done, judged_refused}
@@ -17,11 +17,11 @@ at_most : (bytes : List ℕ) (size : ℕ) (h : Header) → h ≡ judged bytes si
 at_most bytes size h e = go (judged bytes size).answer refl
   where
     go : (a : Answer) → (judged bytes size).answer ≡ a → h.superframes ≤ 64
-    go (Done v) p =
+    go (Ok v) p =
         let s = judged_done bytes size v p in
         let is : h.superframes ≡ header_number bytes 0 = ap (λ (x : Header). x.superframes) (e ∙ s.is) in
         omega (arith, s.rules.most)
-    go (Refused r) p =
+    go (Err r) p =
         let none : h.superframes ≡ 0 = ap (λ (x : Header). x.superframes) (e ∙ judged_refused bytes size r p) in omega arith
 
 pub header_spec : {M : Type 1} → statement M
