@@ -1,13 +1,13 @@
 // S1 and S3 of the words side by side: of each block, for the sixteen words of a row; then, for the 32 of both rows, of two blocks, of
 // four and of all eight. A lane is one of eight columns of sixteen numbers, number 8i+C in lane C. Two lanes do not fill a vector: from
 // four lanes on, two go together in numbers of 64 bits, and each operation serves both.
-ghost use Rattle.std.specs.Prelude.{◌≡◌, ℕ, [], ◌+◌, ◌*◌, ◌%◌, ◌<◌, get_or};
+ghost use Rattle.std.specs.Prelude.{◌≡◌, ℕ, [], ◌∷◌, ◌+◌, ◌*◌, ◌%◌, ◌<◌, get_or};
 ghost use Rattle.bits.specs.Lists.{tabulate};
 ghost use Rattle.bits.specs.Xor.{◌⊕◌, xor_sum};
 ghost use Rattle.blocks.specs.Laying.{Laid};
 ghost use Rattle.blocks.specs.SideBySide.{laid};
 ghost use Rattle.gathering_spec.specs.Sums.{halves_lane, lane64, lanes32, lane16, joined_rows};
-ghost use Rattle.gathering_core.specs.Lanes.{Levelled};
+ghost use Rattle.gathering_core.specs.Lanes.{column, Levelled};
 
 use bits::pair_up;
 use blocks::laying::laid_by;
@@ -102,29 +102,30 @@ fn lane_64(z: &[u32; 128], c: usize) -> [u32; 16]
     added(&s, &b)
 }
 
-// Of eight sums four.
-fn by_four(x: &[u32; 128]) -> [[u32; 16]; 4]
-    ensures { result ≡ tabulate 4 (lane64 x.now) }
+// Of eight sums four, side by side: so the compiler forms the four at once.
+fn by_four(x: &[u32; 128]) -> [[u32; 4]; 16]
+    ensures { result ≡ tabulate 16 (λ i. tabulate 4 (λ C. get_or (lane64 x.now C) i 0)) }
 {
-    [lane_64(x, 0), lane_64(x, 1), lane_64(x, 2), lane_64(x, 3)]
+    let a = lane_64(x, 0);
+    let b = lane_64(x, 1);
+    let c = lane_64(x, 2);
+    let d = lane_64(x, 3);
+    array::from_fn(
+        |i| -> [u32; 4]
+            requires { i < 16 }
+            ensures { result ≡ get_or a i 0 ∷ get_or b i 0 ∷ get_or c i 0 ∷ get_or d i 0 ∷ [] }
+        { [a[i], b[i], c[i], d[i]] },
+    )
 }
 
 // ---- two lanes in numbers of 64 bits
 
-// Lane b in the upper halves of the numbers, lane a in the lower.
-fn paired(a: &[u32; 16], b: &[u32; 16]) -> [u64; 16]
-    ensures { result ≡ tabulate 16 (λ i. get_or b.now i 0 * 4294967296 + get_or a.now i 0 % 4294967296) }
+// Of four sums two, both at once: those of blocks that lie 32 places apart. Two numbers that lie side by side in memory are read as one.
+fn by_two(four: &[[u32; 4]; 16]) -> [u64; 16]
+    ensures { result ≡ lanes32 (laid (column four.now)) }
 {
-    array::from_fn(|i| pair_up(b[i], a[i]))
-}
-
-// Of four sums two, both at once: those of blocks that lie 32 places apart.
-fn by_two(four: &[[u32; 16]; 4]) -> [u64; 16]
-    ensures { result ≡ lanes32 (laid (λ C. get_or four.now C [])) }
-{
-    let [l0, l1, l2, l3] = four;
-    let f = paired(l0, l1);
-    let b = paired(l2, l3);
+    let f = array::from_fn(|i| pair_up(four[i][1], four[i][0]));
+    let b = array::from_fn(|i| pair_up(four[i][3], four[i][2]));
     let s = moved_sums_core::up32(&f);
     added(&s, &b)
 }
