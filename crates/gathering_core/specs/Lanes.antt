@@ -6,8 +6,8 @@ use Rattle.std.proofs.Common.{sym, ap, ap₂, ◌∙◌, arith}
 use Rattle.bits.specs.Lists.{tabulate}
 use Rattle.bits.specs.ListLaws.{length_tabulate, get_d_tabulate, is_tabulate, tabulate_ext}
 use Rattle.bits.specs.Xor.{◌⊕◌}
-use Rattle.blocks.specs.SideBySide.{laid_word, laid}
-use Rattle.blocks.specs.Laying.{Laid}
+use Rattle.blocks.specs.SideBySide.{laid_in}
+use Rattle.blocks.specs.Laying.{Laid, laid_none, laid_more, laid_fewer}
 use Rattle.networks_spec.specs.Networks.{network, lane, added, back_columns, front_columns, up64_columns, up32_columns, up16_columns}
 use Rattle.gathering_spec.specs.Sums.{halves_lane, lane64, paired_number, paired_lanes, lanes32, lower_halves, upper_halves, lane16, joined_rows}
 
@@ -56,51 +56,10 @@ module _ (z f b s r : List ℕ) where
   unfolding lane16
   made16 = raised up16_columns f b s r
 
--- ---- lanes one by one, and laid side by side
+-- ---- lanes laid side by side, with the bounds of the loop
 
-pub laid_number : (g : ℕ → List ℕ) (C i : ℕ) → C < 8 → i < 16 → get_or (laid g) (8 * i + C) 0 ≡ get_or (g C) i 0
-unfolding laid laid_word
-laid_number g C i lC li =
-    let m : (8 * i + C) % 8 ≡ C = omega arith in
-    let d : (8 * i + C) / 8 ≡ i = omega arith in
-    get_d_tabulate 128 (laid_word g) (8 * i + C) 0 (omega arith) ∙ rw (m, d)
+pub laid_four : {f : ℕ → List ℕ} {C : ℕ} {from : List ℕ} (b row : List ℕ) → Laid f C from → C < 4 → row ≡ laid_in from C b → b ≡ f C
+    → Laid f (C + 1) row
+laid_four b row h l e p = laid_more b row h (omega arith) e p
 
-pub paired_made : (g : ℕ → List ℕ) (C : ℕ) {f : List ℕ} → C < 7 → f ≡ tabulate 16 (λ i. get_or (g (C + 1)) i 0 * 4294967296 + get_or (g C) i 0 % 4294967296)
-    → f ≡ paired_lanes (laid g) C
-unfolding paired_lanes paired_number
-paired_made g C l e =
-    e
-    ∙ tabulate_ext 16 (λ i. get_or (g (C + 1)) i 0 * 4294967296 + get_or (g C) i 0 % 4294967296) (paired_number (laid g) C)
-    (λ i li.
-    let s : 8 * i + C + 1 ≡ 8 * i + (C + 1) = omega arith in
-    ap₂ (λ u v. u * 4294967296 + v % 4294967296) (sym (ap (λ x. get_or (laid g) x 0) s ∙ laid_number g (C + 1) i (omega arith) li)) (sym (laid_number g C i (omega arith) li)))
-
--- Four lanes side by side, number i of lane C in row i; and where f gives the lanes.
-abbrev pub column : List (List ℕ) → ℕ → List ℕ
-column rows C = tabulate 16 (λ i. get_or (get_or rows i []) C 0)
-
-pub four_row : (f : ℕ → List ℕ) (i : ℕ) (a b c d y : List ℕ) → y ≡ (get_or a i 0 ∷ get_or b i 0 ∷ get_or c i 0 ∷ get_or d i 0 ∷ []) → a ≡ f 0 → b ≡ f 1 → c ≡ f 2
-    → d ≡ f 3 → y ≡ tabulate 4 (λ C. get_or (f C) i 0)
-unfolding tabulate
-four_row f i a b c d y e p q r s = cc
-
-pub four_laid : (f : ℕ → List ℕ) (rows : List (List ℕ)) → rows ≡ tabulate 16 (λ i. tabulate 4 (λ C. get_or (f C) i 0)) → Laid f 4 (laid (column rows))
-unfolding laid laid_word
-four_laid f rows e =
-    record {
-      upto = omega arith;
-      long = length_tabulate 128 (laid_word (column rows));
-      at = λ x l p.
-          let i : x / 8 < 16 = omega arith in
-          get_d_tabulate 128 (laid_word (column rows)) x 0 l ∙ get_d_tabulate 16 (λ i. get_or (get_or rows i []) (x % 8) 0) (x / 8) 0 i
-          ∙ ap (λ (t : List (List ℕ)). get_or (get_or t (x / 8) []) (x % 8) 0) e
-          ∙ ap (λ (t : List ℕ). get_or t (x % 8) 0) (get_d_tabulate 16 (λ i. tabulate 4 (λ C. get_or (f C) i 0)) (x / 8) [] i)
-          ∙ get_d_tabulate 4 (λ C. get_or (f C) (x / 8) 0) (x % 8) 0 p;
-    }
-
--- Two of them in numbers of 64 bits.
-pub paired_rows : (rows : List (List ℕ)) (C : ℕ) (f : List ℕ) → C < 7
-    → f ≡ tabulate 16 (λ i. get_or (get_or rows i []) (C + 1) 0 * 4294967296 + get_or (get_or rows i []) C 0 % 4294967296) → f ≡ paired_lanes (laid (column rows)) C
-paired_rows rows C f l e =
-    paired_made (column rows) C l
-    (e ∙ tabulate_ext 16 _ _ (λ i li. ap₂ (λ u v. u * 4294967296 + v % 4294967296) (sym (get_d_tabulate 16 (λ i. get_or (get_or rows i []) (C + 1) 0) i 0 li)) (sym (get_d_tabulate 16 (λ i. get_or (get_or rows i []) C 0) i 0 li))))
+pub ruleset lanes_laid = (laid_none, laid_four, laid_fewer)
