@@ -1,15 +1,15 @@
 -- The lanes of eight, four and two, as code goes through them.
 -- Assumes nothing.
-use Rattle.std.specs.Prelude.{◌≡◌, List, [], ◌∷◌, ℕ, ◌+◌, ◌*◌, ◌/◌, ◌%◌, ◌<◌, length, get_or}
+use Rattle.std.specs.Prelude.{◌≡◌, List, ℕ, ◌+◌, ◌*◌, ◌<◌, length, get_or}
 use Rattle.std.specs.Int.Bits.{bit_xor}
-use Rattle.std.proofs.Common.{sym, ap, ap₂, ◌∙◌, arith}
+use Rattle.std.proofs.Common.{ap, ap₂, ◌∙◌, arith}
 use Rattle.bits.specs.Lists.{tabulate}
-use Rattle.bits.specs.ListLaws.{length_tabulate, get_d_tabulate, is_tabulate, tabulate_ext}
+use Rattle.bits.specs.ListLaws.{is_tabulate}
 use Rattle.bits.specs.Xor.{◌⊕◌}
 use Rattle.blocks.specs.SideBySide.{laid_in}
 use Rattle.blocks.specs.Laying.{Laid, laid_none, laid_more, laid_fewer}
 use Rattle.networks_spec.specs.Networks.{network, lane, added, back_columns, front_columns, up64_columns, up32_columns, up16_columns}
-use Rattle.gathering_spec.specs.Sums.{halves_lane, lane64, paired_number, paired_lanes, lanes32, lower_halves, upper_halves, lane16, joined_rows}
+use Rattle.gathering_spec.specs.Sums.{halves_lane, lane64, paired_lanes, lanes32, lower_halves, upper_halves, lane16, joined_rows}
 
 -- s came, level by level, from the sums of the blocks of two rows.
 pub record Levelled (a b s : List ℕ) : Type 0 where
