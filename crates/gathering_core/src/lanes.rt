@@ -1,12 +1,12 @@
 // S1 and S3 of the words side by side: of each block, for the sixteen words of a row; then, for the 32 of both rows, of two blocks, of
 // four and of all eight. A lane is one of eight columns of sixteen numbers, number 8i+C in lane C. Two lanes do not fill a vector: from
 // four lanes on, two go together in numbers of 64 bits, and each operation serves both.
-ghost use Rattle.std.specs.Prelude.{◌≡◌, ℕ, [], ◌+◌, ◌*◌, ◌%◌, ◌<◌, get_or};
+ghost use Rattle.std.specs.Prelude.{◌≡◌, ℕ, ◌+◌, ◌*◌, ◌%◌, ◌<◌, length, get_or};
 ghost use Rattle.bits.specs.Lists.{tabulate};
 ghost use Rattle.bits.specs.Xor.{◌⊕◌, xor_sum};
 ghost use Rattle.blocks.specs.Laying.{Laid};
-ghost use Rattle.blocks.specs.SideBySide.{laid};
-ghost use Rattle.gathering_spec.specs.Sums.{halves_lane, lane64, lanes32, lane16, joined_rows};
+ghost use Rattle.blocks.specs.SideBySide.{laid_in};
+ghost use Rattle.gathering_spec.specs.Sums.{halves_lane, lane64, paired_lanes, lanes32, lane16, joined_rows};
 ghost use Rattle.gathering_core.specs.Lanes.{Levelled};
 
 use bits::pair_up;
@@ -102,29 +102,45 @@ fn lane_64(z: &[u32; 128], c: usize) -> [u32; 16]
     added(&s, &b)
 }
 
-// Of eight sums four.
-fn by_four(x: &[u32; 128]) -> [[u32; 16]; 4]
-    ensures { result ≡ tabulate 4 (lane64 x.now) }
+// Puts sixteen numbers into a lane. `blocks::lay` does the same of numbers of sixteen bits: `laid_in`, by which both are stated, is of
+// lists of numbers, and what is stated for any type would have to be proved of these two again.
+fn put_lane(z: &mut [u32], c: usize, v: &[u32; 16])
+    requires { (length z.old ≡ 128) × (c < 8) }
+    ensures { z.new ≡ laid_in z.old c v.now }
 {
-    [lane_64(x, 0), lane_64(x, 1), lane_64(x, 2), lane_64(x, 3)]
+    for (i, x) in v.iter().enumerate() {
+        z[8 * i + c] = *x;
+    }
+}
+
+// Of eight sums four. In a loop that puts each number beside those of the other lanes the compiler forms all four at once; with the lanes
+// as the elements of an array it does not, and takes twice as long.
+fn by_four(x: &[u32; 128]) -> [u32; 128]
+    ensures { Laid (lane64 x.now) 4 result }
+{
+    let mut z = [0u32; 128];
+    for c in 0..4 {
+        put_lane(&mut z, c, &lane_64(x, c));
+    }
+    z
 }
 
 // ---- two lanes in numbers of 64 bits
 
-// Lane b in the upper halves of the numbers, lane a in the lower.
-fn paired(a: &[u32; 16], b: &[u32; 16]) -> [u64; 16]
-    ensures { result ≡ tabulate 16 (λ i. get_or b.now i 0 * 4294967296 + get_or a.now i 0 % 4294967296) }
+// Lanes C and C + 1, the second in the upper halves: two numbers that lie side by side in memory are then read as one.
+fn two_lanes(z: &[u32; 128], c: usize) -> [u64; 16]
+    requires { c < 7 }
+    ensures { result ≡ paired_lanes z.now c }
 {
-    array::from_fn(|i| pair_up(b[i], a[i]))
+    array::from_fn(|i| pair_up(z[8 * i + c + 1], z[8 * i + c]))
 }
 
 // Of four sums two, both at once: those of blocks that lie 32 places apart.
-fn by_two(four: &[[u32; 16]; 4]) -> [u64; 16]
-    ensures { result ≡ lanes32 (laid (λ C. get_or four.now C [])) }
+fn by_two(z: &[u32; 128]) -> [u64; 16]
+    ensures { result ≡ lanes32 z.now }
 {
-    let [l0, l1, l2, l3] = four;
-    let f = paired(l0, l1);
-    let b = paired(l2, l3);
+    let f = two_lanes(z, 0);
+    let b = two_lanes(z, 2);
     let s = moved_sums_core::up32(&f);
     added(&s, &b)
 }

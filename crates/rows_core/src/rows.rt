@@ -8,11 +8,11 @@ ghost use Rattle.pair_spec.specs.History.{depth};
 ghost use Rattle.rows_core.specs.Held.{Fronts, Backs};
 ghost use Rattle.rows_core.specs.RowWords.{row_words, front_block, front_words, fronts_in, backs_in, coded_half, coded_halves, half_block, turned_rows, columns_of};
 
+use bits::parts::fill_parts;
 use blocks::laying::laid_by;
 use blocks::{block_in, block_of, read_word};
 use permutation_core::{exchange_columns, exchange_rows, transpose};
 use std::array;
-
 // The words of the row that starts at a byte.
 fn row_words(s: &[u8], from: usize) -> [u16; 128]
     requires { from + 256 ≤ length s.now }
@@ -80,9 +80,11 @@ pub fn put_halves(coded: &[u8], halves: &mut [u16])
     requires { (length coded.now ≡ 512) × (length halves.old ≡ 256) }
     ensures { halves.new ≡ coded_halves coded.now }
 {
-    let (first, second) = halves.split_at_mut(128);
-    first.copy_from_slice(&coded_row(coded, 0));
-    second.copy_from_slice(&coded_row(coded, 1));
+    fill_parts(
+        halves,
+        128,
+        |s, half| half.copy_from_slice(&coded_row(coded, s)),
+    );
 }
 
 // Block C of row s of the halves.
