@@ -21,7 +21,6 @@ fn flip(halves: &mut [u16; 256], coded: &mut [u8], w: usize, k: usize)
 }
 
 // Flips the places of a repair of word w in both.
-#[tactic(auto, using(crate::specs::MendingLaws::mending))]
 fn mend(halves: &mut [u16; 256], coded: &mut [u8], w: usize, r: Repair)
     requires { (length coded.old ≡ 512) × (w < 32) × Inside r }
     ensures { (halves.new ≡ mended_by (flipped_back w) r halves.old) × (coded.new ≡ mended_by (flipped_coded w) r coded.old) × (length coded.new ≡ 512) }

@@ -9,7 +9,6 @@ use mending_core::checks::Checks;
 use syndromes_core::gather_row;
 
 // Those of both rows.
-#[tactic(auto, using(syndromes_core::specs::RowCheckLaws::gathered_levels, syndromes_core::specs::RowCheckLaws::parities_levels))]
 pub fn gather(history: &[u8], halves: &[u16; 256], pair: u32) -> Checks
     requires { length history.now ≡ 512 * depth }
     ensures { Gathered (halves_word history.now pair halves.now) result.sums × Parities (halves_word history.now pair halves.now) result.odd }
