@@ -1,8 +1,11 @@
 -- The invariants of loops that take in one value after the other: of any total; bits into a number, first bit first; sums by exclusive or;
 -- counts. Of each: none / more / done.
 -- Assumes nothing.
-use Rattle.std.specs.Prelude.{◌≡◌, refl, ℕ, suc, ◌+◌, ◌*◌, ◌^◌, ◌<◌, ◌≤◌}
+use Rattle.std.specs.Prelude.{◌≡◌, refl, List, ℕ, zero, suc, ◌+◌, ◌*◌, ◌^◌, ◌<◌, ◌≤◌, length, get_or, take}
+use Rattle.std.specs.List.{fold}
 use Rattle.std.proofs.Common.{sym, ap, ap₂, ◌∙◌, pow-suc, arith, add-one, pow_mono}
+use Rattle.std.proofs.lemmas.List.Sums as std_sums
+use Rattle.std.proofs.Math.Seq.{take-length}
 use Rattle.std.specs.Int.{Width}
 use mir.Val.{Fits, bits}
 use Rattle.bits.specs.Bits.{from_bits}
@@ -25,6 +28,17 @@ module _ {F B : Type 0} where
 
   pub fold_done : {total : ℕ → F → B} {f : F} {n k : ℕ} {acc : B} → Folding total f n k acc → n ≤ k → acc ≡ total n f
   fold_done {total} {f} {n} {k} h l = let e : k ≡ n = omega (arith, h.upto) in h.is ∙ ap (λ i. total i f) e
+
+-- The same in one expression: a total that grows by a step with each of f's values is the fold of that step over a list.
+module _ {A B : Type 0} (total : ℕ → (ℕ → A) → B) (step : B → A → B) (more : (k : ℕ) (f : ℕ → A) → total (suc k) f ≡ step (total k f) (f k)) where
+  pub total_from_fold : (a : B) (xs : List A) (d : A) → a ≡ total 0 (λ i. get_or xs i d) → fold step a xs ≡ total (length xs) (λ i. get_or xs i d)
+  total_from_fold a xs d e = ap (fold step a) (sym (take-length xs)) ∙ upto (length xs) (omega arith)
+    where
+      upto : (k : ℕ) → k ≤ length xs → fold step a (take k xs) ≡ total k (λ i. get_or xs i d)
+      upto zero l = e
+      upto (suc k) l =
+          ap (λ n. fold step a (take n xs)) (sym (add-one k)) ∙ std_sums.fold_more step a xs k d (omega arith)
+          ∙ ap (λ b. step b (get_or xs k d)) (upto k (omega arith)) ∙ sym (more k (λ i. get_or xs i d))
 
 -- ---- bits into a number
 
@@ -73,6 +87,10 @@ pub sum_done : {f : ℕ → ℕ} {n k acc : ℕ} → Summing f n k acc → n ≤
 sum_done = fold_done
 
 pub ruleset summing = (sum_none, sum_more, sum_done)
+
+pub sum_from_fold : {A : Type 0} (v : A → ℕ) (xs : List A) (d : A) → fold (λ acc x. acc ⊕ v x) 0 xs ≡ xor_sum (length xs) (λ i. v (get_or xs i d))
+unfolding xor_sum
+sum_from_fold v xs d = total_from_fold (λ k f. xor_sum k (λ i. v (f i))) (λ acc x. acc ⊕ v x) (λ k f. refl) 0 xs d refl
 
 -- acc is the sum of f's values at the first k of n places.
 abbrev pub Counting : (ℕ → ℕ) → ℕ → ℕ → ℕ → Type 0

@@ -11,3 +11,4 @@ pub mod PartLaws
 pub mod TestLaws
 pub mod XorLaws
 pub mod FromFn
+pub mod Mapped

@@ -1,14 +1,13 @@
 -- An exported function that hands the library's call on, and its answer in numbers, gives what it should.
 -- Assumes nothing.
-use Rattle.std.specs.Prelude.{◌≡◌, refl, List, ℕ, ◌^◌, ◌<◌, length}
+use Rattle.std.specs.Prelude.{◌≡◌, List, ℕ, ◌^◌, ◌<◌, length, Result, Ok, Err}
 use Rattle.std.proofs.Common.{sym, ◌∙◌, arith}
 use Rattle.std.proofs.Math.Path.{ap}
-use Rattle.calls.specs.Answers.{Answer}
-use Rattle.calls.specs.Answers.{refusal_of, index_of, value_or}
+use Rattle.calls.specs.declared.Refusal.{Refusal}
+use Rattle.calls.specs.Answers.{Answer, number_of, refusal_of, index_of, value_or}
 use Rattle.calls.specs.Calls.{After, after}
 use Rattle.line_file_spec.specs.declared.Header.{Header}
-use Rattle.line_file_spec.specs.Opening.{header_of, open_refusal}
-use Rattle.line_file_spec.proofs.OpeningLaws.{answer_of}
+use Rattle.line_file_spec.specs.Opening.{header_of}
 use Rattle.line_file_spec.specs.Reading.{read_refusal, start_of, read_part}
 use Rattle.line_file_spec.proofs.ReadingLaws.{stretch_refused, handed_length, stretch_done}
 use Rattle.capi.specs.declared.Outcome.{Outcome}
@@ -25,11 +24,18 @@ pub exported_is : {B : Type 0} (a : Answer) (o : Outcome) (refused : ℕ) → o 
 unfolding in_numbers
 exported_is a o refused e x w g = ap (λ q. exported q w) e ∙ ap (in_numbers refused) g
 
--- ---- opening a line file: n is the number that the companion gave
+-- ---- opening a line file, by its header
 
-pub line_is : (file : List ℕ) (h : Header) (n : ℕ) → h ≡ header_of file → n ≡ open_refusal file
-    → ◌≡◌ {A = Line} (record { refusal = n; superframes = h.superframes; overhead = h.overhead; frames = h.frames }) (line_of (header_of file))
-line_is file h n e d = rw (d, ap refusal_of (sym (answer_of file h e)), e) refl
+module _ (file : List ℕ) (h : Result Header Refusal) (is : h ≡ header_of file) where
+  pub line_done : (x : Header) → h ≡ Ok x
+      → ◌≡◌ {A = Line} (record { refusal = 0; superframes = x.superframes; overhead = x.overhead; frames = x.frames }) (line_of (header_of file))
+  line_done x e = ap line_of (sym e ∙ is)
+
+  pub line_refused : (r : Refusal) → h ≡ Err r
+      → ◌≡◌ {A = Line} (record { refusal = number_of r; superframes = 0; overhead = 0; frames = 0 }) (line_of (header_of file))
+  line_refused r e = ap line_of (sym e ∙ is)
+
+pub ruleset lines = (line_done, line_refused)
 
 -- ---- reading a line file: m is the number that the companion gave
 

@@ -18,7 +18,8 @@ ghost use Rattle.capi.specs.Exports.{exported, in_numbers};
 use calls::Answer;
 use profile::Profile;
 
-// What an exported call answers: the refusal's number or 0, the call's own number, and the index of refusal 5.
+// What an exported call answers: the refusal's number or 0, the call's own number, and the index of refusal 5. C has no `Result`, so that
+// this and `Line` are numbers side by side, as include/ofec.h declares them.
 #[repr(C)]
 #[derive(Clone, Copy)]
 pub struct Outcome {
@@ -132,6 +133,8 @@ pub fn ofec_unframe(number: u32, frame: &[u8], overhead: &[u8], payload: &mut [u
     )
 }
 
+// The same four for QPSK. They differ from the others in the profile alone: the C interface has a name for each.
+
 // Maps a buffer's bits to the cells of QPSK.
 pub fn ofec_bits_to_cells_qpsk(bits: &[u8], cells: &mut [u8]) -> Outcome
     ensures { exported result cells.new ≡ in_numbers 0 (map_call qpsk bits.now cells.old) }
@@ -170,12 +173,19 @@ pub fn ofec_unframe_qpsk(number: u32, frame: &[u8], overhead: &[u8], payload: &m
 pub fn ofec_open_line(file: &[u8]) -> Line
     ensures { result ≡ line_of (header_of file.now) }
 {
-    let h = line_file::open_header(file);
-    Line {
-        refusal: line_file::open_refusal(file),
-        superframes: h.superframes,
-        overhead: h.overhead,
-        frames: h.frames,
+    match line_file::open_header(file) {
+        Ok(header) => Line {
+            refusal: 0,
+            superframes: header.superframes,
+            overhead: header.overhead,
+            frames: header.frames,
+        },
+        Err(refusal) => Line {
+            refusal: refusal.number(),
+            superframes: 0,
+            overhead: 0,
+            frames: 0,
+        },
     }
 }
 

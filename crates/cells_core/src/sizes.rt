@@ -5,19 +5,12 @@ ghost use Rattle.profiles_spec.specs.Profiles.{modulation};
 
 use profile::Profile;
 
-// The bytes of a buffer's cells.
-pub fn cell_bytes(profile: Profile) -> usize
-    ensures { result ≡ cells_per_buffer (modulation profile) * 2 }
-{
-    match profile {
-        Profile::Qam16 => 43008,
-        Profile::Qpsk => 86016,
-    }
-}
+// The bits of a buffer, which are the cells of a super-frame too.
+const BITS: usize = 172032;
 
-// The buffers of a super-frame.
+// The buffers of a super-frame: as many as a symbol has bits.
 pub fn buffers(profile: Profile) -> usize
-    ensures { result ≡ (modulation profile).bits }
+    ensures { (result ≡ (modulation profile).bits) × (4 ≤ result) × (result ≤ 8) }
 {
     match profile {
         Profile::Qam16 => 8,
@@ -25,14 +18,18 @@ pub fn buffers(profile: Profile) -> usize
     }
 }
 
-// The pairs of each encoder in a super-frame.
+// The bytes of a buffer's cells: two a symbol.
+pub fn cell_bytes(profile: Profile) -> usize
+    ensures { result ≡ cells_per_buffer (modulation profile) * 2 }
+{
+    BITS / buffers(profile) * 2
+}
+
+// The pairs of each encoder in a super-frame: 21 a buffer.
 pub fn pairs(profile: Profile) -> usize
     ensures { (result ≡ (modulation profile).bits * 21) × (84 ≤ result) × (result ≤ 168) }
 {
-    match profile {
-        Profile::Qam16 => 168,
-        Profile::Qpsk => 84,
-    }
+    buffers(profile) * 21
 }
 
 // The number of the first pair of super-frame q, of the 64 that a line file has at most.
@@ -40,8 +37,5 @@ pub fn first_pair(profile: Profile, q: u32) -> u32
     requires { q ≤ 64 }
     ensures { (result ≡ pairs_in (modulation profile) q) × (result < 65536) }
 {
-    match profile {
-        Profile::Qam16 => q * 168,
-        Profile::Qpsk => q * 84,
-    }
+    q * pairs(profile) as u32
 }

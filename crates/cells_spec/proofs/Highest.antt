@@ -1,45 +1,42 @@
 -- Laws of specs/Highest.antt.
 -- Assumes nothing.
-use Rattle.std.specs.Prelude.{◌≡◌, true, false, List, ◌≢◌, ℕ, ◌+◌, ◌<◌, ◌≤◌, length, get_or}
-use Rattle.std.proofs.Math.Path.{refl}
-use Rattle.std.proofs.Common.{arith, below_none, below_more}
+use Rattle.std.specs.Prelude.{◌≡◌, refl, Bool, true, false, cond, List, [], ◌∷◌, ◌++◌, ℕ, ◌<◌, ◌≤◌, leb, length, get_or, max, None}
+use Rattle.std.proofs.Common.{arith, below_none}
 use Rattle.std.proofs.lemmas.Bool.{lt-leb}
-use Rattle.bits.specs.Seeking.{first_none}
-use Rattle.bits.proofs.TestLaws.{is_one, is_zero}
-use Rattle.cells_spec.specs.Cells.{overhead_rule, payload_rule, first_illegal}
+use Rattle.std.proofs.lemmas.Grind.{common_steps}
+use Rattle.bits.specs.LeastLaws.{least_ext}
+use Rattle.bits.specs.Seeking.{first, first_none}
+use Rattle.cells_spec.specs.Cells.{payload_rule, first_illegal, found}
 use Rattle.cells_spec.specs.Modulation.{Modulation}
 use Rattle.cells_spec.specs.Highest.{Highest, flaw}
+use Rattle.cells_spec.proofs.FoundLaws.{not_found}
 
-pub highest_none : (f : ℕ → ℕ) (s : List ℕ) (top : ℕ) → Highest f s 0 top
-highest_none f s top = record { upto = omega arith; within = below_none (λ k. f (get_or s k 0) ≤ top) }
+-- The bytes are passed one after the other.
+pub highest_none : (f : ℕ → ℕ) (top : ℕ) → Highest f [] 0 top
+highest_none f top = record { upto = omega arith; within = below_none (λ k. f (get_or [] k 0) ≤ top) }
 
-pub highest_more : {f : ℕ → ℕ} {s : List ℕ} {i top : ℕ} (v next : ℕ) → Highest f s i top → i < length s → v ≡ f (get_or s i 0) → top ≤ next → v ≤ next
-    → Highest f s (i + 1) next
-highest_more {f} {s} {i} {top} v next h l e a b =
-    record { upto = omega arith; within = below_more (λ k. f (get_or s k 0) ≤ next) i (λ k lk. omega (arith, h.within k lk)) (omega arith) }
+pub highest_more : {f : ℕ → ℕ} {s : List ℕ} {top : ℕ} (v next : ℕ) → Highest f s (length s) top → next ≡ max (f v) top
+    → Highest f (s ++ (v ∷ [])) (length (s ++ (v ∷ []))) next
+highest_more {f} {s} {top} v next h m = record { upto = omega arith; within = more f s top v next h.within (omega arith) (omega arith) }
+  where
+    more : (f : ℕ → ℕ) (s : List ℕ) (top v next : ℕ) → ((k : ℕ) → k < length s → f (get_or s k 0) ≤ top) → top ≤ next → f v ≤ next
+        → (k : ℕ) → k < length (s ++ (v ∷ [])) → f (get_or (s ++ (v ∷ [])) k 0) ≤ next
+    more f s top v next h a b k l = grind (arith, common_steps, h)
 
-pub highest_done : {f : ℕ → ℕ} {s : List ℕ} {i top : ℕ} → Highest f s i top → length s ≤ i → Highest f s (length s) top
-highest_done h l = record { upto = omega arith; within = λ k lk. h.within k (omega arith) }
+-- Where the highest is below a limit, none reaches it.
+pub none_reaches : {f : ℕ → ℕ} {s : List ℕ} {top : ℕ} (limit : ℕ) → Highest f s (length s) top → top < limit
+    → None ≡ found (length s) (first_illegal (λ j v. leb limit (f v)) s)
+unfolding first_illegal
+none_reaches {f} {s} limit h l =
+    not_found (length s) _
+    (omega (arith, first_none 0 (λ j v. leb limit (f v)) s (λ k lk. lt-leb limit (f (get_or s k 0)) (omega (arith, h.within k lk)))))
 
-pub ruleset by_highest = (highest_none, highest_more, highest_done)
-
--- Where no byte is above a number below 16, every byte is legal by the rule of overhead.
-pub all_low : {s : List ℕ} {top : ℕ} → Highest (λ v. v) s (length s) top → top < 16 → length s ≡ first_illegal overhead_rule s
-unfolding first_illegal overhead_rule
-all_low {s} {top} h l = first_none 0 overhead_rule s (λ k lk. lt-leb 16 (get_or s k 0) (omega (arith, h.within k lk)))
-
-module _ (p : Modulation) where
-  pub all_sound : {s : List ℕ} {top : ℕ} → Highest (flaw p) s (length s) top → top ≡ 0 → length s ≡ first_illegal (payload_rule p) s
-  unfolding first_illegal payload_rule flaw
-  all_sound {s} {top} h e = first_none 0 (payload_rule p) s (λ k lk. is_zero (p.illegal (get_or s k 0)) _ refl (omega (arith, h.within k lk)))
-
-  -- As a search asks it of a byte v, at any place.
-  pub is_flawed : (j v n : ℕ) → n ≡ flaw p v → n ≢ 0 → payload_rule p j v ≡ true
-  unfolding payload_rule flaw
-  is_flawed j v n e h = is_one (p.illegal v) n e h
-
-  pub is_sound : (j v n : ℕ) → n ≡ flaw p v → n ≡ 0 → payload_rule p j v ≡ false
-  unfolding payload_rule flaw
-  is_sound j v n e z = is_zero (p.illegal v) n e z
-
-pub ruleset flawed = (all_sound, is_flawed, is_sound)
+-- An illegal byte of payload is one whose flaw is 1 or more.
+pub first_flaw : (p : Modulation) (s : List ℕ) → first_illegal (λ j v. leb 1 (flaw p v)) s ≡ first_illegal (payload_rule p) s
+unfolding first_illegal first payload_rule flaw
+first_flaw p s =
+    least_ext (length s) (λ j. leb 1 (flaw p (get_or s j 0))) (λ j. payload_rule p j (get_or s j 0)) (λ j l. split (p.illegal (get_or s j 0)))
+  where
+    split : (b : Bool) → leb 1 (cond b 1 0) ≡ b
+    split true = refl
+    split false = refl

@@ -1,6 +1,7 @@
 -- Laws about the definitions of specs/.
 pub mod CallLaws
 pub mod CellLaws
+pub mod FoundLaws
 pub mod Highest
 pub mod LevelLaws
 pub mod ModulationLaws

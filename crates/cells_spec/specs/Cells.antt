@@ -2,7 +2,7 @@
 -- byte's bits c0 (most significant) to c7 are one symbol"), and for w = 4 half a byte (02, E1: "A byte holds two symbols, upper half
 -- first"). Its cell is cell i of the buffer's cells.
 -- Assumes nothing.
-use Rattle.std.specs.Prelude.{◌≡◌, Bool, false, List, ℕ, ◌+◌, ◌*◌, ◌/◌, ◌%◌, ◌<◌, leb, length, get_or}
+use Rattle.std.specs.Prelude.{◌≡◌, Bool, false, cond, List, ℕ, ◌+◌, ◌*◌, ◌/◌, ◌%◌, ◌<◌, leb, ltb, length, get_or, Option, Some, None}
 use Rattle.bits.specs.Lists.{tabulate}
 use Rattle.bits.specs.Bits.{bit_of, bit, from_bits, pack}
 use Rattle.bits.specs.Seeking.{first}
@@ -22,6 +22,10 @@ payload_rule p j v = p.illegal v
 -- The index of the first illegal byte; the length where there is none.
 unfoldable pub first_illegal : (ℕ → ℕ → Bool) → List ℕ → ℕ
 first_illegal rule cells = first 0 rule cells
+
+-- An index of a buffer of n bytes as the code gives it: there is none where it is the length or past it.
+unfoldable pub found : ℕ → ℕ → Option ℕ
+found n i = cond (ltb i n) (Some i) None
 
 -- Every byte is legal.
 pub record Legal (rule : ℕ → ℕ → Bool) (cells : List ℕ) : Type 0 where

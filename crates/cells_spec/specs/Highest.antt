@@ -1,4 +1,4 @@
--- A number that a function of no byte of a buffer is above, and the invariant of the loop that finds it: none / more / done.
+-- A number that a function of no byte of a buffer is above.
 -- Assumes nothing.
 use Rattle.std.specs.Prelude.{cond, List, ℕ, ◌<◌, ◌≤◌, length, get_or}
 use Rattle.cells_spec.specs.Modulation.{Modulation}

@@ -3,95 +3,54 @@
 // Over `report`, `filestatus` and `filenames`, below the programs.
 #![tactic(auto)]
 
+ghost use Rattle.std.specs.Prelude.{◌^◌, ◌<◌};
+
 mod making;
 pub mod message;
 mod naming;
 mod places;
+mod reading;
 
-pub use filenames::name_beside;
+pub use filenames::Name;
 pub use filestatus::{is_regular, same};
-pub use making::{close, create, finish, leads_to, take_name};
+pub use making::{Made, close, create, discard, finish, leads_to, remove, take_name};
+pub use message::Said;
 pub use naming::target;
 pub use places::collide;
+use profile::Profile;
+pub use reading::{Input, open};
 use std::env::FillError;
-use std::fs;
-use std::io::{Read, Seek, SeekFrom};
 use std::os::fd::AsRawFd;
 use std::rt::{Env, Files};
+use std::{array, fs};
 
 // Whether the program was started with so many arguments, its own name not counted.
 pub fn has_argument<R: Env>(rt: &R, argument: usize) -> bool {
-    let mut start = [0u8; 1];
-    match rt.arg(argument, &mut start) {
-        Ok(_) => true,
-        Err(FillError::TooLong) => true,
-        Err(FillError::NotPresent) => false,
-    }
-}
-
-// Opens the file that an argument names for reading; or says why it cannot.
-pub fn open<R: Files + Env + Eprint>(rt: &R, argument: usize) -> Option<R::File> {
-    let mut name = [0u8; 4096];
-    let n = naming::name_of(rt, argument, &mut name);
-    if n == 0 {
-        return None;
-    }
-    match places::open_read(rt, &name[..n]) {
-        Ok(file) => Some(file),
-        Err(error) => {
-            message::fail(rt, &name[..n], error);
-            None
-        }
-    }
+    !matches!(rt.arg(argument, &mut [0]), Err(FillError::NotPresent))
 }
 
 // Whether an argument is this word.
-pub fn is_word<R: Env>(rt: &R, argument: usize, word: &[u8]) -> bool {
-    let mut text = [0u8; 4096];
-    let n = rt.arg(argument, &mut text).unwrap_or(0);
-    places::equal(&text[..n], word)
+pub fn is_word<R: Env>(rt: &R, argument: usize, word: &str) -> bool {
+    Name::of_argument(rt, argument).is_some_and(|name| name.as_bytes() == word.as_bytes())
 }
 
-// The length of an open file; 0 where it has none.
-pub fn length<F: Seek>(file: &mut F) -> usize {
-    match file.seek(SeekFrom::End(0)) {
-        Ok(end) => end as usize,
-        Err(_) => 0,
+// The profile that the arguments name, where there are as many as there must be: 16-QAM, or that of one more, which is `qpsk`, at this place.
+pub fn profile_at<R: Env>(rt: &R, argument: usize) -> Option<Profile>
+    requires { (0 < argument) × (argument < 2 ^ 32) }
+{
+    if !has_argument(rt, argument) {
+        return has_argument(rt, argument - 1).then_some(Profile::Qam16);
     }
-}
-
-// Goes to the front of an open file, and answers whether it could.
-fn to_front<F: Seek>(file: &mut F) -> bool {
-    match file.seek(SeekFrom::Start(0)) {
-        Ok(at) => at == 0,
-        Err(_) => false,
+    if has_argument(rt, argument + 1) {
+        return None;
     }
-}
-
-// Whether a byte can be read from an open file.
-fn has_byte<F: Read>(file: &mut F) -> bool {
-    let mut first = [0u8; 1];
-    match file.read(&mut first) {
-        Ok(got) => got == 1,
-        Err(_) => false,
-    }
-}
-
-// The length of an open file that can be read, and the next read begins at its front; otherwise 0.
-pub fn size<F: Read + Seek>(file: &mut F) -> usize {
-    let bytes = length(file);
-    if to_front(file) && has_byte(file) && to_front(file) {
-        return bytes;
-    }
-    0
+    is_word(rt, argument, "qpsk").then_some(Profile::Qpsk)
 }
 
 // The standard descriptors that were closed, taken up as long as this lasts.
 #[derive(Drop)]
 pub struct Held<F> {
-    first: Option<F>,
-    second: Option<F>,
-    third: Option<F>,
+    files: [Option<F>; 3],
 }
 
 // Takes up a standard descriptor that is closed.
@@ -111,12 +70,7 @@ pub fn hold_standard<R: Files>(rt: &R) -> Held<R::File>
 where
     R::File: AsRawFd,
 {
-    let first = hold(rt);
-    let second = hold(rt);
-    let third = hold(rt);
     Held {
-        first,
-        second,
-        third,
+        files: array::from_fn(|_| hold(rt)),
     }
 }

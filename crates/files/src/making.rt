@@ -1,8 +1,9 @@
 // A file that is made: written at a path beside its name, which it takes when it is whole. So no half-written file has the name,
 // and a file that had it before is as it was until then.
 use crate::message;
+use crate::message::Said;
 use crate::places::open_update;
-use filenames::path as path_of;
+use filenames::{Name, path as path_of};
 use filestatus::{is_regular, mode, same};
 use std::fs::{OpenFile, OpenOptions, Permissions};
 use std::io::ErrorKind;
@@ -11,7 +12,7 @@ use std::random::RandomSource;
 use std::rt::Files;
 use std::{fs, io};
 
-// What the X's of a path become.
+// What a path beside a name ends in.
 const LETTERS: [u8; 62] = *b"abcdefghijklmnopqrstuvwxyzABCDEFGHIJKLMNOPQRSTUVWXYZ0123456789";
 
 // The system's number for a path that is there already.
@@ -20,29 +21,26 @@ const EXISTS: i32 = 17;
 // How many paths are tried, as in the C library.
 const TRIES: usize = 238328;
 
-// The system's number for what no path has, as one without X's.
+// The system's number for what no path has, as one that is too long.
 const INVALID: i32 = 22;
+
+// An open file, and the path at which it is made.
+#[derive(Drop)]
+pub struct Made<F> {
+    pub file: F,
+    pub path: Name,
+}
 
 // Whether the name leads to the open file.
 pub fn leads_to<R: Files>(rt: &R, name: &[u8], file: &R::File) -> bool {
-    match open_update(rt, name) {
-        Ok(old) => same(&old, file),
-        Err(_) => false,
-    }
+    open_update(rt, name).is_ok_and(|old| same(&old, file))
 }
 
-// Puts letters and digits in the place of the last six characters of a path.
-fn draw<R: RandomSource>(rt: &R, path: &mut [u8]) -> io::Result<()> {
-    let n = path.len();
-    if n < 6 {
-        return Err(io::Error::from_raw_os_error(INVALID));
-    }
+// Six letters and digits.
+fn draw<R: RandomSource>(rt: &R) -> io::Result<[u8; 6]> {
     let mut drawn = [0u8; 6];
     rt.fill_bytes(&mut drawn)?;
-    for i in 0..6 {
-        path[n - 6 + i] = LETTERS[(drawn[i] % 62) as usize];
-    }
-    Ok(())
+    Ok(drawn.map(|byte| LETTERS[usize::from(byte % 62)]))
 }
 
 // Makes a new file at a path that is free.
@@ -52,135 +50,110 @@ fn create_free<R: Files>(rt: &R, path: &[u8]) -> io::Result<R::File> {
     options.open(rt, path_of(path)?)
 }
 
-// Makes a new file at path, whose X's are replaced.
-fn create_at<R: Files + RandomSource>(rt: &R, path: &mut [u8]) -> io::Result<R::File> {
+// Makes a new file at a path beside this name.
+fn create_beside<R: Files + RandomSource>(rt: &R, name: &Name) -> io::Result<Made<R::File>> {
     for _ in 0..TRIES {
-        draw(rt, path)?;
-        match create_free(rt, path) {
-            Ok(file) => return Ok(file),
-            Err(error) => {
-                if error.kind() != ErrorKind::AlreadyExists {
-                    return Err(error);
-                }
-            }
+        let letters = draw(rt)?;
+        let Some(path) = name.beside(&letters) else {
+            return Err(io::Error::from_raw_os_error(INVALID));
+        };
+        match create_free(rt, path.as_bytes()) {
+            Ok(file) => return Ok(Made { file, path }),
+            Err(error) if error.kind() == ErrorKind::AlreadyExists => {}
+            Err(error) => return Err(error),
         }
     }
     Err(io::Error::from_raw_os_error(EXISTS))
 }
 
-// Makes a new file at path for this name; or says why it cannot.
+// Makes a new file for this name; or says why it cannot.
 fn create_new<R: Files + RandomSource + Eprint>(
     rt: &R,
-    name: &[u8],
-    path: &mut [u8],
-) -> Option<R::File> {
-    match create_at(rt, path) {
-        Ok(file) => Some(file),
-        Err(error) => {
-            message::fail(rt, name, error);
-            None
-        }
-    }
+    name: &Name,
+) -> Result<Made<R::File>, Said> {
+    create_beside(rt, name).map_err(|error| message::fail(rt, name.as_bytes(), error))
 }
 
-// The same with the mode of the file that has the name, which is open; a pipe or a device is not replaced.
+// The same with the mode of the file that has the name, which is open; a pipe or a device is not replaced. One of which the system does not
+// say its mode has none.
 fn create_like<R: Files + RandomSource + Eprint>(
     rt: &R,
     old: &R::File,
-    name: &[u8],
-    path: &mut [u8],
-) -> Option<R::File> {
+    name: &Name,
+) -> Result<Made<R::File>, Said> {
     if !is_regular(old) {
-        message::of(rt, name, b"not a regular file");
-        return None;
+        return Err(message::of(rt, name.as_bytes(), "not a regular file"));
     }
-    let file = create_new(rt, name, path)?;
-    let _ = file.set_permissions(Permissions::from_mode(mode(old)));
-    Some(file)
+    let made = create_new(rt, name)?;
+    let mode = mode(old).unwrap_or(0);
+    let _ = made.file.set_permissions(Permissions::from_mode(mode));
+    Ok(made)
 }
 
-// Makes a new file at path, whose X's are replaced, for this name; or says why it cannot. The name is free, or a regular file has it that
-// can be written.
+// Makes a new file for this name; or says why it cannot. The name is free, or a regular file has it that can be written.
 pub fn create<R: Files + RandomSource + Eprint>(
     rt: &R,
-    name: &[u8],
-    path: &mut [u8],
-) -> Option<R::File> {
-    match open_update(rt, name) {
-        Ok(old) => create_like(rt, &old, name, path),
-        Err(error) => {
-            if error.kind() == ErrorKind::NotFound {
-                return create_new(rt, name, path);
-            }
-            message::fail(rt, name, error);
-            None
-        }
+    name: &Name,
+) -> Result<Made<R::File>, Said> {
+    match open_update(rt, name.as_bytes()) {
+        Ok(old) => create_like(rt, &old, name),
+        Err(error) if error.kind() == ErrorKind::NotFound => create_new(rt, name),
+        Err(error) => Err(message::fail(rt, name.as_bytes(), error)),
     }
 }
 
 // Whether an error only says that a file of this kind cannot be brought to the disk at once.
 fn is_idle(error: &io::Error) -> bool {
-    match error.kind() {
-        ErrorKind::InvalidInput => true,
-        ErrorKind::Unsupported => true,
-        _ => false,
-    }
+    matches!(
+        error.kind(),
+        ErrorKind::InvalidInput | ErrorKind::Unsupported
+    )
 }
 
-// Closes the file for this name, and answers whether its bytes are on the disk, or says why not: what fails in closing itself is not known,
-// so the bytes are brought there before.
-pub fn close<R: Eprint, F: OpenFile + Drop>(rt: &R, file: F, name: &[u8]) -> bool {
+// Closes the file for this name once its bytes are on the disk, or says why they are not: what fails in closing itself is not known, so the
+// bytes are brought there before.
+pub fn close<R: Eprint, F: OpenFile + Drop>(rt: &R, file: F, name: &[u8]) -> Result<(), Said> {
     match file.sync_data() {
-        Ok(()) => true,
-        Err(error) => {
-            if is_idle(&error) {
-                return true;
-            }
-            message::fail(rt, name, error);
-            false
-        }
+        Err(error) if !is_idle(&error) => Err(message::fail(rt, name, error)),
+        _ => Ok(()),
     }
 }
 
 // Removes the file at path.
-fn remove<R: Files>(rt: &R, path: &[u8]) {
-    if let Ok(text) = path_of(path) {
+pub fn remove<R: Files>(rt: &R, path: &Name) {
+    if let Ok(text) = path_of(path.as_bytes()) {
         let _ = fs::remove_file(rt, text);
     }
 }
 
 // Gives the file at path its name.
-fn rename<R: Files>(rt: &R, path: &[u8], name: &[u8]) -> io::Result<()> {
-    fs::rename(rt, path_of(path)?, path_of(name)?)
+fn rename<R: Files>(rt: &R, path: &Name, name: &Name) -> io::Result<()> {
+    fs::rename(rt, path_of(path.as_bytes())?, path_of(name.as_bytes())?)
 }
 
-// Gives the file at path its name, and answers whether it has it; or says why not, and removes the file.
-pub fn take_name<R: Files + Eprint>(rt: &R, path: &[u8], name: &[u8]) -> bool {
-    match rename(rt, path, name) {
-        Ok(()) => true,
-        Err(error) => {
-            message::fail(rt, name, error);
-            remove(rt, path);
-            false
-        }
+// Gives the file at path its name; or says why not, and removes the file.
+pub fn take_name<R: Files + Eprint>(rt: &R, path: &Name, name: &Name) -> Result<(), Said> {
+    if let Err(error) = rename(rt, path, name) {
+        let said = message::fail(rt, name.as_bytes(), error);
+        remove(rt, path);
+        return Err(said);
     }
+    Ok(())
 }
 
-// Closes the file and gives it its name where it is whole, or removes it; answers whether it has the name.
-pub fn finish<R: Files + Eprint>(
-    rt: &R,
-    file: R::File,
-    whole: bool,
-    path: &[u8],
-    name: &[u8],
-) -> bool {
-    if whole {
-        if close(rt, file, name) {
-            return take_name(rt, path, name);
-        }
-    } else {
-        drop(file);
+// Closes the file, which is whole, and gives it its name; or says why not, and removes it.
+pub fn finish<R: Files + Eprint>(rt: &R, made: Made<R::File>, name: &Name) -> Result<(), Said> {
+    let Made { file, path } = made;
+    if let Err(said) = close(rt, file, name.as_bytes()) {
+        remove(rt, &path);
+        return Err(said);
     }
-    remove(rt, path);
-    false
+    take_name(rt, &path, name)
+}
+
+// Closes the file, which is not whole, and removes it.
+pub fn discard<R: Files>(rt: &R, made: Made<R::File>) {
+    let Made { file, path } = made;
+    drop(file);
+    remove(rt, &path);
 }

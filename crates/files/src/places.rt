@@ -1,6 +1,4 @@
 // Names that are opened, and whether two names to write are one file's.
-ghost use Rattle.std.specs.Prelude.{◌≡◌, ◌↔◌, IsTrue};
-
 use crate::making::leads_to;
 use filenames::{folder, path};
 use filestatus::same;
@@ -20,20 +18,13 @@ pub fn open_update<R: Files>(rt: &R, name: &[u8]) -> io::Result<R::File> {
     options.open(rt, path(name)?)
 }
 
-// Whether two texts are the same.
-pub fn equal(a: &[u8], b: &[u8]) -> bool
-    ensures { IsTrue result ↔ (a.now ≡ b.now) }
-{
-    a == b
-}
-
 // Opens the folder of a name.
 fn open_folder<R: Files>(rt: &R, name: &[u8]) -> io::Result<R::File> {
     let end = folder(name);
     if end == 0 {
         return open_read(rt, b".");
     }
-    open_read(rt, &name[0..end])
+    open_read(rt, &name[..end])
 }
 
 // Whether two names lie in the same folder.
@@ -51,7 +42,7 @@ pub fn collide<R: Files>(rt: &R, a: &[u8], b: &[u8]) -> bool {
         return leads_to(rt, b, &file);
     }
     if in_one_folder(rt, a, b) {
-        return equal(&a[folder(a)..], &b[folder(b)..]);
+        return a[folder(a)..] == b[folder(b)..];
     }
     false
 }

@@ -2,28 +2,29 @@
 #![tactic(auto)]
 
 use std::fs::OpenFile;
+use std::io;
 use std::os::unix::fs::MetadataExt;
 
 // Whether it is a regular file. One of which the system says nothing is none.
 pub fn is_regular<F: OpenFile>(file: &F) -> bool {
-    match file.metadata() {
-        Ok(said) => said.is_file(),
-        Err(_) => false,
-    }
+    file.metadata().is_ok_and(|said| said.is_file())
 }
 
-// The mode of an open file, without its kind; 0 where the system says nothing.
-pub fn mode<F: OpenFile>(file: &F) -> u32 {
-    match file.metadata() {
-        Ok(said) => said.mode() % 4096,
-        Err(_) => 0,
-    }
+// The mode of an open file, without its kind.
+pub fn mode<F: OpenFile>(file: &F) -> io::Result<u32> {
+    Ok(file.metadata()?.mode() % 4096)
 }
 
-// Whether both are the same open file, by device and number. One of which the system says nothing is the same as none.
+// What tells an open file from any other: its device and its number there.
+fn identity<F: OpenFile>(file: &F) -> io::Result<(u64, u64)> {
+    let said = file.metadata()?;
+    Ok((said.dev(), said.ino()))
+}
+
+// Whether both are the same open file. One of which the system says nothing is the same as none.
 pub fn same<F: OpenFile, G: OpenFile>(a: &F, b: &G) -> bool {
-    match (a.metadata(), b.metadata()) {
-        (Ok(first), Ok(second)) => first.dev() == second.dev() && first.ino() == second.ino(),
+    match (identity(a), identity(b)) {
+        (Ok(first), Ok(second)) => first == second,
         _ => false,
     }
 }

@@ -39,8 +39,7 @@ fn judge(number: u32, overhead: &[u8], frame: &[u8], payload: &[u8]) -> Answer
         return Err(Refusal::Misfit);
     }
     let own = layout::own_overhead(number, overhead);
-    let at = first_illegal(own);
-    if at < own.len() {
+    if let Some(at) = first_illegal(own) {
         return Err(Refusal::OffGrid(layout::overhead_start(number) * 2 + at));
     }
     Ok(0)
@@ -57,9 +56,8 @@ pub fn frame(
     ensures { after result frame.new ≡ frame_call (modulation profile) number payload.now overhead.now frame.old }
 {
     judge(number, overhead, frame, payload)?;
-    let to = first_illegal_payload(profile, payload);
-    if to < payload.len() {
-        return Err(Refusal::OffGrid(to));
+    if let Some(at) = first_illegal_payload(profile, payload) {
+        return Err(Refusal::OffGrid(at));
     }
     placing::place(
         number,
@@ -81,9 +79,8 @@ pub fn unframe(
     ensures { after result payload.new ≡ unframe_call (modulation profile) number frame.now overhead.now payload.old }
 {
     judge(number, overhead, frame, payload)?;
-    let to = frame_legal_core::first_illegal(profile, number, frame);
-    if to < frame.len() {
-        return Err(Refusal::OffGrid(to));
+    if let Some(at) = frame_legal_core::first_illegal(profile, number, frame) {
+        return Err(Refusal::OffGrid(at));
     }
     placing::extract(number, frame, payload);
     let own = layout::own_overhead(number, overhead);

@@ -3,88 +3,73 @@
 #![tactic(auto)]
 
 ghost use Rattle.std.specs.Prelude.{◌≡◌, ◌*◌, length};
-ghost use Rattle.cells_spec.specs.Cells.{payload_rule, first_illegal};
+ghost use Rattle.cells_spec.specs.Cells.{payload_rule, first_illegal, found};
 ghost use Rattle.profiles_spec.specs.Profiles.{qpsk, modulation};
-ghost use Rattle.frame_spec.specs.Frames.{payload_cells, frame_rule, unframed};
-ghost use Rattle.frame_spec.specs.LegalLaws.{cell_flaw, overhead_flaw};
+ghost use Rattle.frame_spec.specs.Frames.{is_overhead, payload_cells, cell_rule, frame_rule, unframed};
 
-use cells_core::legal::{first_flaw, flaw};
+use cells_core::legal::{first_outer, is_outer};
 use frame_core::layout::{edge, payload_cells};
 use frame_core::placing::extract;
 use profile::Profile;
 
-// 1 where a byte is no overhead cell's, and 0 otherwise.
-fn overhead_flaw(v: u8) -> u8
-    ensures { result ≡ overhead_flaw v }
+// Whether cell m of a sub-frame is overhead.
+fn is_overhead(number: u32, m: usize) -> bool
+    ensures { result ≡ is_overhead number m }
 {
-    if 16 <= v {
-        return 1;
-    }
-    0
+    m % 32 == 0 || m < edge(number)
 }
 
-// 1 where a byte is illegal in cell m of a sub-frame of QPSK, and 0 otherwise.
-fn cell_flaw(number: u32, m: usize, v: u8) -> u8
-    ensures { result ≡ cell_flaw qpsk number m v }
+// Whether a byte is illegal in cell m of a sub-frame of QPSK.
+fn is_illegal(number: u32, m: usize, v: u8) -> bool
+    ensures { result ≡ cell_rule qpsk number m v }
 {
-    if m % 32 == 0 {
-        return overhead_flaw(v);
+    if is_overhead(number, m) {
+        16 <= v
+    } else {
+        is_outer(v)
     }
-    if edge(number) <= m {
-        return flaw(v);
-    }
-    overhead_flaw(v)
 }
 
-// The search for the first illegal byte, cell by cell.
-fn search(number: u32, frame: &[u8]) -> usize
-    ensures { result ≡ first_illegal (frame_rule qpsk number) frame.now }
+// The first illegal byte, looked for cell by cell.
+fn search(number: u32, frame: &[u8]) -> Option<usize>
+    ensures { result ≡ found (length frame.now) (first_illegal (frame_rule qpsk number) frame.now) }
 {
-    for j in 0..frame.len() {
-        if cell_flaw(number, j / 2, frame[j]) != 0 {
-            return j;
+    for (j, v) in frame.iter().enumerate() {
+        if is_illegal(number, j / 2, *v) {
+            return Some(j);
         }
     }
-    frame.len()
+    None
 }
 
-// The first flaw of the payload, which is taken out into a buffer of its length.
-fn first_flaw_of(number: u32, frame: &[u8], payload: &mut [u8]) -> usize
-    requires { (length frame.now ≡ 7424) × (length payload.old ≡ payload_cells number * 2) }
-    ensures { result ≡ first_illegal (payload_rule qpsk) (unframed number frame.now) }
-{
-    extract(number, frame, payload);
-    first_flaw(payload)
-}
-
-// The same with a buffer of its own.
-fn first_payload_flaw(number: u32, frame: &[u8]) -> usize
+// The first illegal byte of the payload, which is taken out.
+fn first_in_payload(number: u32, frame: &[u8]) -> Option<usize>
     requires { length frame.now ≡ 7424 }
-    ensures { result ≡ first_illegal (payload_rule qpsk) (unframed number frame.now) }
+    ensures { result ≡ found (payload_cells number * 2) (first_illegal (payload_rule qpsk) (unframed number frame.now)) }
 {
-    let mut payload = [0u8; 7424];
-    let n = payload_cells(number) * 2;
-    first_flaw_of(number, frame, &mut payload[0..n])
+    let mut buffer = [0u8; 7424];
+    let payload = &mut buffer[..payload_cells(number) * 2];
+    extract(number, frame, payload);
+    first_outer(payload)
 }
 
 // The first illegal byte of a frame of QPSK: searched only where one is illegal.
-fn first_illegal_qpsk(number: u32, frame: &[u8]) -> usize
+fn first_illegal_qpsk(number: u32, frame: &[u8]) -> Option<usize>
     requires { length frame.now ≡ 7424 }
-    ensures { result ≡ first_illegal (frame_rule qpsk number) frame.now }
+    ensures { result ≡ found (length frame.now) (first_illegal (frame_rule qpsk number) frame.now) }
 {
-    if cells_core::legal::first_illegal(frame) < frame.len() {
-        return search(number, frame);
+    if cells_core::legal::first_illegal(frame).is_none()
+        && first_in_payload(number, frame).is_none()
+    {
+        return None;
     }
-    if first_payload_flaw(number, frame) < payload_cells(number) * 2 {
-        return search(number, frame);
-    }
-    frame.len()
+    search(number, frame)
 }
 
-// The index of the first illegal byte, or the number of bytes where all are legal.
-pub fn first_illegal(profile: Profile, number: u32, frame: &[u8]) -> usize
+// The index of the first illegal byte.
+pub fn first_illegal(profile: Profile, number: u32, frame: &[u8]) -> Option<usize>
     requires { length frame.now ≡ 7424 }
-    ensures { result ≡ first_illegal (frame_rule (modulation profile) number) frame.now }
+    ensures { result ≡ found (length frame.now) (first_illegal (frame_rule (modulation profile) number) frame.now) }
 {
     match profile {
         Profile::Qam16 => cells_core::legal::first_illegal(frame),

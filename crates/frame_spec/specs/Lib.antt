@@ -3,4 +3,3 @@ pub mod Frames
 pub mod Layout
 pub mod RunLaws
 pub mod Calls
-pub mod LegalLaws

@@ -1,9 +1,9 @@
 // The rules of the header, in one worker over the first sixteen bytes and the length of a file.
 ghost use Rattle.std.specs.Prelude.{◌≡◌, ◌^◌, ◌<◌, ◌≤◌, length};
-ghost use Rattle.line_file_spec.specs.Header.{rules_hold, refused_header as header·refused, judged};
+ghost use Rattle.line_file_spec.specs.Header.{rules_hold, judged};
 
 use bits::numbers::number;
-use calls::{Answer, Refusal};
+use calls::Refusal;
 use line_file_spec::Header;
 
 // Whether the numbers n, o, f and total of a header keep the rules, in a file of so many bytes: an overhead list has 12,288, and a
@@ -30,39 +30,25 @@ fn rules_hold(n: usize, o: usize, f: usize, total: usize, size: usize) -> bool
     total == size
 }
 
-// A refused header: zeros for its numbers.
-pub fn refused(r: Refusal) -> Header
-    ensures { result ≡ header·refused r }
-{
-    Header {
-        answer: Err(r),
-        superframes: 0,
-        overhead: 0,
-        frames: 0,
-        total: 0,
-    }
-}
-
 // Judges the header in the first sixteen bytes of a file of so many bytes.
-pub fn judge(first: &[u8], size: usize) -> Header
+pub fn judge(first: &[u8], size: usize) -> Result<Header, Refusal>
     requires { 16 ≤ length first.now }
     ensures { result ≡ judged first.now size }
 {
     if size < 16 {
-        return refused(Refusal::Misfit);
+        return Err(Refusal::Misfit);
     }
     let n = number(first, 0);
     let o = number(first, 1);
     let f = number(first, 2);
     let total = number(first, 3);
-    if rules_hold(n, o, f, total, size) {
-        return Header {
-            answer: Ok(0),
-            superframes: n as u32,
-            overhead: o as u32,
-            frames: f as u32,
-            total: total as u32,
-        };
+    if !rules_hold(n, o, f, total, size) {
+        return Err(Refusal::BadHeader);
     }
-    refused(Refusal::BadHeader)
+    Ok(Header {
+        superframes: n as u32,
+        overhead: o as u32,
+        frames: f as u32,
+        total: total as u32,
+    })
 }

@@ -5,7 +5,7 @@ ghost use Rattle.line_file_spec.specs.Opening.{open_file, open_call};
 ghost use Rattle.line_file_spec.specs.Reading.{read_refusal_in, read_part_in};
 
 use line_file_core::reading::{read_at, read_refusal_at};
-use opening_core::{open_header, open_part};
+use opening_core::open_header;
 
 #[derive(Clone, Copy)]
 pub struct LineFile<'a> {
@@ -19,12 +19,19 @@ pub struct LineFile<'a> {
 pub fn open<'a>(file: &'a [u8]) -> LineFile<'a>
     ensures { open_file result.file.now result.superframes result.overhead result.frames ≡ open_call file.now }
 {
-    let h = open_header(file);
-    LineFile {
-        file: open_part(file),
-        superframes: h.superframes,
-        overhead: h.overhead,
-        frames: h.frames,
+    match open_header(file) {
+        Ok(header) => LineFile {
+            file,
+            superframes: header.superframes,
+            overhead: header.overhead,
+            frames: header.frames,
+        },
+        Err(_) => LineFile {
+            file: &file[..0],
+            superframes: 0,
+            overhead: 0,
+            frames: 0,
+        },
     }
 }
 

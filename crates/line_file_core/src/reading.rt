@@ -12,7 +12,7 @@ pub fn start(frames: u32, superframe: u32, subframe: u32) -> usize
     frames as usize + 356352 * superframe as usize + 7424 * subframe as usize
 }
 
-// What the reader answers: done, or the refusal.
+// What the reader answers: done, or the refusal. An open file's numbers come one by one, here and below, as the C interface lends them.
 pub fn read_answer(
     file: &[u8],
     superframes: u32,
@@ -23,18 +23,14 @@ pub fn read_answer(
 ) -> Answer
     ensures { result ≡ read_answer file.now superframes overhead frames superframe subframe }
 {
-    let h = open_header(file);
-    let opening = h.answer;
-    if let Err(r) = opening {
-        return Err(r);
-    }
-    if superframes != h.superframes {
+    let header = open_header(file)?;
+    if superframes != header.superframes {
         return Err(Refusal::BadHeader);
     }
-    if overhead != h.overhead {
+    if overhead != header.overhead {
         return Err(Refusal::BadHeader);
     }
-    if frames != h.frames {
+    if frames != header.frames {
         return Err(Refusal::BadHeader);
     }
     if 47 < subframe {

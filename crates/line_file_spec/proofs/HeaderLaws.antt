@@ -12,8 +12,7 @@ use Rattle.calls.specs.declared.Refusal.{Refusal}
 use Rattle.calls.specs.declared.Refusal.TheVariants.{Misfit, BadHeader}
 use Rattle.calls.specs.Calls.{verdict}
 use Rattle.calls.proofs.CallLaws.{none_left, is_short_file, no_short_file, is_bad_header, no_bad_header, passed_all, told}
-use Rattle.line_file_spec.specs.declared.Header.{Header}
-use Rattle.line_file_spec.specs.Header.{header_number, rules_hold, header_tests, header_when, good, refused_header, judged}
+use Rattle.line_file_spec.specs.Header.{header_number, rules_hold, header_tests, header_when, good, judged}
 
 -- ---- the numbers
 
@@ -110,11 +109,11 @@ module _ (bytes : List ℕ) (size : ℕ) where
   unfolding judged
   header_is a e = ap (λ x. header_when x (header_number bytes 0) (header_number bytes 1) (header_number bytes 2) (header_number bytes 3)) e
 
-  pub judged_short : size < 16 → judged bytes size ≡ refused_header Misfit
+  pub judged_short : size < 16 → judged bytes size ≡ Err Misfit
   unfolding header_tests
   judged_short l = sym (header_is (Err Misfit) (is_short_file _ size l))
 
-  pub judged_broken : 16 ≤ size → (RulesOf bytes size → ⊥) → judged bytes size ≡ refused_header BadHeader
+  pub judged_broken : 16 ≤ size → (RulesOf bytes size → ⊥) → judged bytes size ≡ Err BadHeader
   unfolding header_tests
   judged_broken l h = sym (header_is (Err BadHeader) (no_short_file _ size _ l (is_bad_header _ _ (rules_false _ _ _ _ _ h))))
 
@@ -128,23 +127,22 @@ module _ (bytes : List ℕ) (size : ℕ) where
       }
 
   -- A header that is not refused keeps the rules, and its numbers are those of the bytes.
-  pub judged_done : (v : ℕ) → (judged bytes size).answer ≡ Ok v → Sound bytes size
-  unfolding judged header_tests
+  pub judged_done : (v : ℕ) → verdict (header_tests bytes size) ≡ Ok v → Sound bytes size
+  unfolding header_tests
   judged_done v e =
       let p = passed_all (header_tests bytes size) v e in judged_good (search (told, p)) (rules_are _ _ _ _ _ (search (told, p)))
 
-  -- A refused header has zeros.
-  pub judged_refused : (r : Refusal) → (judged bytes size).answer ≡ Err r → judged bytes size ≡ refused_header r
-  unfolding judged
-  judged_refused r e = ap (λ x. header_when x (header_number bytes 0) (header_number bytes 1) (header_number bytes 2) (header_number bytes 3)) e
+  -- One that the tests refuse is the refusal.
+  pub judged_refused : (r : Refusal) → verdict (header_tests bytes size) ≡ Err r → judged bytes size ≡ Err r
+  judged_refused r e = sym (header_is (Err r) (sym e))
 
   -- The numbers are below 2^32, so a count of the file's bytes may stop there: a longer file is refused whatever follows.
-  pub judged_long : ((i : ℕ) → get_or bytes i 0 < 256) → 2 ^ 32 ≤ size → judged bytes size ≡ refused_header BadHeader
+  pub judged_long : ((i : ℕ) → get_or bytes i 0 < 256) → 2 ^ 32 ≤ size → judged bytes size ≡ Err BadHeader
   judged_long small l = judged_broken (omega arith) (λ r. omega (arith, number_below bytes 3 small, r.whole))
 
   -- The same as a worker meets them: it has the numbers, and whether the rules hold.
-  pub case_short : (h : Header) → h ≡ refused_header Misfit → size < 16 → h ≡ judged bytes size
-  case_short h e l = e ∙ sym (judged_short l)
+  pub case_short : size < 16 → Err Misfit ≡ judged bytes size
+  case_short l = sym (judged_short l)
 
   module _ (n o f total : ℕ) (hold : Bool) (en : n ≡ header_number bytes 0) (eo : o ≡ header_number bytes 1) (ef : f ≡ header_number bytes 2) (et : total ≡ header_number bytes 3)
       (e : hold ≡ rules_hold n o f total size) (l : 16 ≤ size) where
@@ -154,9 +152,9 @@ module _ (bytes : List ℕ) (size : ℕ) where
         rw (en, eo, ef, et)
         (header_is (Ok 0) (no_short_file _ size _ l (no_bad_header _ _ _ (rw (en, eo, ef, et) at (sym e ∙ t)) none_left)))
 
-    pub case_broken : (h : Header) → h ≡ refused_header BadHeader → hold ≡ false → h ≡ judged bytes size
+    pub case_broken : hold ≡ false → Err BadHeader ≡ judged bytes size
     unfolding header_tests
-    case_broken h q t =
-        q ∙ header_is (Err BadHeader) (no_short_file _ size _ l (is_bad_header _ _ (rw (en, eo, ef, et) at (sym e ∙ t))))
+    case_broken t =
+        header_is (Err BadHeader) (no_short_file _ size _ l (is_bad_header _ _ (rw (en, eo, ef, et) at (sym e ∙ t))))
 
 pub ruleset header_cases = (case_short, case_good, case_broken)

@@ -9,7 +9,7 @@ use borrow.Author.Tests.{eq-eqb, ne_eqb, eqb-true}
 use Rattle.bits.specs.Parts.{part, end_to_end}
 use Rattle.bits.proofs.PartLaws.{part_length, part_at, end_to_end_length, end_to_end_at}
 use Rattle.calls.specs.Answers.{Answer}
-use Rattle.std.specs.Prelude.{Ok, Err}
+use Rattle.std.specs.Prelude.{Result, Ok, Err}
 use Rattle.calls.specs.declared.Refusal.{Refusal}
 use Rattle.calls.specs.declared.Refusal.TheVariants.{Misfit, BadHeader, NoSuchFrame}
 use Rattle.calls.specs.Answers.{refusal_of, Accepted, TurnedBack}
@@ -19,19 +19,24 @@ use Rattle.calls.specs.Calls.{Test, no_sub_frame, no_super_frame, verdict}
 use Rattle.calls.proofs.CallLaws.{none_left, is_bad_header, no_bad_header, no_sub_frame_lem, sub_frame_lem, no_super_frame_lem, super_frame}
 use Rattle.calls.proofs.CallLaws.{first_refused, first_passed, passed_all, rules_kept, told}
 use Rattle.line_file_spec.specs.declared.Header.{Header}
-use Rattle.line_file_spec.specs.Header.{header_number, header_tests, judged}
+use Rattle.line_file_spec.specs.Header.{header_number, header_tests}
 use Rattle.line_file_spec.proofs.HeaderLaws.{Sound, both_true, rules_are, judged_good, judged_done}
 use Rattle.line_file_spec.specs.Opening.{header_of, open_answer, part_when, open_call}
-use Rattle.line_file_spec.proofs.OpeningLaws.{open_done, open_refused, open_misfit}
+use Rattle.line_file_spec.proofs.OpeningLaws.{header_done, header_refused, open_done, open_refused, open_misfit}
 use Rattle.line_file_spec.specs.Reading.{other_numbers, read_answer, read_refusal, read_answer_in, start_of, read_part, stretch_result}
 
 -- ---- the numbers of an open file, beside the header of its bytes
 
-module _ (file : List ℕ) (n o f : ℕ) (h : Header) (is : h ≡ header_of file) (v : ℕ) (opens : h.answer ≡ Ok v) (ts : List Test) where
+-- A number of a header that was not refused.
+abbrev number_in : (Header → ℕ) → Result Header Refusal → ℕ
+number_in number (Ok h) = number h
+number_in number (Err r) = 0
+
+module _ (file : List ℕ) (n o f : ℕ) (h : Header) (is : Ok h ≡ header_of file) (ts : List Test) where
   numbers : (h.superframes ≡ header_number file 0) × (h.overhead ≡ header_number file 1) × (h.frames ≡ header_number file 2)
   numbers =
-      let p = is ∙ (judged_done file (length file) v (ap (λ (x : Header). x.answer) (sym is) ∙ opens)).is in
-      (ap (λ (x : Header). x.superframes) p, ap (λ (x : Header). x.overhead) p, ap (λ (x : Header). x.frames) p)
+      let p = is ∙ (judged_done file (length file) 0 (sym (header_done file (Ok h) is h refl))).is in
+      (ap (number_in (λ x. x.superframes)) p, ap (number_in (λ x. x.overhead)) p, ap (number_in (λ x. x.frames)) p)
 
   pub other_n : (n ≡ h.superframes → ⊥) → Err BadHeader ≡ verdict (other_numbers file n o f ∷ ts)
   unfolding other_numbers
@@ -55,6 +60,17 @@ module _ (file : List ℕ) (n o f : ℕ) (h : Header) (is : h ≡ header_of file
         let e = numbers in no_bad_header ts _ a (simp (eq-eqb _ _ (en ∙ e.0), eq-eqb _ _ (eo ∙ e.1), eq-eqb _ _ (ef ∙ e.2)))
 
 pub ruleset open_numbers = (other_n, other_o, other_f, same_numbers)
+
+-- The reader's answer as a worker meets it: it has the file's header.
+module _ (file : List ℕ) (n o f q s : ℕ) (h : Result Header Refusal) (is : h ≡ header_of file) where
+  pub read_unopened : (r : Refusal) → h ≡ Err r → Err r ≡ read_answer file n o f q s
+  unfolding read_answer
+  read_unopened r e = first_refused (header_tests file (length file)) _ (open_answer file) refl r (sym (header_refused file h is r e))
+
+  pub read_opened : (x : Header) → h ≡ Ok x → (a : Answer) → a ≡ verdict (other_numbers file n o f ∷ no_sub_frame s ∷ no_super_frame q n ∷ [])
+      → a ≡ read_answer file n o f q s
+  unfolding read_answer
+  read_opened x e a g = first_passed (header_tests file (length file)) _ (open_answer file) refl 0 a (sym (header_done file h is x e)) g
 
 -- What holds where the reader is not refused.
 pub record Reads (file : List ℕ) (n o f q s : ℕ) : Type 0 where
@@ -186,15 +202,15 @@ module _ (file : List ℕ) (opens : Accepted (open_answer file)) (q s : ℕ) whe
   -- Where the opening is done, the frame decides.
   pub opened : (a : Answer) → a ≡ verdict (no_sub_frame s ∷ no_super_frame q (open_call file).superframes ∷ [])
       → a ≡ read_answer_in (open_call file) q s
-  unfolding read_answer judged
+  unfolding read_answer
   opened a e =
       let d = accepted_done (open_answer file) opens in
-      let i = open_done file (judged_done file (length file) d.0 d.1) in
+      let sound = judged_done file (length file) d.0 d.1 in
+      let i = open_done file sound in
       rw i
       (first_passed (header_tests file (length file)) _ (open_answer file) refl d.0 a d.1
-      (same_numbers file _ _ _ (header_of file) refl d.0 d.1 _
-      (sym (numbers file 0 0 0 (header_of file) refl d.0 d.1 []).0) (sym (numbers file 0 0 0 (header_of file) refl d.0 d.1 []).1)
-      (sym (numbers file 0 0 0 (header_of file) refl d.0 d.1 []).2) a (rw i at e)))
+      (same_numbers file _ _ _ (record { superframes = header_number file 0; overhead = header_number file 1; frames = header_number file 2; total = header_number file 3 })
+      (sym sound.is) _ refl refl refl a (rw i at e)))
 
   pub opened_done : s ≤ 47 → q < (open_call file).superframes → read_answer_in (open_call file) q s ≡ Ok 0
   opened_done l h = sym (opened (Ok 0) (sub_frame_lem _ s _ l (super_frame _ q _ _ h none_left)))

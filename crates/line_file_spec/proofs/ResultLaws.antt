@@ -10,8 +10,8 @@ use Rattle.calls.proofs.AnswerLaws.{refused_turned}
 use Rattle.calls.specs.Results.{result, result_of}
 use Rattle.calls.specs.Calls.{misfit, short_file, bad_header, no_sub_frame, no_super_frame}
 use Rattle.calls.proofs.ResultLaws.{results, call_result, verdict_result}
-use Rattle.line_file_spec.specs.Header.{header_number, rules_hold, header_tests, judged}
-use Rattle.line_file_spec.specs.Opening.{open_answer, open_refusal, part_when, open_call}
+use Rattle.line_file_spec.specs.Header.{header_number, rules_hold, header_tests, header_when, judged}
+use Rattle.line_file_spec.specs.Opening.{open_answer, open_refusal, part_when, open_with, open_call}
 use Rattle.line_file_spec.specs.Reading.{other_numbers, read_answer, read_refusal, start_of, read_part}
 use Rattle.line_file_spec.specs.Writing.{write_call}
 
@@ -47,9 +47,15 @@ part_result : (a : Answer) (part : List ℕ) → part_when a part ≡ cond (eqb 
 part_result (Ok v) part = refl
 part_result (Err r) part = simp (ne_eqb (number_of r) 0 (refused_turned r))
 
+file_when : (file : List ℕ) (a : Answer) (n o f total : ℕ) → (open_with file (header_when a n o f total)).file ≡ part_when a file
+file_when file (Ok v) n o f total = refl
+file_when file (Err r) n o f total = refl
+
 pub open_part_result : (file : List ℕ) → (open_call file).file ≡ cond (eqb (open_refusal file) 0) file []
 unfolding open_call judged
-open_part_result file = part_result (open_answer file) file
+open_part_result file =
+    file_when file (open_answer file) (header_number file 0) (header_number file 1) (header_number file 2) (header_number file 3)
+    ∙ part_result (open_answer file) file
 
 pub read_part_result : (file : List ℕ) (n o f q s : ℕ)
     → read_part file n o f q s ≡ cond (eqb (read_refusal file n o f q s) 0) (take 7424 (drop (start_of f q s) file)) []

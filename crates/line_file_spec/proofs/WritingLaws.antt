@@ -12,11 +12,10 @@ use Rattle.std.specs.Prelude.{Ok}
 use Rattle.calls.specs.Answers.{refusal_of, Accepted, TurnedBack}
 use Rattle.calls.specs.Calls.{After, after}
 use Rattle.calls.proofs.CallLaws.{none_left, no_misfit, no_bad_header, call_done, call_keeps}
-use Rattle.line_file_spec.specs.declared.Header.{Header}
-use Rattle.line_file_spec.specs.Header.{header_number, judged}
+use Rattle.line_file_spec.specs.Header.{header_number}
 use Rattle.line_file_spec.proofs.HeaderLaws.{Sound, judged_good, number_first}
 use Rattle.line_file_spec.specs.Opening.{open_answer, OpenFile, open_file, open_call}
-use Rattle.line_file_spec.proofs.OpeningLaws.{open_done}
+use Rattle.line_file_spec.proofs.OpeningLaws.{open_done, sound_accepted}
 use Rattle.line_file_spec.specs.Reading.{read_answer_in, read_part_in, start_of}
 use Rattle.line_file_spec.proofs.ReadingLaws.{opened_done, stretches_whole}
 use Rattle.line_file_spec.specs.Writing.{numbers_for, write_call}
@@ -86,12 +85,11 @@ module _ (n : ℕ) (file : List ℕ) (one : 1 ≤ n) (most : n ≤ 64) (starts :
 
   -- Each of its sub-frames can be read, and those of a super-frame make up its bytes.
   pub written_reads : (q s : ℕ) → q < n → s ≤ 47 → Accepted (read_answer_in (open_call file) q s)
-  unfolding judged
   written_reads q s lq ls =
       ap refusal_of (opened_done file opens q s ls (omega (arith, ap (λ (d : OpenFile). d.superframes) written_opens)))
     where
       opens : Accepted (open_answer file)
-      opens = ap (λ (h : Header). refusal_of h.answer) written_sound.is
+      opens = sound_accepted file written_sound
 
   pub written_whole : (q : ℕ) → q < n → end_to_end 48 7424 (read_part_in (open_call file) q) ≡ part (start_of 12304 q 0) 356352 file
   written_whole q l =

@@ -1,11 +1,10 @@
 -- The header of a line file. 01, "Line file": "Header, four 32-bit numbers, most significant byte first: super-frames n
 -- (1 to 64), offset o of the overhead list, offset f of the frames, total length."
 -- Assumes nothing.
-use Rattle.std.specs.Prelude.{List, [], ◌∷◌, Bool, ℕ, ◌+◌, ◌*◌, leb, eqb}
+use Rattle.std.specs.Prelude.{List, [], ◌∷◌, Bool, ℕ, ◌+◌, ◌*◌, leb, eqb, Result, Ok, Err}
 use Rattle.bits.specs.Numbers32.{number32}
 use Rattle.bits.specs.Tests.{both}
 use Rattle.calls.specs.Answers.{Answer}
-use Rattle.std.specs.Prelude.{Ok, Err}
 use Rattle.calls.specs.declared.Refusal.{Refusal}
 use Rattle.calls.specs.Calls.{Test, short_file, bad_header, verdict}
 use Rattle.line_file_spec.specs.declared.Header.{Header}
@@ -28,20 +27,13 @@ rules_hold n o f total size =
 unfoldable pub header_tests : List ℕ → ℕ → List Test
 header_tests bytes size = short_file size ∷ bad_header (rules_hold (header_number bytes 0) (header_number bytes 1) (header_number bytes 2) (header_number bytes 3) size) ∷ []
 
--- The header by their answer: its numbers where it keeps the rules, and zeros where it is refused.
-abbrev pub number_when : Answer → ℕ → ℕ
-number_when (Ok v) n = n
-number_when (Err r) n = 0
+-- The header by their answer: its numbers where it keeps the rules, and otherwise the refusal.
+abbrev pub header_when : Answer → ℕ → ℕ → ℕ → ℕ → Result Header Refusal
+header_when (Ok v) n o f total = Ok (record { superframes = n; overhead = o; frames = f; total = total })
+header_when (Err r) n o f total = Err r
 
-abbrev pub header_when : Answer → ℕ → ℕ → ℕ → ℕ → Header
-header_when a n o f total =
-    record { answer = a; superframes = number_when a n; overhead = number_when a o; frames = number_when a f; total = number_when a total }
-
-abbrev pub good : ℕ → ℕ → ℕ → ℕ → Header
+abbrev pub good : ℕ → ℕ → ℕ → ℕ → Result Header Refusal
 good n o f total = header_when (Ok 0) n o f total
 
-abbrev pub refused_header : Refusal → Header
-refused_header r = header_when (Err r) 0 0 0 0
-
-unfoldable pub judged : List ℕ → ℕ → Header
+unfoldable pub judged : List ℕ → ℕ → Result Header Refusal
 judged bytes size = header_when (verdict (header_tests bytes size)) (header_number bytes 0) (header_number bytes 1) (header_number bytes 2) (header_number bytes 3)

@@ -1,15 +1,14 @@
 -- Opening a line file.
 -- Assumes nothing.
-use Rattle.std.specs.Prelude.{List, [], ℕ, length}
-use Rattle.calls.specs.Answers.{Answer}
-use Rattle.std.specs.Prelude.{Ok, Err}
-use Rattle.calls.specs.Answers.{refusal_of}
+use Rattle.std.specs.Prelude.{List, [], ℕ, length, Result, Ok, Err}
+use Rattle.calls.specs.declared.Refusal.{Refusal}
+use Rattle.calls.specs.Answers.{Answer, refusal_of}
 use Rattle.calls.specs.Calls.{verdict}
 use Rattle.line_file_spec.specs.declared.Header.{Header}
 use Rattle.line_file_spec.specs.Header.{header_tests, judged}
 
 -- The header of a file, judged by its bytes and its length.
-abbrev pub header_of : List ℕ → Header
+abbrev pub header_of : List ℕ → Result Header Refusal
 header_of file = judged file (length file)
 
 -- What opening answers.
@@ -39,8 +38,9 @@ abbrev pub open_file : List ℕ → ℕ → ℕ → ℕ → OpenFile
 open_file file n o f = record { file = file; superframes = n; overhead = o; frames = f }
 
 -- The file that is open by this header. "A refused opening holds the empty part and zeros."
-abbrev pub open_with : List ℕ → Header → OpenFile
-open_with file h = open_file (part_when h.answer file) h.superframes h.overhead h.frames
+abbrev pub open_with : List ℕ → Result Header Refusal → OpenFile
+open_with file (Ok h) = open_file file h.superframes h.overhead h.frames
+open_with file (Err r) = open_file [] 0 0 0
 
 unfoldable pub open_call : List ℕ → OpenFile
 open_call file = open_with file (header_of file)

@@ -2,12 +2,9 @@
 // `opening_core` and `line_file_core`, the calls in `header` and `line_file`.
 #![tactic(auto)]
 
-use calls::Answer;
-
-// A header as it is judged: done, with its numbers, or refused, with zeros.
-#[derive(Clone, Copy)]
+// The numbers of a header that keeps the rules.
+#[derive(Clone, Copy, Debug, PartialEq, Eq)]
 pub struct Header {
-    pub answer: Answer,
     pub superframes: u32,
     pub overhead: u32,
     pub frames: u32,

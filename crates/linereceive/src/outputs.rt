@@ -1,250 +1,203 @@
 // The four files that are written: each is made beside its name and takes it when all four are whole.
-use files::message;
-use std::fs::OpenFile;
+use crate::inputs::Inputs;
+use files::{Made, Name, Said, message};
 use std::io::Write;
 use std::random::RandomSource;
 use std::rt::{Env, Files};
-use std::{fs, str};
 
-// The first of their arguments.
-const FIRST: usize = 3;
+// The arguments of the first payload file and of the first marks file.
+const PAYLOAD: usize = 3;
 
-// Where the file of an argument is made: a path of so many bytes.
-#[derive(Clone, Copy)]
-pub struct Place {
-    pub argument: usize,
-    pub length: usize,
-    pub path: [u8; 4096],
-}
+const MARKS: usize = 5;
 
-// The file of an argument.
+// The file of an argument, which is called `what` where a write fails.
 #[derive(Drop)]
 pub struct Output<F> {
-    pub file: F,
-    pub place: Place,
+    argument: usize,
+    what: &'static str,
+    made: Made<F>,
 }
 
-// All four.
+impl<F: Write> Output<F> {
+    // Writes to the file, or says why it cannot.
+    pub fn put<R: Eprint>(&mut self, rt: &R, bytes: &[u8]) -> Result<(), Said> {
+        self.made
+            .file
+            .write_all(bytes)
+            .map_err(|error| message::fail(rt, self.what.as_bytes(), error))
+    }
+}
+
+// Payload and marks of a receiver.
+#[derive(Drop)]
+pub struct Side<F> {
+    pub payload: Output<F>,
+    pub marks: Output<F>,
+}
+
+// Those of both. They stand in no array: the proof of its drop would need the size of a file.
 #[derive(Drop)]
 pub struct Outputs<F> {
-    pub payload0: Output<F>,
-    pub payload1: Output<F>,
-    pub marks0: Output<F>,
-    pub marks1: Output<F>,
+    pub first: Side<F>,
+    pub second: Side<F>,
 }
 
-// Whether a name is that of an input; says so.
-fn is_input<R: Files + Env + Eprint>(
+// Says which input a name is that of, where it is one's.
+fn spare_inputs<R: Files + Env + Eprint>(
     rt: &R,
     argument: usize,
-    name: &[u8],
-    line: &R::File,
-    capture: &R::File,
-) -> bool {
-    if files::leads_to(rt, name, line) {
-        message::line(rt, argument, b"the same file as LINE");
-        return true;
-    }
-    if files::leads_to(rt, name, capture) {
-        message::line(rt, argument, b"the same file as CAPTURE");
-        return true;
-    }
-    false
-}
-
-// Whether a name is that of the file which another argument gives.
-fn is_name_of<R: Files + Env + Alloc + Eprint>(rt: &R, other: usize, name: &[u8]) -> bool {
-    let mut path = [0u8; 4096];
-    let n = files::target(rt, other, &mut path);
-    files::collide(rt, &path[..n], name)
-}
-
-// Whether a name is that of an output before it; says so.
-fn is_output<R: Files + Env + Alloc + Eprint>(rt: &R, argument: usize, name: &[u8]) -> bool {
-    for other in FIRST..argument {
-        if is_name_of(rt, other, name) {
-            message::line_with(rt, argument, b"the same file as argument ", other);
-            return true;
+    name: &Name,
+    inputs: &Inputs<R::File>,
+) -> Result<(), Said> {
+    let Inputs { line, capture } = inputs;
+    for (headed, what) in [(line, "LINE"), (capture, "CAPTURE")] {
+        if files::leads_to(rt, name.as_bytes(), &headed.input.file) {
+            return Err(message::line(rt, argument, format_args!("the same file as {what}")));
         }
     }
-    false
+    Ok(())
 }
 
-// Makes the file of an argument for this name; or says why it cannot.
-fn make_named<R: Files + Env + RandomSource + Alloc + Eprint>(
+// Whether a name is that of the file which another argument gives: an empty one where it gives none.
+fn is_name_of<R: Files + Env + Alloc + Eprint>(rt: &R, other: usize, name: &Name) -> bool {
+    let theirs = files::target(rt, other).unwrap_or(Name::new());
+    files::collide(rt, theirs.as_bytes(), name.as_bytes())
+}
+
+// Says which output before it a name is that of, where it is one's.
+fn spare_outputs<R: Files + Env + Alloc + Eprint>(
     rt: &R,
     argument: usize,
-    name: &[u8],
-    line: &R::File,
-    capture: &R::File,
-) -> Option<Output<R::File>> {
-    if is_input(rt, argument, name, line, capture) {
-        return None;
-    }
-    if is_output(rt, argument, name) {
-        return None;
-    }
-    let mut path = [0u8; 4096];
-    let length = files::name_beside(name, &mut path);
-    let file = files::create(rt, name, &mut path[..length])?;
-    Some(Output {
-        file,
-        place: Place {
+    name: &Name,
+) -> Result<(), Said> {
+    match (PAYLOAD..argument).find(|other| is_name_of(rt, *other, name)) {
+        Some(other) => Err(message::line(
+            rt,
             argument,
-            length,
-            path,
-        },
-    })
+            format_args!("the same file as argument {other}"),
+        )),
+        None => Ok(()),
+    }
 }
 
 // Makes the file of an argument; or says why it cannot.
 fn make<R: Files + Env + RandomSource + Alloc + Eprint>(
     rt: &R,
     argument: usize,
-    line: &R::File,
-    capture: &R::File,
-) -> Option<Output<R::File>> {
-    let mut name = [0u8; 4096];
-    let n = files::target(rt, argument, &mut name);
-    if n == 0 {
-        return None;
+    what: &'static str,
+    inputs: &Inputs<R::File>,
+) -> Result<Output<R::File>, Said> {
+    let name = files::target(rt, argument)?;
+    spare_inputs(rt, argument, &name, inputs)?;
+    spare_outputs(rt, argument, &name)?;
+    let made = files::create(rt, &name)?;
+    Ok(Output {
+        argument,
+        what,
+        made,
+    })
+}
+
+// Makes the files of an argument and the next; or neither, where one cannot be made, which is said.
+fn make_both<R: Files + Env + RandomSource + Alloc + Eprint>(
+    rt: &R,
+    argument: usize,
+    what: [&'static str; 2],
+    inputs: &Inputs<R::File>,
+) -> Result<(Output<R::File>, Output<R::File>), Said>
+    requires { argument < 100 }
+{
+    let [what0, what1] = what;
+    let first = make(rt, argument, what0, inputs)?;
+    match make(rt, argument + 1, what1, inputs) {
+        Ok(second) => Ok((first, second)),
+        Err(said) => {
+            files::discard(rt, first.made);
+            Err(said)
+        }
     }
-    make_named(rt, argument, &name[..n], line, capture)
 }
 
 // Makes all four files; or none, where one cannot be made, which is said.
 pub fn make_all<R: Files + Env + RandomSource + Alloc + Eprint>(
     rt: &R,
-    line: &R::File,
-    capture: &R::File,
-) -> Option<Outputs<R::File>> {
-    let payload0 = make(rt, 3, line, capture)?;
-    let Some(payload1) = make(rt, 4, line, capture) else {
-        discard(rt, payload0);
-        return None;
-    };
-    let Some(marks0) = make(rt, 5, line, capture) else {
-        discard(rt, payload0);
-        discard(rt, payload1);
-        return None;
-    };
-    let Some(marks1) = make(rt, 6, line, capture) else {
-        discard(rt, payload0);
-        discard(rt, payload1);
-        discard(rt, marks0);
-        return None;
-    };
-    Some(Outputs {
-        payload0,
-        payload1,
-        marks0,
-        marks1,
-    })
-}
-
-// Writes to a file, or says why it cannot.
-pub fn put<R: Eprint, W: Write>(rt: &R, out: &mut W, bytes: &[u8], what: &[u8]) -> bool {
-    match out.write_all(bytes) {
-        Ok(()) => true,
-        Err(error) => {
-            report::fail(rt, what, error);
-            false
+    inputs: &Inputs<R::File>,
+) -> Result<Outputs<R::File>, Said> {
+    let (payload0, payload1) = make_both(rt, PAYLOAD, ["PAYLOAD0", "PAYLOAD1"], inputs)?;
+    match make_both(rt, MARKS, ["MARKS0", "MARKS1"], inputs) {
+        Ok((marks0, marks1)) => Ok(Outputs {
+            first: Side {
+                payload: payload0,
+                marks: marks0,
+            },
+            second: Side {
+                payload: payload1,
+                marks: marks1,
+            },
+        }),
+        Err(said) => {
+            files::discard(rt, payload0.made);
+            files::discard(rt, payload1.made);
+            Err(said)
         }
     }
-}
-
-// Closes a file, and answers whether it is whole, or says why not.
-fn close<R: Env + Eprint, F: OpenFile + Drop>(rt: &R, file: F, place: &Place) -> bool {
-    let mut name = [0u8; 4096];
-    let n = rt.arg(place.argument, &mut name).unwrap_or(0);
-    files::close(rt, file, &name[..n])
-}
-
-// Gives the file at a place the name of its argument, and answers whether it has it.
-fn take_name<R: Files + Env + Alloc + Eprint>(rt: &R, place: &Place) -> bool {
-    let mut name = [0u8; 4096];
-    let n = files::target(rt, place.argument, &mut name);
-    if place.length <= 4096 {
-        return files::take_name(rt, &place.path[..place.length], &name[..n]);
-    }
-    false
-}
-
-// Removes it.
-fn remove<R: Files>(rt: &R, place: &Place) {
-    if place.length <= 4096 {
-        if let Ok(path) = str::from_utf8(&place.path[..place.length]) {
-            let _ = fs::remove_file(rt, path);
-        }
-    }
-}
-
-// Closes a file and removes it.
-fn discard<R: Files>(rt: &R, out: Output<R::File>) {
-    let Output { file, place } = out;
-    drop(file);
-    remove(rt, &place);
-}
-
-// Gives a file its name where those before it have theirs, or removes it; answers whether it has the name.
-fn settle<R: Files + Env + Alloc + Eprint>(rt: &R, place: &Place, good: bool) -> bool {
-    if good {
-        return take_name(rt, place);
-    }
-    remove(rt, place);
-    false
 }
 
 // Removes all four files.
 pub fn discard_all<R: Files>(rt: &R, outputs: Outputs<R::File>) {
-    let Outputs {
-        payload0,
-        payload1,
-        marks0,
-        marks1,
-    } = outputs;
-    discard(rt, payload0);
-    discard(rt, payload1);
-    discard(rt, marks0);
-    discard(rt, marks1);
+    let Outputs { first, second } = outputs;
+    files::discard(rt, first.payload.made);
+    files::discard(rt, second.payload.made);
+    files::discard(rt, first.marks.made);
+    files::discard(rt, second.marks.made);
 }
 
-// Gives all four files their names where they are whole, or removes them; answers whether they have their names.
-pub fn finish<R: Files + Env + Alloc + Eprint>(rt: &R, outputs: Outputs<R::File>) -> bool {
-    let Outputs {
-        payload0,
-        payload1,
-        marks0,
-        marks1,
-    } = outputs;
-    let Output {
-        file: file0,
-        place: place0,
-    } = payload0;
-    let Output {
-        file: file1,
-        place: place1,
-    } = payload1;
-    let Output {
-        file: file2,
-        place: place2,
-    } = marks0;
-    let Output {
-        file: file3,
-        place: place3,
-    } = marks1;
-    let mut whole = close(rt, file0, &place0);
-    if !close(rt, file1, &place1) {
-        whole = false;
+// A file that is closed: its argument, and the path at which it was made.
+#[derive(Drop)]
+struct Closed {
+    argument: usize,
+    path: Name,
+}
+
+// Closes a file; says why it is not whole, where it is not.
+fn close<R: Files + Env + Eprint>(
+    rt: &R,
+    output: Output<R::File>,
+    good: &mut Result<(), Said>,
+) -> Closed {
+    let Output { argument, made, .. } = output;
+    let Made { file, path } = made;
+    let name = Name::of_argument(rt, argument).unwrap_or(Name::new());
+    if let Err(said) = files::close(rt, file, name.as_bytes()) {
+        *good = Err(said);
     }
-    if !close(rt, file2, &place2) {
-        whole = false;
+    Closed { argument, path }
+}
+
+// Gives a closed file the name of its argument, an empty one where it gives none; or says why it cannot.
+fn take_name<R: Files + Env + Alloc + Eprint>(rt: &R, closed: &Closed) -> Result<(), Said> {
+    let name = files::target(rt, closed.argument).unwrap_or(Name::new());
+    files::take_name(rt, &closed.path, &name)
+}
+
+// Gives all four files their names where they are whole; or says why not, and removes those that have not theirs.
+pub fn finish<R: Files + Env + Alloc + Eprint>(
+    rt: &R,
+    outputs: Outputs<R::File>,
+) -> Result<(), Said> {
+    let Outputs { first, second } = outputs;
+    let mut good = Ok(());
+    let all = [
+        close(rt, first.payload, &mut good),
+        close(rt, second.payload, &mut good),
+        close(rt, first.marks, &mut good),
+        close(rt, second.marks, &mut good),
+    ];
+    for closed in &all {
+        match good {
+            Ok(()) => good = take_name(rt, closed),
+            Err(_) => files::remove(rt, &closed.path),
+        }
     }
-    if !close(rt, file3, &place3) {
-        whole = false;
-    }
-    let first = settle(rt, &place0, whole);
-    let second = settle(rt, &place1, first);
-    let third = settle(rt, &place2, second);
-    settle(rt, &place3, third)
+    good
 }

@@ -2,7 +2,7 @@
 -- Assumes nothing.
 use Rattle.std.specs.Prelude.{◌≡◌, ◌≢◌}
 use Rattle.std.proofs.Math.Path.{refl, ap, ap₂}
-use Rattle.std.proofs.Common.{sym, ◌∙◌, Fits}
+use Rattle.std.proofs.Common.{sym, subst, ◌∙◌, Fits}
 use mathlib.Core.List.{List}
 use Prim.Native.Nat.{ℕ, ◌+◌, ◌-◌, ◌*◌, ◌/◌, ◌%◌, ◌<◌, ◌≤◌}
 use native.Mathlib.Omega.{arith}
@@ -148,30 +148,13 @@ module _ (f : Profile) (q : ℕ) (coded0 coded1 list made frames got0 got1 x y :
         off1 = ap (λ (a : Deinterleaved). a.written.pairs1) carried;
       }
 
--- The same of what encoder e and the other one send, in the order of the encoders.
-module _ (f : Profile) (list : List ℕ) (q e : ℕ) (own other : List ℕ) (eo : own ≡ sent_part f e q) (et : other ≡ sent_part f (1 - e) q) where
-  module _ (h : e ≡ 0) where
-    first_line : damaged_line f list q own other ≡ line_in f list q
-    unfolding line_in
-    first_line = let one : 1 - e ≡ 1 = omega arith in ap₂ (damaged_line f list q) (eo ∙ ap (λ n. sent_part f n q) h) (et ∙ ap (λ n. sent_part f n q) one)
-
-    pub first_taken : {v : ℕ} {x y : List ℕ} → Taken f (damaged_line f list q own other) list v x y
-        → (v ≡ differing_all (line_in f list q) list) × (x ≡ pairs_off f (line_in f list q) e)
-    first_taken t = (t.differing ∙ ap (λ l. differing_all l list) first_line, t.off0 ∙ ap₂ (pairs_off f) first_line (sym h))
-
-  module _ (l : e < 2) (h : e ≢ 0) where
-    second_line : damaged_line f list q other own ≡ line_in f list q
-    unfolding line_in
-    second_line =
-        let one : e ≡ 1 = omega arith in
-        let zero : 1 - e ≡ 0 = omega arith in
-        ap₂ (damaged_line f list q) (et ∙ ap (λ n. sent_part f n q) zero) (eo ∙ ap (λ n. sent_part f n q) one)
-
-    pub second_taken : {v : ℕ} {x y : List ℕ} → Taken f (damaged_line f list q other own) list v x y
-        → (v ≡ differing_all (line_in f list q) list) × (y ≡ pairs_off f (line_in f list q) e)
-    second_taken t =
-        let one : 1 ≡ e = omega arith in
-        (t.differing ∙ ap (λ l. differing_all l list) second_line, t.off1 ∙ ap₂ (pairs_off f) second_line one)
+-- The same of what the encoders send.
+pub sent_carried : (f : Profile) (q : ℕ) (coded0 coded1 list : List ℕ) {v : ℕ} {x y : List ℕ} → coded0 ≡ sent_part f 0 q → coded1 ≡ sent_part f 1 q
+    → Taken f (damaged_line f list q coded0 coded1) list v x y → Taken f (line_in f list q) list v x y
+unfolding line_in
+sent_carried f q coded0 coded1 list {v} {x} {y} e0 e1 t =
+    let is : damaged_line f list q coded0 coded1 ≡ damaged_line f list q (sent_part f 0 q) (sent_part f 1 q) = ap₂ (damaged_line f list q) e0 e1 in
+    subst (λ l. Taken f l list v x y) is t
 
 -- ---- super-frames end to end
 

@@ -12,36 +12,28 @@ mod printing;
 mod receiving;
 mod sending;
 
-ghost use Rattle.std.specs.Prelude.{◌≡◌, ◌<◌, length};
-
 use profile::Profile;
+use sending::{Coded, Encoder};
 
 // Runs an encoder. Not compiled into its caller, which would then hold its array beside the line's.
 #[inline(never)]
-fn run_encoder<R: Print + Eprint>(rt: &R, encoder: u32)
-    requires { encoder < 2 }
-{
-    let mut coded = sending::blank_coded();
-    sending::encode(rt, encoder, &mut coded);
+fn run_encoder<R: Print + Eprint>(rt: &R, encoder: Encoder) {
+    sending::encode(rt, encoder, &mut [0; 172032]);
 }
 
 // Receives what came off the line, beside what was sent.
-fn compare_with_sent<R: Print + Eprint>(rt: &R, encoder: u32, got: &[u8])
-    requires { (encoder < 2) × (length got.now ≡ 172032) }
-{
-    let mut sent = sending::blank_coded();
+fn compare_with_sent<R: Print + Eprint>(rt: &R, encoder: Encoder, got: &Coded) {
+    let mut sent = [0; 172032];
     sending::encode_again(encoder, &mut sent);
     receiving::receive(rt, encoder, &sent, got);
 }
 
 // Runs the line and the receiver of an encoder. The line is the same for both receivers, and what it did is printed once.
-fn run_receiver<R: Print + Eprint>(rt: &R, profile: Profile, encoder: u32)
-    requires { encoder < 2 }
-{
-    let mut got = sending::blank_coded();
-    let mut counts = [0u32; 41];
+fn run_receiver<R: Print + Eprint>(rt: &R, profile: Profile, encoder: Encoder) {
+    let mut got = [0; 172032];
+    let mut counts = [0; 41];
     line::carry(profile, encoder, &mut got, &mut counts);
-    if encoder == 0 {
+    if encoder.number == 0 {
         printing::print_line(rt, &counts);
     }
     compare_with_sent(rt, encoder, &got);
@@ -49,10 +41,12 @@ fn run_receiver<R: Print + Eprint>(rt: &R, profile: Profile, encoder: u32)
 
 // Runs both encoders and both receivers.
 fn run<R: Print + Eprint>(rt: &R, profile: Profile) {
-    run_encoder(rt, 0);
-    run_encoder(rt, 1);
-    run_receiver(rt, profile, 0);
-    run_receiver(rt, profile, 1);
+    let first = Encoder { number: 0 };
+    let second = Encoder { number: 1 };
+    run_encoder(rt, first);
+    run_encoder(rt, second);
+    run_receiver(rt, profile, first);
+    run_receiver(rt, profile, second);
 }
 
 // Says that an argument is one too many. Not compiled into its caller, which would then hold the text's buffer all along.

@@ -1,39 +1,9 @@
 // The print of the counters of `loopback_core`.
-ghost use Rattle.std.specs.Prelude.{◌<◌};
-
+use loopback_core::counts::Counts;
 use std::io;
 
-// Prints a byte, or a count for a number sign, and answers whether it could.
-fn put<R: Print>(rt: &R, byte: u8, count: u32) -> io::Result<()> {
-    if byte == b'#' {
-        return rt.print(count);
-    }
-    let one = [byte; 1];
-    rt.write_all(&one)
-}
-
-// The place of the next count, behind a byte.
-fn next(at: usize, byte: u8) -> usize
-    requires { at < 41 }
-    ensures { result < 41 }
-{
-    if byte == b'#' {
-        return (at + 1) % 41;
-    }
-    at
-}
-
-// Prints a text with the counts, from a place on, for its number signs; or says why it cannot.
-fn print<R: Print + Eprint>(rt: &R, text: &[u8], counts: &[u32; 41], from: usize) {
-    let mut at = from % 41;
-    let mut printed: io::Result<()> = Ok(());
-    for i in 0..text.len() {
-        let byte = text[i];
-        if let Err(error) = put(rt, byte, counts[at]) {
-            printed = Err(error);
-        }
-        at = next(at, byte);
-    }
+// Says why a text could not be printed, where it could not.
+fn end<R: Eprint>(rt: &R, printed: io::Result<()>) {
     if let Err(error) = printed {
         report::fail(rt, b"standard output", error);
     }
@@ -41,49 +11,72 @@ fn print<R: Print + Eprint>(rt: &R, text: &[u8], counts: &[u32; 41], from: usize
 
 // Prints that the counts of QPSK follow.
 pub fn print_qpsk<R: Print + Eprint>(rt: &R) {
-    let none = [0u32; 41];
-    print(rt, b"qpsk\n", &none, 0);
+    end(rt, println!(rt; "qpsk"));
+}
+
+// Prints the pairs, and the calls by their refusals.
+fn print_calls<R: Print>(rt: &R, who: &str, counts: &Counts) -> io::Result<()> {
+    println!(rt;
+        "{who}: pairs {}, calls done {}, refused by number {} {} {} {} {}",
+        counts[0], counts[1], counts[2], counts[3], counts[4], counts[5], counts[6]
+    )
 }
 
 // Prints what an encoder did.
-pub fn print_encoder<R: Print + Eprint>(rt: &R, counts: &[u32; 41]) {
-    print(
-        rt,
-        b"encoder: pairs #, calls done #, refused by number # # # # #\n",
-        counts,
-        0,
-    );
+#[inline(never)]
+pub fn print_encoder<R: Print + Eprint>(rt: &R, counts: &Counts) {
+    end(rt, print_calls(rt, "encoder", counts));
 }
 
 // Prints what the line did.
-pub fn print_line<R: Print + Eprint>(rt: &R, counts: &[u32; 41]) {
-    print(
+#[inline(never)]
+pub fn print_line<R: Print + Eprint>(rt: &R, counts: &Counts) {
+    end(
         rt,
-        b"\
-line: refused by number # # # # #
-overhead cells that differ #
-",
-        counts,
-        2,
+        println!(rt;
+            "line: refused by number {} {} {} {} {}\noverhead cells that differ {}",
+            counts[2], counts[3], counts[4], counts[5], counts[6], counts[7]
+        ),
     );
 }
 
+// Prints the words by their marks, from those with no wrong bit on.
+fn print_words<R: Print>(rt: &R, counts: &Counts) -> io::Result<()> {
+    println!(rt;
+        "words with 0 wrong bits: marked 0 {}, 1 {}, 2 {}, lost {}",
+        counts[7], counts[8], counts[9], counts[10]
+    )?;
+    println!(rt; "words with 1: {} {} {} {}", counts[11], counts[12], counts[13], counts[14])?;
+    println!(rt; "words with 2: {} {} {} {}", counts[15], counts[16], counts[17], counts[18])?;
+    println!(rt; "words with 3: {} {} {} {}", counts[19], counts[20], counts[21], counts[22])?;
+    println!(rt; "words with more: {} {} {} {}", counts[23], counts[24], counts[25], counts[26])
+}
+
+// Prints the bits, coded and of the payload.
+fn print_bits<R: Print>(rt: &R, counts: &Counts) -> io::Result<()> {
+    println!(rt;
+        "bits in words not lost: right {}, mended {}, spoilt {}, wrong {}",
+        counts[27], counts[28], counts[29], counts[30]
+    )?;
+    println!(rt;
+        "bits in lost words: right {}, mended {}, spoilt {}, wrong {}",
+        counts[31], counts[32], counts[33], counts[34]
+    )?;
+    println!(rt;
+        "payload bits: right {}, wrong {}; in lost words: right {}, wrong {}",
+        counts[35], counts[36], counts[37], counts[38]
+    )
+}
+
+// Prints what a receiver made of the pairs.
+fn print_received<R: Print>(rt: &R, counts: &Counts) -> io::Result<()> {
+    print_calls(rt, "receiver", counts)?;
+    print_words(rt, counts)?;
+    print_bits(rt, counts)
+}
+
 // Prints what a receiver did, and what came of it.
-pub fn print_receiver<R: Print + Eprint>(rt: &R, counts: &[u32; 41]) {
-    print(
-        rt,
-        b"\
-receiver: pairs #, calls done #, refused by number # # # # #
-words with 0 wrong bits: marked 0 #, 1 #, 2 #, lost #
-words with 1: # # # #
-words with 2: # # # #
-words with 3: # # # #
-words with more: # # # #
-bits in words not lost: right #, mended #, spoilt #, wrong #
-bits in lost words: right #, mended #, spoilt #, wrong #
-payload bits: right #, wrong #; in lost words: right #, wrong #
-",
-        counts,
-        0,
-    );
+#[inline(never)]
+pub fn print_receiver<R: Print + Eprint>(rt: &R, counts: &Counts) {
+    end(rt, print_received(rt, counts));
 }

@@ -1,6 +1,6 @@
 // Receiving: the pairs of an encoder in order, each after refused calls, and what came of them. `sent` and `got` are the coded pairs as
 // sent and as received.
-ghost use Rattle.std.specs.Prelude.{◌≡◌, ◌+◌, ◌-◌, ◌<◌, length};
+ghost use Rattle.std.specs.Prelude.{◌≡◌, ◌+◌, ◌<◌, length};
 ghost use Rattle.bits.specs.Parts.{part_of};
 ghost use Rattle.pair_spec.specs.Front.{held_pairs, history_of, BeforePair};
 ghost use Rattle.pair_spec.specs.Stream.{pair_receiver, history_over};
@@ -9,36 +9,30 @@ ghost use Rattle.loopback_core.specs.Steps.{each_step};
 ghost use Rattle.loopback.specs.Received.{word_in, kept_word, payload_word, coded_counted, payload_counted, pair_compared, pair_taken, next_received};
 
 use crate::printing::print_receiver;
-use loopback_core::comparing::{count_bits, lost, word_kind};
-use loopback_core::counts::add;
+use crate::sending::{Coded, Encoder};
+use loopback_core::comparing::{Word, count_bits, lost, word_kind};
+use loopback_core::counts::{Counts, add};
 use loopback_core::random;
 use loopback_refused_core::refuse_receiving;
 use pair_words_core::words::{held_word, open_word};
 
-// The first of the ten pairs before pair k. A word of the first ten pairs has zeros in front, whatever stands there.
-fn before(k: usize) -> usize
-    ensures { result ≡ k - 10 }
-{
-    if k < 10 {
-        return 0;
-    }
-    k - 10
-}
+// The payload of a pair, and the marks of its words.
+type Payload = [u8; 444];
 
-// Word w of pair k, with the ten pairs before it.
-fn word(pairs: &[u8], k: usize, w: usize) -> [u8; 32]
-    requires { (length pairs.now ≡ 172032) × (k < 336) × (w < 32) }
+type Marks = [u8; 32];
+
+// Word w of pair k, with the ten pairs before it. A word of the first ten pairs has zeros in front, whatever stands there.
+fn word(pairs: &Coded, k: usize, w: usize) -> Word
+    requires { (k < 336) × (w < 32) }
     ensures { result ≡ word_in pairs.now k w }
 {
-    let a = before(k) * 512;
-    let b = a + 5120;
+    let a = k.saturating_sub(10) * 512;
     let m = k * 512;
-    let e = m + 512;
-    held_word(&pairs[a..b], &pairs[m..e], k as u32, w)
+    held_word(&pairs[a..a + 5120], &pairs[m..m + 512], k as u32, w)
 }
 
 // Word w of the newest of ten pairs, as far as that pair has it: its back half.
-fn kept_word(history: &[u8], k: usize, w: usize) -> [u8; 32]
+fn kept_word(history: &[u8], k: usize, w: usize) -> Word
     requires { (length history.now ≡ 5120) × (k < 336) × (w < 32) }
     ensures { result ≡ kept_word history.now k w }
 {
@@ -46,25 +40,24 @@ fn kept_word(history: &[u8], k: usize, w: usize) -> [u8; 32]
 }
 
 // The payload bits of word w, in their places.
-fn payload_word(payload: &[u8], k: usize, w: usize) -> [u8; 32]
-    requires { (length payload.now ≡ 444) × (k < 336) × (w < 32) }
+fn payload_word(payload: &Payload, k: usize, w: usize) -> Word
+    requires { (k < 336) × (w < 32) }
     ensures { result ≡ payload_word payload.now k w }
 {
-    let history = [0u8; 5120];
-    open_word(&history, payload, k as u32, w)
+    open_word(&[0; 5120], payload, k as u32, w)
 }
 
 // Compares word w of pair k: as received with the ten pairs before it, and as the receiver's history keeps it.
 fn compare_coded(
     k: usize,
     w: usize,
-    sent: &[u8],
-    got: &[u8],
+    sent: &Coded,
+    got: &Coded,
     history: &[u8],
     mark: u8,
-    counts: &mut [u32],
+    counts: &mut Counts,
 )
-    requires { (k < 336) × (w < 32) × (length sent.now ≡ 172032) × (length got.now ≡ 172032) × (length history.now ≡ 5120) × (length counts.old ≡ 41) }
+    requires { (k < 336) × (w < 32) × (length history.now ≡ 5120) }
     ensures { counts.new ≡ coded_counted k w sent.now got.now history.now mark counts.old }
 {
     let s = word(sent, k, w);
@@ -75,12 +68,19 @@ fn compare_coded(
 }
 
 // Compares its payload, which is drawn again.
-fn compare_payload(k: usize, w: usize, encoder: u32, out: &[u8], mark: u8, counts: &mut [u32])
-    requires { (k < 336) × (w < 32) × (encoder < 2) × (length out.now ≡ 444) × (length counts.old ≡ 41) }
-    ensures { counts.new ≡ payload_counted k w (pair_payload encoder k) out.now mark counts.old }
+fn compare_payload(
+    k: usize,
+    w: usize,
+    encoder: Encoder,
+    out: &Payload,
+    mark: u8,
+    counts: &mut Counts,
+)
+    requires { (k < 336) × (w < 32) }
+    ensures { counts.new ≡ payload_counted k w (pair_payload encoder.number k) out.now mark counts.old }
 {
-    let mut payload = [0u8; 444];
-    random::fill(&mut payload, k as u32 * 2 + encoder, 1);
+    let mut payload = [0; 444];
+    random::fill(&mut payload, k as u32 * 2 + encoder.number, 1);
     let s = payload_word(&payload, k, w);
     let o = payload_word(out, k, w);
     count_bits(111, 35 + lost(mark) * 2, &s, &o, &s, counts);
@@ -89,43 +89,43 @@ fn compare_payload(k: usize, w: usize, encoder: u32, out: &[u8], mark: u8, count
 // Compares the words of pair k.
 fn compare(
     k: usize,
-    encoder: u32,
-    sent: &[u8],
-    got: &[u8],
+    encoder: Encoder,
+    sent: &Coded,
+    got: &Coded,
     history: &[u8],
-    out: &[u8],
-    marks: &[u8],
-    counts: &mut [u32],
+    out: &Payload,
+    marks: &Marks,
+    counts: &mut Counts,
 )
-    requires { (k < 336) × (encoder < 2) × (length sent.now ≡ 172032) × (length got.now ≡ 172032) × (length history.now ≡ 5120) × (length out.now ≡ 444) × (length marks.now ≡ 32) × (length counts.old ≡ 41) }
-    ensures { counts.new ≡ pair_compared encoder k sent.now got.now history.now out.now marks.now counts.old }
+    requires { (k < 336) × (length history.now ≡ 5120) }
+    ensures { counts.new ≡ pair_compared encoder.number k sent.now got.now history.now out.now marks.now counts.old }
 {
-    for w in 0..32 {
-        compare_coded(k, w, sent, got, history, marks[w], counts);
-        compare_payload(k, w, encoder, out, marks[w], counts);
+    for (w, mark) in marks.iter().enumerate() {
+        compare_coded(k, w, sent, got, history, *mark, counts);
+        compare_payload(k, w, encoder, out, *mark, counts);
     }
 }
 
 // Receives pair k; the ten pairs of the history then stand behind its front.
 fn receive_next(
     k: usize,
-    encoder: u32,
-    sent: &[u8],
-    got: &[u8],
+    encoder: Encoder,
+    sent: &Coded,
+    got: &Coded,
     history: &mut [u8],
-    counts: &mut [u32],
+    counts: &mut Counts,
 )
-    requires { (k < 336) × (encoder < 2) × (length sent.now ≡ 172032) × (length got.now ≡ 172032) × BeforePair encoder k history.old × (length counts.old ≡ 41) }
-    ensures { (history.new ≡ history_of encoder (k + 1) (history_over pair_receiver 1 (held_pairs history.old) k (part_of 512 got.now k))) × (counts.new ≡ pair_taken encoder sent.now got.now (held_pairs history.old) k counts.old) }
+    requires { (k < 336) × BeforePair encoder.number k history.old }
+    ensures { (history.new ≡ history_of encoder.number (k + 1) (history_over pair_receiver 1 (held_pairs history.old) k (part_of 512 got.now k))) × (counts.new ≡ pair_taken encoder.number sent.now got.now (held_pairs history.old) k counts.old) }
 {
     let a = k * 512;
-    let e = a + 512;
-    let mut out = [0u8; 444];
-    let mut marks = [0u8; 32];
+    let own = &got[a..a + 512];
+    let mut out = [0; 444];
+    let mut marks = [0; 32];
     pair_stream::receive(
         1,
-        &got[a..e],
-        encoder,
+        own,
+        encoder.number,
         k as u32,
         history,
         &mut out,
@@ -144,11 +144,10 @@ fn receive_next(
 }
 
 // Receives the pairs of an encoder, each after refused calls.
-fn receive_all(encoder: u32, sent: &[u8], got: &[u8], counts: &mut [u32])
-    requires { (encoder < 2) × (length sent.now ≡ 172032) × (length got.now ≡ 172032) × (length counts.old ≡ 41) }
-    ensures { counts.new ≡ each_step 336 (next_received encoder sent.now got.now) counts.old }
+fn receive_all(encoder: Encoder, sent: &Coded, got: &Coded, counts: &mut Counts)
+    ensures { counts.new ≡ each_step 336 (next_received encoder.number sent.now got.now) counts.old }
 {
-    let mut history = history_core::fresh(encoder);
+    let mut history = history_core::fresh(encoder.number);
     for k in 0..336 {
         refuse_receiving(&mut history, counts);
         receive_next(k, encoder, sent, got, &mut history, counts);
@@ -156,10 +155,8 @@ fn receive_all(encoder: u32, sent: &[u8], got: &[u8], counts: &mut [u32])
 }
 
 // The same, and a print of what came of it.
-pub fn receive<R: Print + Eprint>(rt: &R, encoder: u32, sent: &[u8], got: &[u8])
-    requires { (encoder < 2) × (length sent.now ≡ 172032) × (length got.now ≡ 172032) }
-{
-    let mut counts = [0u32; 41];
+pub fn receive<R: Print + Eprint>(rt: &R, encoder: Encoder, sent: &Coded, got: &Coded) {
+    let mut counts = [0; 41];
     receive_all(encoder, sent, got, &mut counts);
     // The step refuses none of its calls, as its contract says.
     add(&mut counts, 0, 336);

@@ -1,12 +1,13 @@
 -- Laws of counters, and of the kinds.
 -- Assumes nothing.
-use Rattle.std.specs.Prelude.{◌≡◌, ℕ, zero, suc, ◌+◌, ◌*◌, ◌%◌, ◌^◌, ◌<◌, ◌≤◌, Bool, cond, ◌≢◌, List, length, set, ◌==◌, slice_index, slice_index_or, slice_set, refl}
-use Rattle.std.proofs.Common.{sym, ◌∙◌, add-zero, arith, eq-eqb, ne_eqb, lt-ltb, le-ltb, length-set, get_or-set_same, get_or-set_other, Fits}
+use Rattle.std.specs.Prelude.{◌≡◌, ℕ, zero, suc, ◌+◌, ◌*◌, ◌%◌, ◌^◌, ◌<◌, ◌≤◌, Bool, cond, not, true, false, min, ◌≢◌, List, length, set, ◌==◌, nat_lt, slice_index, slice_index_or, slice_set, refl}
+use Rattle.std.proofs.Common.{sym, ap₂, add-one, ◌∙◌, add-zero, arith, eq-eqb, ne_eqb, lt-ltb, le-ltb, length-set, get_or-set_same, get_or-set_other, Fits}
 use Rattle.std.proofs.Math.Path.{ap}
 use Rattle.std.proofs.Math.Decide.{ℕ_discrete}
-use Rattle.std.specs.Int.{w64}
+use Rattle.std.specs.Int.{from_bool, w64}
+use Rattle.std.proofs.lemmas.Bool.Decides.{nat_tests}
 use Rattle.bits.specs.Bits.{bit}
-use Rattle.bits.specs.Count.{count, distance}
+use Rattle.bits.specs.Count.{count, differs, distance}
 use Rattle.bits.proofs.CountLaws.{count_le, differs_le, differs_same, differs_other}
 use Rattle.bits.proofs.Folding.{Counting, count_done}
 use Rattle.calls.specs.Answers.{Answer}
@@ -23,10 +24,6 @@ use Rattle.loopback_core.specs.Tally.{tally_sum, one_more, tallied, tally, answe
 pub sum_known : (d d' : List ℕ) (at n x : ℕ) → x ≡ (slice_index d at + n) % 2 ^ 32 → d' ≡ slice_set d at x → d' ≡ tally_sum at n d
 unfolding tally_sum
 sum_known d d' at n x e is = is ∙ ap (set d at) e
-
-pub count_known : (d d' : List ℕ) (a : Answer) (r : ℕ) → r ≡ refusal_of a → refusal_of a < 6 → d' ≡ tally_sum (1 + r % 6) 1 d → d' ≡ answered a d
-unfolding answered
-count_known d d' a r e l is = let z : 1 + r % 6 ≡ 1 + refusal_of a = omega arith in is ∙ ap (λ i. tally_sum i 1 d) z
 
 -- The number of a refusal that is known.
 pub number_known : {a b : Answer} → a ≡ b → refusal_of b < 6 → refusal_of a < 6
@@ -99,15 +96,14 @@ module _ (kind : ℕ → ℕ) (d : List ℕ) (inside : (i : ℕ) → kind i < le
 
 -- ---- kinds
 
-pub differ_no : (x y : ℕ) (a b : List ℕ) (k : ℕ) → x ≡ bit a k → y ≡ bit b k → x ≡ y → 0 ≡ wrong_at a b k
-unfolding wrong_at
-differ_no x y a b k ea eb e = sym (differs_same (bit a k) (bit b k) (sym ea ∙ e ∙ eb))
-
-pub differ_yes : (x y : ℕ) (a b : List ℕ) (k : ℕ) → x ≡ bit a k → y ≡ bit b k → x ≢ y → 1 ≡ wrong_at a b k
-unfolding wrong_at
-differ_yes x y a b k ea eb n = sym (differs_other (bit a k) (bit b k) (λ e. n (ea ∙ e ∙ sym eb)))
-
-pub ruleset telling = (differ_no, differ_yes)
+-- A bit that differs counts 1.
+pub differs_is : (a b : List ℕ) (k : ℕ) (t : Bool) (n : ℕ) → t ≡ not (bit a k == bit b k) → n ≡ from_bool t → n ≡ wrong_at a b k
+unfolding wrong_at differs
+differs_is a b k t n et en = en ∙ ap from_bool et ∙ go (bit a k == bit b k)
+  where
+    go : (t : Bool) → from_bool (not t) ≡ cond t 0 1
+    go true = refl
+    go false = refl
 
 pub distance_fits : (a b : List ℕ) (n k v : ℕ) → Counting (wrong_at a b) 256 k n → v ≡ wrong_at a b k → Fits w64 (n + v)
 unfolding wrong_at
@@ -118,18 +114,16 @@ pub distance_done : (a b : List ℕ) (n k : ℕ) → Counting (wrong_at a b) 256
 unfolding distance wrong_at
 distance_done a b n k c l = count_done c l
 
-module _ (sent got : List ℕ) (mark m n : ℕ) (em : m ≡ mark) (en : n ≡ distance 256 (bit sent) (bit got)) where
-  pub word_few : n < 4 → 7 + n * 4 + m % 4 ≡ word_kind sent got mark
-  unfolding word_kind
-  word_few l = rw (em, en) (simp (lt-ltb _ _ (rw en at l)))
+four_least : (n : ℕ) → min n 4 ≡ cond (nat_lt n 4) n 4
+four_least n = grind (arith, nat_tests)
 
-  pub word_more : 4 ≤ n → 23 + m % 4 ≡ word_kind sent got mark
-  unfolding word_kind
-  word_more l = rw em (simp (le-ltb _ _ (rw en at l)))
+pub word_is : (sent got : List ℕ) (mark n few : ℕ) → n ≡ distance 256 (bit sent) (bit got) → few ≡ min n 4 → 7 + few * 4 + mark % 4 ≡ word_kind sent got mark
+unfolding word_kind
+word_is sent got mark n few en ef = rw (ef, en) (ap (λ x. 7 + x * 4 + mark % 4) (four_least (distance 256 (bit sent) (bit got))))
 
 pub bit_is : (from : ℕ) (sent got kept : List ℕ) (i d e : ℕ) → d ≡ wrong_at sent got (128 + i) → e ≡ wrong_at sent kept (128 + i)
     → from + d + e * 2 ≡ bit_kind from sent got kept i
 unfolding bit_kind
 bit_is from sent got kept i d e ed ee = rw (ed, ee)
 
-pub ruleset kinds = (word_few, word_more, bit_is)
+pub ruleset kinds = (word_is, bit_is)

@@ -6,11 +6,12 @@
 // A bit of block C is also in the front half of a word 10 - C pairs later, of the bit row that is its column; a cell gives such a
 // word one bit at most. So words of a buffer's first pair have no wrong bit in front, those of its eleventh have at most one, of its
 // first, and others have at most one, and none in the back half. No word has more than three.
-ghost use Rattle.std.specs.Prelude.{◌≡◌, ◌*◌, ◌<◌, ◌≤◌, length};
+ghost use Rattle.std.specs.Prelude.{◌≡◌, ◌*◌, ◌<◌, ◌≤◌};
 ghost use Rattle.profiles_spec.specs.Profiles.{modulation};
 ghost use Rattle.loopback_core.specs.Noise.{superframes_of, legal_byte, replaced, struck_byte, struck, carrier, strike_one, strike, strike_cell, damaged};
 ghost use Rattle.loopback_core.specs.Steps.{each_step};
 
+use crate::file::Frames;
 use cells_core::sizes::buffers;
 use profile::Profile;
 
@@ -25,12 +26,12 @@ pub fn superframes(profile: Profile) -> usize
 }
 
 // A byte that is legal in every cell.
-fn legal_byte(profile: Profile, y: usize) -> usize
-    ensures { (result ≡ legal_byte profile y) × (result < 16) }
+fn legal_byte(profile: Profile, y: usize) -> u8
+    ensures { result ≡ legal_byte profile y }
 {
     match profile {
-        Profile::Qam16 => y % 16,
-        Profile::Qpsk => 5 + y / 2 % 2 * 4 + y % 2,
+        Profile::Qam16 => (y % 16) as u8,
+        Profile::Qpsk => (5 + y / 2 % 2 * 4 + y % 2) as u8,
     }
 }
 
@@ -65,31 +66,27 @@ fn carrier(x: usize) -> usize
 }
 
 // Replaces a cell by another: X turned round, Y any.
-fn replace(profile: Profile, line: &mut [u8], cell: usize, y: usize)
-    requires { (length line.old ≡ 356352) × (cell < 178176) }
+fn replace(profile: Profile, line: &mut Frames, cell: usize, y: usize)
+    requires { cell < 178176 }
     ensures { line.new ≡ replaced profile cell y line.old }
 {
     let a = cell * 2;
     line[a] = 15 - line[a] % 16;
-    line[a + 1] = legal_byte(profile, y) as u8;
+    line[a + 1] = legal_byte(profile, y);
 }
 
 // Strikes payload cell u of the 160 of a run, ten to a buffer.
-fn strike_one(profile: Profile, u: usize, line: &mut [u8])
-    requires { (u < 160) × (length line.old ≡ 356352) }
+fn strike_one(profile: Profile, u: usize, line: &mut Frames)
+    requires { u < 160 }
     ensures { line.new ≡ strike_one profile u line.old }
 {
-    replace(
-        profile,
-        line,
-        carrier(struck(profile, u / 10, u % 2, u / 2 % 5)),
-        u * 7,
-    );
+    let cell = carrier(struck(profile, u / 10, u % 2, u / 2 % 5));
+    replace(profile, line, cell, u * 7);
 }
 
 // Strikes those of super-frame q.
-fn strike(profile: Profile, q: usize, line: &mut [u8])
-    requires { (q < superframes_of (modulation profile)) × (length line.old ≡ 356352) }
+fn strike(profile: Profile, q: usize, line: &mut Frames)
+    requires { q < superframes_of (modulation profile) }
     ensures { line.new ≡ each_step ((modulation profile).bits * 10) (strike profile q) line.old }
 {
     let n = buffers(profile) * 10;
@@ -99,8 +96,8 @@ fn strike(profile: Profile, q: usize, line: &mut [u8])
 }
 
 // Strikes a cell of the first n sub-frames.
-fn strike_cell(profile: Profile, cell: usize, n: usize, line: &mut [u8])
-    requires { (cell < 3712) × (n ≤ 48) × (length line.old ≡ 356352) }
+fn strike_cell(profile: Profile, cell: usize, n: usize, line: &mut Frames)
+    requires { (cell < 3712) × (n ≤ 48) }
     ensures { line.new ≡ each_step n (strike_cell profile cell) line.old }
 {
     for s in 0..n {
@@ -109,8 +106,8 @@ fn strike_cell(profile: Profile, cell: usize, n: usize, line: &mut [u8])
 }
 
 // All that is struck in super-frame q: training cells and pilots too.
-pub fn damage(profile: Profile, q: usize, line: &mut [u8])
-    requires { (q < superframes_of (modulation profile)) × (length line.old ≡ 356352) }
+pub fn damage(profile: Profile, q: usize, line: &mut Frames)
+    requires { q < superframes_of (modulation profile) }
     ensures { line.new ≡ damaged profile q line.old }
 {
     strike(profile, q, line);

@@ -11,9 +11,9 @@ pub fn fill(buffer: &mut [u8], stream: u32, d: u8)
     requires { 0 < d }
     ensures { buffer.new ≡ tabulate (length buffer.old) (drawn stream d) }
 {
-    let mut state = SEED + stream as u64;
-    for i in 0..buffer.len() {
+    let mut state = SEED + u64::from(stream);
+    for byte in buffer.iter_mut() {
         state = (state * 1103515245 + 12345) % 2147483648;
-        buffer[i] = (state / 65536 % 256) as u8 / d;
+        *byte = (state / 65536 % 256) as u8 / d;
     }
 }

@@ -2,8 +2,7 @@
 // Over `encoder`, `receiver` and `frame`; `loopback_core` counts them.
 #![tactic(auto)]
 
-ghost use Rattle.std.specs.Prelude.{◌≡◌, length};
-ghost use Rattle.std.specs.Prelude.{Err};
+ghost use Rattle.std.specs.Prelude.{◌≡◌, Err};
 ghost use Rattle.calls.specs.declared.Refusal.TheVariants.{Misfit, CountSpent, NoSuchFrame, OffGrid};
 ghost use Rattle.pair_spec.specs.Front.{BeforePair};
 ghost use Rattle.loopback_core.specs.Steps.{each_step};
@@ -11,16 +10,14 @@ ghost use Rattle.loopback_core.specs.Tally.{answered, refused_two};
 
 use calls::Answer;
 use history_core::SPENT;
-use loopback_core::counts::answered;
+use loopback_core::counts::{Counts, answered};
 use profile::Profile;
 
 // A call of encoding with a byte too few.
 fn encode_short(history: &mut [u8]) -> Answer
     ensures { (result ≡ Err Misfit) × (history.new ≡ history.old) }
 {
-    let payload = [0u8; 443];
-    let mut coded = [0u8; 512];
-    encoder::encode_pair(&payload, &mut coded, history, 0, 0)
+    encoder::encode_pair(&[0; 443], &mut [0; 512], history, 0, 0)
 }
 
 // A history: the encoder's number, the next pair number, and ten pairs.
@@ -30,7 +27,7 @@ type History = [u8; 5128];
 fn spent() -> History
     ensures { BeforePair 0 4294967295 result }
 {
-    let mut history = [0u8; 5128];
+    let mut history = [0; 5128];
     history_core::put(0, SPENT, &mut history[0..8]);
     history
 }
@@ -39,18 +36,14 @@ fn spent() -> History
 fn encode_spent() -> Answer
     ensures { result ≡ Err CountSpent }
 {
-    let payload = [0u8; 444];
-    let mut coded = [0u8; 512];
-    let mut history = spent();
-    encoder::encode_pair(&payload, &mut coded, &mut history, 0, SPENT)
+    encoder::encode_pair(&[0; 444], &mut [0; 512], &mut spent(), 0, SPENT)
 }
 
 // Both, for each of 168 pairs.
-pub fn refuse_encodings(history: &mut [u8], counts: &mut [u32])
-    requires { length counts.old ≡ 41 }
+pub fn refuse_encodings(history: &mut [u8], counts: &mut Counts)
     ensures { (history.new ≡ history.old) × (counts.new ≡ each_step 168 (λ k. refused_two) counts.old) }
 {
-    for k in 0..168usize {
+    for _ in 0..168 {
         answered(counts, encode_short(history));
         answered(counts, encode_spent());
     }
@@ -60,26 +53,25 @@ pub fn refuse_encodings(history: &mut [u8], counts: &mut [u32])
 fn receive_short(history: &mut [u8]) -> Answer
     ensures { (result ≡ Err Misfit) × (history.new ≡ history.old) }
 {
-    let coded = [0u8; 511];
-    let mut payload = [0u8; 444];
-    let mut marks = [0u8; 32];
-    receiver::receive_pair(&coded, &mut payload, &mut marks, history, 0, 0)
+    receiver::receive_pair(&[0; 511], &mut [0; 444], &mut [0; 32], history, 0, 0)
 }
 
 // One with the pair number that no call takes, and a history that shows it.
 fn receive_spent() -> Answer
     ensures { result ≡ Err CountSpent }
 {
-    let coded = [0u8; 512];
-    let mut payload = [0u8; 444];
-    let mut marks = [0u8; 32];
-    let mut history = spent();
-    receiver::receive_pair(&coded, &mut payload, &mut marks, &mut history, 0, SPENT)
+    receiver::receive_pair(
+        &[0; 512],
+        &mut [0; 444],
+        &mut [0; 32],
+        &mut spent(),
+        0,
+        SPENT,
+    )
 }
 
 // Both.
-pub fn refuse_receiving(history: &mut [u8], counts: &mut [u32])
-    requires { length counts.old ≡ 41 }
+pub fn refuse_receiving(history: &mut [u8], counts: &mut Counts)
     ensures { (history.new ≡ history.old) × (counts.new ≡ refused_two counts.old) }
 {
     answered(counts, receive_short(history));
@@ -90,25 +82,20 @@ pub fn refuse_receiving(history: &mut [u8], counts: &mut [u32])
 fn frame_beyond(profile: Profile) -> Answer
     ensures { result ≡ Err NoSuchFrame }
 {
-    let list = [0u8; 12288];
-    let all = &list[..];
-    let mut frame = [0u8; 7424];
-    frame::frame(profile, 48, all, all, &mut frame)
+    let list = [0; 12288];
+    frame::frame(profile, 48, &list, &list, &mut [0; 7424])
 }
 
 // One with an illegal overhead list.
 fn frame_off_grid(profile: Profile) -> Answer
     ensures { result ≡ Err (OffGrid 0) }
 {
-    let list = [16u8; 12288];
-    let all = &list[..];
-    let mut frame = [0u8; 7424];
-    frame::frame(profile, 0, &all[0..6980], all, &mut frame)
+    let list = [16; 12288];
+    frame::frame(profile, 0, &list[..6980], &list, &mut [0; 7424])
 }
 
 // Both.
-pub fn refuse_framing(profile: Profile, counts: &mut [u32])
-    requires { length counts.old ≡ 41 }
+pub fn refuse_framing(profile: Profile, counts: &mut Counts)
     ensures { counts.new ≡ answered (Err (OffGrid 0)) (answered (Err NoSuchFrame) counts.old) }
 {
     answered(counts, frame_beyond(profile));

@@ -5,16 +5,16 @@
 ghost use Rattle.std.specs.Prelude.{◌≡◌};
 ghost use Rattle.line_file_spec.specs.Opening.{header_of, open_refusal, open_part};
 
-use calls::{Answer, Refusal};
-use header_core::rules::{judge, refused};
+use calls::Refusal;
+use header_core::rules::judge;
 use line_file_spec::Header;
 
-// What opening finds: the header's numbers, or the refusal with zeros.
-pub fn open_header(file: &[u8]) -> Header
+// What opening finds: the header's numbers, or the refusal.
+pub fn open_header(file: &[u8]) -> Result<Header, Refusal>
     ensures { result ≡ header_of file.now }
 {
     if file.len() < 16 {
-        return refused(Refusal::Misfit);
+        return Err(Refusal::Misfit);
     }
     judge(file, file.len())
 }
@@ -23,18 +23,17 @@ pub fn open_header(file: &[u8]) -> Header
 pub fn open_refusal(file: &[u8]) -> u32
     ensures { result ≡ open_refusal file.now }
 {
-    let h = open_header(file);
-    let a = h.answer;
-    calls::refusal_of(a)
+    match open_header(file) {
+        Ok(_) => 0,
+        Err(refusal) => refusal.number(),
+    }
 }
 
 // The part that the open file holds: the whole file, or the empty part where opening is refused.
 pub fn open_part(file: &[u8]) -> &[u8]
     ensures { result.now ≡ open_part file.now }
 {
-    let h = open_header(file);
-    let a = h.answer;
-    match a {
+    match open_header(file) {
         Ok(_) => file,
         Err(_) => &file[..0],
     }

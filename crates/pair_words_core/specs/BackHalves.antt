@@ -1,6 +1,6 @@
 -- The back halves of a pair's 32 words, one after another; coded pair and payload as the code gathers them from there.
 -- Assumes nothing.
-use Rattle.std.specs.Prelude.{◌≡◌, Bool, true, false, cond, List, ℕ, ◌+◌, ◌-◌, ◌*◌, ◌/◌, ◌%◌, ◌^◌, ◌<◌, ◌≤◌, ltb, get_or}
+use Rattle.std.specs.Prelude.{◌≡◌, Bool, true, false, cond, List, ℕ, ◌+◌, ◌-◌, ◌*◌, ◌/◌, ◌%◌, ◌<◌, ◌≤◌, ltb, get_or}
 use Rattle.std.proofs.Math.Path.{sym}
 use Rattle.std.proofs.Common.{ap, ◌∙◌, mod-lt, zero-lt-suc, lt-ltb, le-ltb}
 use native.Mathlib.Omega.{arith}
@@ -73,11 +73,7 @@ coded_byte_is s j x y ex ey =
     let m : coded_source (j * 8 + k) % 8 ≡ k ⊕ (j / 16 % 8) = omega (arith, coded_byte_source j k l) in
     rw (d, m, ex))
 
--- A bit as code exchanges it.
-pub exchanged_bit : (x i l c b : ℕ) → c ≡ i ⊕ l → b ≡ x / 2 ^ (7 - c) % 2 → b ≡ bit_of 8 x (i ⊕ l)
-unfolding bit_of
-exchanged_bit x i l c b e p = p ∙ ap (λ n. x / 2 ^ (7 - n) % 2) e
-
+-- A bit as code takes it.
 pub exchanged_lt : (x n : ℕ) → x / n % 2 < 2
 exchanged_lt x n = mod-lt (x / n) (zero-lt-suc 1)
 
@@ -88,8 +84,6 @@ payload_low i l = simp (lt-ltb i 3072 l)
 pub payload_last : (i : ℕ) → 3072 ≤ i → payload_source i ≡ (i - 3072) / 15 * 128 + 96 + (i - 3072) % 15
 unfolding payload_source
 payload_last i l = simp (le-ltb i 3072 l)
-
-pub ruleset bit_sources = (exchanged_bit, exchanged_lt)
 
 coded_source_is : (i : ℕ) → coded_source i ≡ 128 * (i / 128) + coded_place i
 unfolding coded_source coded_place

@@ -4,3 +4,4 @@ pub mod BackHalves
 pub mod Halves
 pub mod HalvesLaws
 pub mod WordBytes
+pub mod BitCalls

@@ -1,17 +1,16 @@
 -- Where the code finds each bit of a word.
 -- Assumes nothing.
-use Rattle.std.specs.Prelude.{◌≡◌, List, ◌++◌, ℕ, ◌+◌, ◌-◌, ◌*◌, ◌/◌, ◌%◌, ◌<◌, ◌≤◌, leb, length}
+use Rattle.std.specs.Prelude.{◌≡◌, List, ◌++◌, ℕ, ◌+◌, ◌-◌, ◌*◌, ◌/◌, ◌%◌, ◌<◌, ◌≤◌, length}
 use Rattle.std.proofs.Math.Path.{sym, ap}
 use Rattle.std.proofs.Common.{◌∙◌}
 use Rattle.std.proofs.Math.Bool.{true}
 use native.Mathlib.Omega.{arith}
-use Rattle.std.proofs.Math.Decide.{dec_lt}
-use borrow.Author.Tests.{lt-ltb, le-ltb, le-leb, lt-leb}
+use borrow.Author.Tests.{lt-ltb, le-ltb}
 use Rattle.std.proofs.Math.Dec.{ltb}
 use Rattle.bits.specs.Bits.{bit}
 use Rattle.bits.specs.Xor.{◌⊕◌}
 use Rattle.word_spec.specs.Completion.{first_bits}
-use Rattle.pair_spec.specs.Rows.{front_bit, back_bit, front_counts, checked, word_of}
+use Rattle.pair_spec.specs.Rows.{front_bit, back_bit, word_of}
 use Rattle.pair_spec.specs.RowLaws.{reach, Place, zeros, before, own}
 use Rattle.pair_spec.proofs.RowLaws.{xor_16, other_pair, other_row, word_start, word_front, word_back}
 use Rattle.pair_spec.proofs.RowLaws.{place}
@@ -20,7 +19,7 @@ use Rattle.pair_spec.proofs.PairLaws.{own_index_low, own_index_high}
 use Rattle.pair_spec.specs.History.{depth, held_bits}
 use Rattle.pair_spec.proofs.HistoryLaws.{held_before, held_newest}
 use Rattle.pair_spec.specs.Encoding.{open_word}
-use Rattle.pair_spec.proofs.EncodingLaws.{of_pair, open_front, open_back, open_bits}
+use Rattle.pair_spec.proofs.EncodingLaws.{of_pair, open_front, open_back}
 use Rattle.pair_spec.specs.Receiving.{held_word}
 
 -- ---- the front half

@@ -1,14 +1,12 @@
 -- The bytes of a word as the code makes them, of bits where it finds them.
 -- Assumes nothing.
-use Rattle.std.specs.Prelude.{◌≡◌, false, cond, List, ℕ, ◌+◌, ◌-◌, ◌*◌, ◌/◌, ◌%◌, ◌^◌, ◌<◌, ◌≤◌, ltb, length, get_or, replicate}
+use Rattle.std.specs.Prelude.{◌≡◌, false, cond, List, ℕ, ◌+◌, ◌-◌, ◌*◌, ◌/◌, ◌%◌, ◌^◌, ◌<◌, ◌≤◌, ltb, length, get_or}
 use Rattle.std.proofs.Math.Path.{refl, ap}
 use Rattle.std.proofs.Common.{sym, ◌∙◌, lt-ltb, le-ltb}
 use native.Mathlib.Omega.{arith}
 use Rattle.std.proofs.Math.Decide.{dec_lt}
-use Rattle.std.proofs.lemmas.List.{get_or-replicate}
 use Rattle.bits.specs.Bits.{bit, bit_of, byte_of, from_bits}
 use Rattle.bits.proofs.BitLaws.{from_bits_ext}
-use Rattle.bits.specs.Filling.{Filling, fill_ext}
 use Rattle.bits.specs.Xor.{◌⊕◌}
 use Rattle.word_spec.specs.Completion.{first_bits}
 use Rattle.pair_spec.specs.History.{depth}
@@ -34,31 +32,23 @@ front_bit_is h w k x j b ex ej eb =
     let m : (k / 16 * 4112 + (1 - w / 16) * 2048 + x * 128 + w % 16) % 8 ≡ w % 8 = omega arith in
     eb ∙ rw (← ex, d, m)
 
--- A history's front half, or zeros before pair 10.
-pub front_stored_lem : (h : List ℕ) (P w b : ℕ) (d : List ℕ) → w < 32 → 10 ≤ P → Filling (byte_of (front_stored h w)) 32 (2 * b) d → 8 ≤ b
-    → Filling (byte_of (front_held depth h P w)) 32 16 d
+-- A byte of a history's front half; zero before pair 10.
+pub stored_front : (h : List ℕ) (P w j : ℕ) → w < 32 → j < 16 → 10 ≤ P → byte_of (front_stored h w) j ≡ byte_of (front_held depth h P w) j
 unfolding front_stored
-front_stored_lem h P w b d lw m f l =
-    fill_ext 16 f (omega arith)
-    (λ j lj. byte_of_ext (front_stored h w) (front_held depth h P w) j (λ k lk. front_held_lem h P w (j * 8 + k) _ _ lw (omega arith) m refl refl))
+stored_front h P w j lw lj m =
+    byte_of_ext (front_stored h w) (front_held depth h P w) j (λ k lk. front_held_lem h P w (j * 8 + k) _ _ lw (omega arith) m refl refl)
 
-pub front_zeros : (h : List ℕ) (P w : ℕ) → w < 32 → P < 10 → Filling (byte_of (front_held depth h P w)) 32 16 (replicate 32 0)
+pub zero_front : (h : List ℕ) (P w j : ℕ) → w < 32 → j < 16 → P < 10 → 0 ≡ byte_of (front_held depth h P w) j
 unfolding byte_of from_bits
-front_zeros h P w lw m =
-    record {
-      upto = omega arith;
-      long = refl;
-      done = λ z j lj. get_or-replicate 32 j 0 z (omega arith)
-          ∙ from_bits_ext 8 (λ k. 0) (λ k. front_held depth h P w (j * 8 + k)) (λ k lk. ap (λ u. u % 2) (front_none depth h P w (j * 8 + k) lw (omega arith) m));
-    }
+zero_front h P w j lw lj m =
+    from_bits_ext 8 (λ k. 0) (λ k. front_held depth h P w (j * 8 + k)) (λ k lk. ap (λ u. u % 2) (front_none depth h P w (j * 8 + k) lw (omega arith) m))
 
 -- ---- a word as held
 
 module _ (h p : List ℕ) (P w : ℕ) (size : length h ≡ 512 * depth) (lw : w < 32) where
-  pub held_start : (d : List ℕ) → Filling (byte_of (front_held depth h P w)) 32 16 d → Filling (byte_of (held_word depth h P p w)) 32 16 d
-  held_start d f =
-      fill_ext 16 f (omega arith)
-      (λ j l. byte_of_ext (front_held depth h P w) (held_word depth h P p w) j (λ k lk. held_front depth h p P w size lw deep (j * 8 + k) _ (omega arith) refl))
+  pub held_start : (j : ℕ) → j < 16 → byte_of (front_held depth h P w) j ≡ byte_of (held_word depth h P p w) j
+  held_start j l =
+      byte_of_ext (front_held depth h P w) (held_word depth h P p w) j (λ k lk. held_front depth h p P w size lw deep (j * 8 + k) _ (omega arith) refl)
 
   pub held_byte : (j x : ℕ) → 16 ≤ j → j < 32 → x ≡ byte_of (λ i. bit p (coded_source i)) (w * 16 + j - 16)
       → x ≡ byte_of (held_word depth h P p w) j
@@ -100,11 +90,9 @@ own_copied y w j e b lw l m =
     (λ k lk. ap (bit y) (omega arith) ∙ sym (own_low y w (j * 8 + k) (omega arith)))
 
 module _ (h y : List ℕ) (P w : ℕ) (lw : w < 32) where
-  pub open_start : (d : List ℕ) → Filling (byte_of (front_held depth h P w)) 32 16 d
-      → Filling (byte_of (first_bits (open_word depth h P y w))) 32 16 d
-  open_start d f =
-      fill_ext 16 f (omega arith)
-      (λ j l. byte_of_ext (front_held depth h P w) (first_bits (open_word depth h P y w)) j (λ k lk. open_front_bit depth h y P w lw (j * 8 + k) _ (omega arith) refl))
+  pub open_start : (j : ℕ) → j < 16 → byte_of (front_held depth h P w) j ≡ byte_of (first_bits (open_word depth h P y w)) j
+  open_start j l =
+      byte_of_ext (front_held depth h P w) (first_bits (open_word depth h P y w)) j (λ k lk. open_front_bit depth h y P w lw (j * 8 + k) _ (omega arith) refl)
 
   pub own_is : (k : ℕ) → 128 ≤ k → k < 256 → own_bit y w k ≡ first_bits (open_word depth h P y w) k
   own_is k l m = go (dec_lt k 224) (dec_lt k 239)

@@ -4,24 +4,14 @@ ghost use Rattle.bits.specs.Bits.{bit, bit_of, from_bits, byte_of};
 ghost use Rattle.bits.specs.Xor.{◌⊕◌};
 ghost use Rattle.pair_words_core.specs.BackHalves.{coded_source};
 
-// Exclusive or of two places in a byte.
-fn xor8(a: usize, b: usize) -> usize
-    requires { (a < 8) × (b < 8) }
-    ensures { (result ≡ a ⊕ b) × (result < 8) }
-{
-    a ^ b
-}
+use crate::bytes::byte_from;
 
 // A byte whose bit i is bit i^l of x.
 fn exchanged(x: u8, l: usize) -> u8
     requires { l < 8 }
     ensures { result ≡ from_bits 8 (λ i. bit_of 8 x (i ⊕ l)) }
 {
-    let mut byte = 0u8;
-    for i in 0..8 {
-        byte = byte * 2 + (x >> (7 - xor8(i, l))) % 2;
-    }
-    byte
+    byte_from(|i| (x >> (7 - (i ^ l))) % 2)
 }
 
 // Byte j of a pair's 32 bit rows of 16 bytes, with the columns exchanged: bit row r is j div 16 mod 16.

@@ -8,19 +8,15 @@ pub fn move_part(history: &mut [u8], from: usize, to: usize)
     requires { (from ≤ to) × (to + 512 ≤ length history.old) }
     ensures { Moving 512 history.old from to to history.new }
 {
-    for i in from..to {
-        history[i] = history[i + 512];
-    }
+    history.copy_within(from + 512..to + 512, from);
 }
 
-// Copies a buffer into one of the same length.
+// Copies a buffer into one of the same length. (`loopback` and `loopback_core` call it; here it is `copy_from_slice`.)
 pub fn copy(from: &[u8], to: &mut [u8])
     requires { length to.old ≡ length from.now }
     ensures { to.new ≡ from.now }
 {
-    for i in 0..from.len() {
-        to[i] = from[i];
-    }
+    to.copy_from_slice(from);
 }
 
 // The oldest pair goes, and the newest comes in behind the others.
@@ -30,5 +26,5 @@ pub fn shift_in(history: &mut [u8], newest: &[u8])
 {
     let n = history.len() - 512;
     move_part(history, 0, n);
-    copy(newest, &mut history[n..]);
+    history[n..].copy_from_slice(newest);
 }

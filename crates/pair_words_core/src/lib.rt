@@ -2,6 +2,7 @@
 // `blocks`, below `payload_core`, `rows_core`, `mending_core`, `encoding_core` and `receiving_core`.
 #![tactic(auto)]
 
+mod bytes;
 mod columns;
 pub mod history;
 pub mod words;

@@ -2,7 +2,6 @@
 // half byte by byte.
 ghost use Rattle.std.specs.Prelude.{◌≡◌, ◌*◌, ◌<◌, ◌≤◌, length};
 ghost use Rattle.bits.specs.Bits.{byte_of, pack};
-ghost use Rattle.bits.specs.Filling.{Filling};
 ghost use Rattle.bits.specs.Xor.{◌⊕◌};
 ghost use Rattle.word_spec.specs.Completion.{first_bits};
 ghost use Rattle.pair_spec.specs.History.{depth};
@@ -11,7 +10,9 @@ ghost use Rattle.pair_spec.specs.Receiving.{held_word};
 ghost use Rattle.pair_words_core.specs.WordBits.{front_held};
 ghost use Rattle.pair_words_core.specs.WordBytes.{front_stored, own_bit};
 
+use crate::bytes::byte_from;
 use crate::columns::coded_byte;
+use std::array;
 
 // Exclusive or of two columns or bit rows.
 pub fn xor16(a: usize, b: usize) -> usize
@@ -33,45 +34,35 @@ fn front_bit(history: &[u8], w: usize, k: usize) -> u8
     (history[j] >> (7 - w % 8)) % 2
 }
 
-fn front_byte(history: &[u8], w: usize, j: usize) -> u8
+// Byte j of the front half of word w; zero before pair 10.
+fn front_byte(history: &[u8], pair: u32, w: usize, j: usize) -> u8
     requires { (length history.now ≡ 512 * depth) × (w < 32) × (j < 16) }
-    ensures { result ≡ byte_of (front_stored history.now w) j }
+    ensures { result ≡ byte_of (front_held depth history.now pair w) j }
 {
-    let mut byte = 0u8;
-    for b in 0..8 {
-        byte = byte * 2 + front_bit(history, w, j * 8 + b);
-    }
-    byte
-}
-
-// Word w with its front half, block by block; zeros before pair 10.
-fn front_half(history: &[u8], pair: u32, w: usize) -> [u8; 32]
-    requires { (length history.now ≡ 512 * depth) × (w < 32) }
-    ensures { Filling (byte_of (front_held depth history.now pair w)) 32 16 result }
-{
-    let mut word = [0u8; 32];
     if pair < 10 {
-        return word;
+        return 0;
     }
-    for b in 0..8 {
-        let j = 2 * b;
-        let i = j + 1;
-        word[j] = front_byte(history, w, j);
-        word[i] = front_byte(history, w, i);
-    }
-    word
+    byte_from(|k| front_bit(history, w, j * 8 + k))
 }
 
-// Word w as the receiver holds it: the front as held, the back as received.
+// Byte j of word w as the receiver holds it: the front as held, the back as received.
+fn held_byte(history: &[u8], coded: &[u8], pair: u32, w: usize, j: usize) -> u8
+    requires { (length history.now ≡ 512 * depth) × (length coded.now ≡ 512) × (w < 32) × (j < 32) }
+    ensures { result ≡ byte_of (held_word depth history.now pair coded.now w) j }
+{
+    if j < 16 {
+        front_byte(history, pair, w, j)
+    } else {
+        coded_byte(coded, w * 16 + j - 16)
+    }
+}
+
+// Word w as the receiver holds it.
 pub fn held_word(history: &[u8], coded: &[u8], pair: u32, w: usize) -> [u8; 32]
     requires { (length history.now ≡ 512 * depth) × (length coded.now ≡ 512) × (w < 32) }
     ensures { result ≡ pack 32 (held_word depth history.now pair coded.now w) }
 {
-    let mut word = front_half(history, pair, w);
-    for j in 16..32 {
-        word[j] = coded_byte(coded, w * 16 + j - 16);
-    }
-    word
+    array::from_fn(|j| held_byte(history, coded, pair, w, j))
 }
 
 // Bit k of the last payload bits of word w, and zeros.
@@ -81,9 +72,10 @@ fn last_bit(payload: &[u8], w: usize, k: usize) -> u8
 {
     // 01's payload bit of k - 128, which is 96 to 110: 15w + 512 * 6 + (k - 128 - 96), and 3072 - 224 is 2848.
     if k < 239 {
-        return bits::bit(payload, w * 15 + k + 2848);
+        bits::bit(payload, w * 15 + k + 2848)
+    } else {
+        0
     }
-    0
 }
 
 // Byte j of word w: two bytes of the payload for each of six blocks, 512 bits or 64 bytes apart, then bits.
@@ -94,21 +86,25 @@ fn own_byte(payload: &[u8], w: usize, j: usize) -> u8
     if j < 28 {
         return payload[w * 2 + (j - 16) / 2 * 64 + j % 2];
     }
-    let mut byte = 0u8;
-    for b in 0..8 {
-        byte = byte * 2 + last_bit(payload, w, j * 8 + b);
-    }
-    byte
+    byte_from(|k| last_bit(payload, w, j * 8 + k))
 }
 
-// Word w before its completion: the front as held, the payload, and zeros.
+// Byte j of word w before its completion: the front as held, the payload, and zeros.
+fn open_byte(history: &[u8], payload: &[u8], pair: u32, w: usize, j: usize) -> u8
+    requires { (length history.now ≡ 512 * depth) × (length payload.now ≡ 444) × (w < 32) × (j < 32) }
+    ensures { result ≡ byte_of (first_bits (open_word depth history.now pair payload.now w)) j }
+{
+    if j < 16 {
+        front_byte(history, pair, w, j)
+    } else {
+        own_byte(payload, w, j)
+    }
+}
+
+// Word w before its completion.
 pub fn open_word(history: &[u8], payload: &[u8], pair: u32, w: usize) -> [u8; 32]
     requires { (length history.now ≡ 512 * depth) × (length payload.now ≡ 444) × (w < 32) }
     ensures { result ≡ pack 32 (first_bits (open_word depth history.now pair payload.now w)) }
 {
-    let mut word = front_half(history, pair, w);
-    for j in 16..32 {
-        word[j] = own_byte(payload, w, j);
-    }
-    word
+    array::from_fn(|j| open_byte(history, payload, pair, w, j))
 }

@@ -2,35 +2,25 @@
 // `pair_words_core` and `riffle_core`, below `receiving_core`.
 #![tactic(auto)]
 
-ghost use Rattle.std.specs.Prelude.{◌≡◌, ◌+◌, ◌*◌, ◌/◌, ◌^◌, ◌<◌, ◌≤◌, length, get_or};
-ghost use Rattle.bits.specs.Bits.{bit_of, from_bits, pack};
+ghost use Rattle.std.specs.Prelude.{◌≡◌, ◌+◌, ◌*◌, ◌^◌, ◌<◌, ◌≤◌, length};
+ghost use Rattle.bits.specs.Bits.{from_bits, pack};
 ghost use Rattle.bits.specs.Lists.{tabulate};
 ghost use Rattle.pair_words_core.specs.Halves.{payload_in};
 ghost use Rattle.payload_core.specs.NumberBits.{behind};
 ghost use Rattle.payload_core.specs.PayloadParts.{last_bit};
 ghost use Rattle.payload_core.specs.RowBytes.{row_of_halves, row_by_blocks, half_byte, block_byte, blocks_byte};
 
+use bits::parts::fill_parts;
 use blocks::turn;
 use riffle_core::by_blocks;
-
-// A number.
-fn number(halves: &[u16; 256], n: usize) -> u16
-    requires { n < 256 }
-    ensures { result ≡ get_or halves.now n 0 }
-{
-    halves[n]
-}
+use std::array;
 
 // The numbers of a row's sixteen words.
 fn row_of_halves(halves: &[u16; 256], s: usize) -> [u16; 128]
     requires { s < 2 }
     ensures { result ≡ row_of_halves halves.now s }
 {
-    let mut x = [0u16; 128];
-    for n in 0..128 {
-        x[n] = halves[128 * s + n];
-    }
-    x
+    array::from_fn(|n| halves[128 * s + n])
 }
 
 // These in order by blocks: number 16C+r is of block C of the row's word r.
@@ -41,26 +31,14 @@ fn row_by_blocks(halves: &[u16; 256], s: usize) -> [u16; 128]
     by_blocks(row_of_halves(halves, s))
 }
 
-// A number of a row.
-fn in_row(row: &[u16; 128], n: usize) -> u16
-    requires { n < 128 }
-    ensures { result ≡ get_or row.now n 0 }
-{
-    row[n]
-}
-
 // Block C of a row by blocks, two bytes a number, the lower byte first, as they lie in memory.
 fn put_half(row: &[u16; 128], block: usize, out: &mut [u8])
     requires { (length out.old ≡ 32) × (block < 6) }
     ensures { out.new ≡ tabulate 32 (half_byte row.now block) }
 {
-    for r in 0..16 {
-        let x = in_row(row, 16 * block + r);
-        let a = 2 * r;
-        let e = a + 1;
-        out[a] = (x % 256) as u8;
-        out[e] = (x / 256) as u8;
-    }
+    fill_parts(out, 2, |r, bytes| {
+        bytes.copy_from_slice(&row[16 * block + r].to_le_bytes())
+    });
 }
 
 // Block C of both rows.
@@ -77,18 +55,7 @@ fn put_blocks(first: &[u16; 128], second: &[u16; 128], out: &mut [u8])
     requires { length out.old ≡ 384 }
     ensures { out.new ≡ tabulate 384 (blocks_byte first.now second.now) }
 {
-    for c in 0..6 {
-        let a = c * 64;
-        let e = a + 64;
-        put_block(first, second, c, &mut out[a..e]);
-    }
-}
-
-// A number without its last bit.
-fn upper_fifteen(x: u16) -> u64
-    ensures { (result ≡ x / 2) × (result < 2 ^ 15) }
-{
-    (x / 2) as u64
+    fill_parts(out, 64, |c, part| put_block(first, second, c, part));
 }
 
 // The last fifteen payload bits of a word: block 6 without its last bit, after its two bytes were exchanged.
@@ -96,29 +63,19 @@ fn last_fifteen(halves: &[u16; 256], w: usize) -> u64
     requires { w < 32 }
     ensures { (result ≡ from_bits 15 (behind (w * 15) (last_bit halves.now))) × (result < 2 ^ 15) }
 {
-    upper_fifteen(turn(number(halves, 8 * w + 6), 8))
+    u64::from(turn(halves[8 * w + 6], 8) / 2)
 }
 
-// Those of four words, from word w on.
+// Those of four words, from word w on. (A `fold` leaves the proof without a bound of v.)
 fn last_sixty(halves: &[u16; 256], w: usize) -> u64
     requires { w + 4 ≤ 32 }
     ensures { (result ≡ from_bits 60 (behind (w * 15) (last_bit halves.now))) × (result < 2 ^ 60) }
 {
-    let mut v = 0u64;
+    let mut v = 0;
     for i in 0..4 {
         v = v * 32768 + last_fifteen(halves, w + i);
     }
     v
-}
-
-// The eight bytes of a number.
-fn put_number(v: u64, out: &mut [u8])
-    requires { length out.old ≡ 8 }
-    ensures { out.new ≡ pack 8 (bit_of 64 v) }
-{
-    for j in 0..8 {
-        out[j] = ((v >> (56 - 8 * j)) % 256) as u8;
-    }
 }
 
 // The last payload bits of eight words, fifteen bytes, as two numbers of eight bytes that share the byte in the middle.
@@ -128,9 +85,8 @@ fn put_fifteen(halves: &[u16; 256], group: usize, out: &mut [u8])
 {
     let first = last_sixty(halves, group * 8);
     let second = last_sixty(halves, group * 8 + 4);
-    // 2^56 and 2^60
-    put_number(first * 16 + second / 72057594037927936, &mut out[0..8]);
-    put_number(first % 16 * 1152921504606846976 + second, &mut out[7..15]);
+    out[0..8].copy_from_slice(&(first * 16 + (second >> 56)).to_be_bytes());
+    out[7..15].copy_from_slice(&(first % 16 * (1 << 60) + second).to_be_bytes());
 }
 
 // The last payload bits of all words.
@@ -138,11 +94,7 @@ fn put_last(halves: &[u16; 256], out: &mut [u8])
     requires { length out.old ≡ 60 }
     ensures { out.new ≡ pack 60 (last_bit halves.now) }
 {
-    for g in 0..4 {
-        let a = g * 15;
-        let e = a + 15;
-        put_fifteen(halves, g, &mut out[a..e]);
-    }
+    fill_parts(out, 15, |g, part| put_fifteen(halves, g, part));
 }
 
 // The payload: six blocks of each word, then what is left of block 6.

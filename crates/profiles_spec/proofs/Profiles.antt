@@ -2,10 +2,6 @@
 -- Assumes nothing.
 use Rattle.std.specs.Prelude.{◌≡◌, refl, ◌*◌}
 use Rattle.cells_spec.specs.Modulation.{cells_per_buffer, buffers_in, pairs_in}
-use Rattle.cells_spec.specs.Qam16 as Q16
-use Rattle.cells_spec.proofs.Qam16Laws as Q16L
-use Rattle.cells_spec.specs.Qpsk as Q
-use Rattle.cells_spec.proofs.QpskLaws as QL
 use Rattle.profiles_spec.specs.Profiles.{qam16, qpsk}
 
 -- "A buffer gives 43,008 bytes of cells"; a super-frame is "eight buffers", so 168 pairs of each encoder.

@@ -1,6 +1,6 @@
 -- Laws of cells_spec's specs/QpskBytes.antt.
 -- Assumes nothing.
-use Rattle.std.specs.Prelude.{◌≡◌, refl, cond, false, List, ◌≢◌, eqb, length, get_or, set}
+use Rattle.std.specs.Prelude.{◌≡◌, refl, Bool, cond, true, false, not, ◌||◌, List, ◌≢◌, eqb, length, get_or, set}
 use Rattle.std.proofs.Math.Path.{sym, ap}
 use Rattle.std.proofs.Common.{ap₂, ◌∙◌, lit<}
 use Prim.Native.Nat.{ℕ, zero, suc, ◌+◌, ◌*◌, ◌/◌, ◌%◌, ◌<◌, ◌≤◌}
@@ -18,7 +18,6 @@ use Rattle.cells_spec.specs.Modulation.{symbol_of}
 use Rattle.cells_spec.proofs.ModulationLaws.{symbol_is}
 use Rattle.cells_spec.specs.Cells.{payload_rule, Legal, symbol_at, cells_at, to_cells, cells_bit, to_bits}
 use Rattle.cells_spec.proofs.CellLaws.{symbol_at_bit, cells_made, bits_made}
-use Rattle.cells_spec.specs.Highest.{flaw}
 use Rattle.profiles_spec.specs.Profiles.{qpsk}
 use Rattle.cells_spec.specs.QpskBytes.{half_of, quarter, cells_byte, byte_at}
 
@@ -175,24 +174,29 @@ pub ruleset lows = (low_0, low_1, low_2, low_3)
 -- ---- legal cells
 
 -- As the code tests a byte: (I+3)/2 and (Q+3)/2 are 1 or 2.
-tested : ℕ → ℕ
-tested v = cond (eqb ((v / 4 + 1) / 2) 1) (cond (eqb ((v % 4 + 1) / 2) 1) 0 1) 1
+tested : ℕ → Bool
+tested v = not (eqb ((v / 4 + 1) / 2) 1) || not (eqb ((v % 4 + 1) / 2) 1)
+
+-- Two tests are the same where they are as numbers.
+abbrev one : Bool → ℕ
+one b = cond b 1 0
+
+same_test : (a b : Bool) → one a ≡ one b → a ≡ b
+same_test true true e = refl
+same_test true false e = absurd (omega arith)
+same_test false true e = absurd (omega arith)
+same_test false false e = refl
 
 module _ (v : ℕ) (l : v < 256) where
-  tested_is : tested v ≡ flaw qpsk v
-  unfolding tested flaw qpsk illegal outer ordinal
-  tested_is = agree 256 tested (λ b. flaw qpsk b) tt v l
+  tested_is : tested v ≡ qpsk.illegal v
+  unfolding tested qpsk illegal outer ordinal
+  tested_is = same_test (tested v) (qpsk.illegal v) (agree 256 (λ b. one (tested b)) (λ b. one (qpsk.illegal b)) tt v l)
 
-  pub flaw_i : (v / 4 + 1) / 2 ≢ 1 → 1 ≡ flaw qpsk v
+  -- One test after the other.
+  pub tested_i : (v / 4 + 1) / 2 ≢ 1 → not (eqb ((v / 4 + 1) / 2) 1) ≡ qpsk.illegal v
   unfolding tested
-  flaw_i i = simp (ne_eqb ((v / 4 + 1) / 2) 1 i) at tested_is
+  tested_i i = let n = ne_eqb ((v / 4 + 1) / 2) 1 i in simp n (simp n at tested_is)
 
-  pub flaw_q : (v / 4 + 1) / 2 ≡ 1 → (v % 4 + 1) / 2 ≢ 1 → 1 ≡ flaw qpsk v
+  pub tested_q : (v / 4 + 1) / 2 ≡ 1 → not (eqb ((v % 4 + 1) / 2) 1) ≡ qpsk.illegal v
   unfolding tested
-  flaw_q i q = simp (eq-eqb ((v / 4 + 1) / 2) 1 i, ne_eqb ((v % 4 + 1) / 2) 1 q) at tested_is
-
-  pub flaw_none : (v / 4 + 1) / 2 ≡ 1 → (v % 4 + 1) / 2 ≡ 1 → 0 ≡ flaw qpsk v
-  unfolding tested
-  flaw_none i q = simp (eq-eqb ((v / 4 + 1) / 2) 1 i, eq-eqb ((v % 4 + 1) / 2) 1 q) at tested_is
-
-pub ruleset flaws = (flaw_i, flaw_q, flaw_none)
+  tested_q i = simp (eq-eqb ((v / 4 + 1) / 2) 1 i) at tested_is

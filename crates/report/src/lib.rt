@@ -2,20 +2,16 @@
 // definitions of `line_file_spec`; below the programs.
 #![tactic(auto)]
 
-ghost use Rattle.std.specs.Prelude.{◌^◌, ◌<◌};
-
 use bits::numbers::number;
-use calls::Answer;
+use calls::Refusal;
 use line_file_spec::Header;
-use std::fmt::InlineText;
-use std::io;
+use std::fmt::{Display, Formatter, InlineText};
+use std::{fmt, io};
 
 // The system's words for an error, without its number.
 fn cause(text: &str) -> &str {
-    match text.split_once(" (os error ") {
-        Some((words, _)) => words,
-        None => text,
-    }
+    text.split_once(" (os error ")
+        .map_or(text, |(words, _)| words)
 }
 
 // Says words on standard error. They are text; in the place of bytes of a name that are none stands the character for that. What standard
@@ -23,7 +19,7 @@ fn cause(text: &str) -> &str {
 pub fn words<R: Eprint>(rt: &R, words: &[u8]) {
     for chunk in words.utf8_chunks() {
         let _ = rt.eprint(chunk.valid());
-        if chunk.invalid().len() != 0 {
+        if !chunk.invalid().is_empty() {
             let _ = rt.eprint('\u{FFFD}');
         }
     }
@@ -50,101 +46,121 @@ pub fn print_refusal<R: Print + Eprint>(rt: &R, number: u32) {
 }
 
 // Prints the numbers of a header, or its refusal.
-pub fn print_header<R: Print + Eprint>(rt: &R, h: Header) {
-    let answer = h.answer;
-    if let Err(_) = answer {
-        return print_refusal(rt, calls::refusal_of(answer));
+pub fn print_header<R: Print + Eprint>(rt: &R, header: Result<Header, Refusal>) {
+    match header {
+        Ok(Header {
+            superframes,
+            overhead,
+            frames,
+            total,
+        }) => end(
+            rt,
+            println!(rt; "superframes {superframes} overhead {overhead} frames {frames} total {total}"),
+        ),
+        Err(refusal) => print_refusal(rt, refusal.number()),
     }
-    let (superframes, overhead, frames, total) = (h.superframes, h.overhead, h.frames, h.total);
-    end(
-        rt,
-        println!(rt; "superframes {superframes} overhead {overhead} frames {frames} total {total}"),
-    );
 }
 
-// Prints what was received: super-frames, flips, lost words, overhead cells that differ.
-pub fn print_received<R: Print + Eprint>(
-    rt: &R,
-    superframes: u32,
-    flips: u64,
-    lost: u64,
-    overhead: u64,
-) {
+// What was received: flips, lost words and overhead cells that differ.
+#[derive(Clone, Copy)]
+pub struct Received {
+    pub flips: u64,
+    pub lost: u64,
+    pub overhead: u64,
+}
+
+// Prints what was received in so many super-frames.
+pub fn print_received<R: Print + Eprint>(rt: &R, superframes: u32, received: Received) {
+    let Received {
+        flips,
+        lost,
+        overhead,
+    } = received;
     end(
         rt,
         println!(rt; "superframes {superframes} flips {flips} lost {lost} overhead {overhead}"),
     );
 }
 
-// Says on standard error that a file has a number where another is expected.
-fn say<R: Eprint>(rt: &R, file: &[u8], what: &str, has: usize, expected: &str, n: usize) {
-    words(rt, file);
-    let _ = eprintln!(rt; "{what}{has}{expected}{n}");
+// Which rule of the header fails, with the numbers that show it.
+#[derive(Clone, Copy)]
+enum Flaw {
+    Short { size: usize },
+    Few { superframes: usize },
+    Many { superframes: usize },
+    Overhead { at: usize },
+    Frames { at: usize, least: usize },
+    Total { total: usize, expected: usize },
+    Long { total: usize },
+    Size { size: usize, total: usize },
 }
 
-// Says that a file has another size than its total, where it has. A count above 2^32 may have stopped before the end.
-fn explain_size<R: Eprint>(rt: &R, file: &[u8], total: usize, size: usize) {
+impl Display for Flaw {
+    fn fmt<W: fmt::Write>(&self, f: &mut Formatter<W>) -> fmt::Result {
+        match self {
+            Flaw::Short { size } => write!(f, "{size} bytes, expected at least 16"),
+            Flaw::Few { superframes } => write!(
+                f,
+                "{superframes} super-frames, expected at least 1"
+            ),
+            Flaw::Many { superframes } => write!(
+                f,
+                "{superframes} super-frames, expected at most 64"
+            ),
+            Flaw::Overhead { at } => write!(f, "overhead at {at}, expected at least 16"),
+            Flaw::Frames { at, least } => write!(f, "frames at {at}, expected at least {least}"),
+            Flaw::Total { total, expected } => write!(f, "total {total}, expected {expected}"),
+            Flaw::Long { total } => write!(f, "more than 4294967295 bytes, expected {total}"),
+            Flaw::Size { size, total } => write!(f, "{size} bytes, expected {total}"),
+        }
+    }
+}
+
+// Whether a file has the size of its total. A count above 2^32 may have stopped before the end.
+fn sized(size: usize, total: usize) -> Result<(), Flaw> {
     if 4294967295 < size {
-        return say(
-            rt,
-            file,
-            ": more than ",
-            4294967295,
-            " bytes, expected ",
-            total,
-        );
+        return Err(Flaw::Long { total });
     }
     if size != total {
-        say(rt, file, ": ", size, " bytes, expected ", total);
+        return Err(Flaw::Size { size, total });
     }
+    Ok(())
 }
 
-// Says which rule of the header fails first, where one does, for the numbers n, o, f and total in a file of so many bytes.
-fn explain_numbers<R: Eprint>(
-    rt: &R,
-    file: &[u8],
-    n: usize,
-    o: usize,
-    f: usize,
-    total: usize,
-    size: usize,
-)
-    requires { (o < 2 ^ 32) × (f < 2 ^ 32) }
-{
-    if n < 1 {
-        return say(rt, file, ": ", n, " super-frames, expected at least ", 1);
+// Whether the header in a file's first sixteen bytes keeps the rules, in a file of so many bytes; or the first rule that fails.
+fn rules(first: &[u8; 16], size: usize) -> Result<(), Flaw> {
+    if size < 16 {
+        return Err(Flaw::Short { size });
     }
-    if 64 < n {
-        return say(rt, file, ": ", n, " super-frames, expected at most ", 64);
+    let superframes = number(first, 0);
+    let overhead = number(first, 1);
+    let frames = number(first, 2);
+    let total = number(first, 3);
+    if superframes < 1 {
+        return Err(Flaw::Few { superframes });
     }
-    if o < 16 {
-        return say(rt, file, ": overhead at ", o, ", expected at least ", 16);
+    if 64 < superframes {
+        return Err(Flaw::Many { superframes });
     }
-    if f < o + 12288 {
-        return say(
-            rt,
-            file,
-            ": frames at ",
-            f,
-            ", expected at least ",
-            o + 12288,
-        );
+    if overhead < 16 {
+        return Err(Flaw::Overhead { at: overhead });
     }
-    if total != f + 356352 * n {
-        return say(rt, file, ": total ", total, ", expected ", f + 356352 * n);
+    let least = overhead + 12288;
+    if frames < least {
+        return Err(Flaw::Frames { at: frames, least });
     }
-    explain_size(rt, file, total, size);
+    let expected = frames + 356352 * superframes;
+    if total != expected {
+        return Err(Flaw::Total { total, expected });
+    }
+    sized(size, total)
 }
 
 // Says on standard error why the header in a file's first sixteen bytes is refused, in one line that begins with the file; nothing where
 // it is not.
 pub fn explain_header<R: Eprint>(rt: &R, file: &[u8], first: &[u8; 16], size: usize) {
-    if size < 16 {
-        return say(rt, file, ": ", size, " bytes, expected at least ", 16);
+    if let Err(flaw) = rules(first, size) {
+        words(rt, file);
+        let _ = eprintln!(rt; ": {flaw}");
     }
-    let n = number(first, 0);
-    let o = number(first, 1);
-    let f = number(first, 2);
-    let total = number(first, 3);
-    explain_numbers(rt, file, n, o, f, total, size);
 }

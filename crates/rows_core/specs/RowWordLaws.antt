@@ -1,11 +1,13 @@
 -- Laws of rows as words: as code reads them, and where each bit stands.
 -- Assumes nothing.
-use Rattle.std.specs.Prelude.{◌≡◌, List, ℕ, ◌+◌, ◌-◌, ◌*◌, ◌/◌, ◌%◌, ◌<◌, ◌≤◌, length, get_or}
-use Rattle.std.proofs.Common.{sym, ap, ◌∙◌, arith}
+use Rattle.std.specs.Prelude.{◌≡◌, List, ◌++◌, ℕ, ◌+◌, ◌-◌, ◌*◌, ◌/◌, ◌%◌, ◌<◌, length, get_or}
+use Rattle.std.proofs.Common.{sym, ap, ◌∙◌, arith, length-append, get_or-append-add}
+use Rattle.std.proofs.Math.ListN.{get_or-append}
+use Rattle.std.proofs.Math.Decide.{dec_lt}
 use Rattle.bits.specs.Bits.{bit, bit_of, from_bits}
-use Rattle.bits.proofs.BitLaws.{bit_lt, bit_of_from_bits, from_bits_ext}
+use Rattle.bits.proofs.BitLaws.{bit_lt, from_bits_ext}
 use Rattle.bits.specs.Lists.{tabulate}
-use Rattle.bits.specs.ListLaws.{length_tabulate, get_d_tabulate, tabulate_ext}
+use Rattle.bits.specs.ListLaws.{length_tabulate, get_d_tabulate, is_tabulate, tabulate_ext}
 use Rattle.bits.specs.Xor.{◌⊕◌}
 use Rattle.bits.proofs.XorLaws.{⊕_lt}
 use Rattle.bits.specs.Tests.{grid}
@@ -18,7 +20,7 @@ use Rattle.blocks.specs.MoveLaws.{transposed_bit}
 use Rattle.blocks.specs.SideBySide.{laid_word, laid, read_word, row_block, words_block}
 use Rattle.pair_words_core.specs.Halves.{halves_bit}
 use Rattle.rows_core.specs.RowWords.{row_words, front_block, front_words, fronts_block, fronts_in, backs_block, backs_in, exchanged_number}
-use Rattle.rows_core.specs.RowWords.{coded_half, half_block, turned_rows, columns_block, columns_of}
+use Rattle.rows_core.specs.RowWords.{coded_half, coded_halves, half_block, turned_rows, columns_block, columns_of}
 
 -- ---- as code reads them
 
@@ -120,9 +122,27 @@ halves_row p s words row e q =
         (λ c. bit p (16 * (s * 128 + i) + (((c + 8) % 16) ⊕ (i / 8))))
         (λ c lc. ap (λ k. bit p k % 2) (omega (arith, turned_exchanged (i / 8) c (omega arith) lc))))
 
-pub half_copied : (p : List ℕ) (s i : ℕ) (from : List ℕ) → from ≡ tabulate 128 (λ i. coded_half p (s * 128 + i)) → i < 128
-    → get_or from i 0 ≡ coded_half p (s * 128 + i)
-half_copied p s i from e l = ap (λ u. get_or u i 0) e ∙ get_d_tabulate 128 (λ i. coded_half p (s * 128 + i)) i 0 l
+-- Those of the first row and those of the second are those of the pair.
+pub halves_rows : (p a b : List ℕ) → a ≡ tabulate 128 (λ i. coded_half p (0 * 128 + i)) → b ≡ tabulate 128 (λ i. coded_half p (1 * 128 + i))
+    → a ++ b ≡ coded_halves p
+unfolding coded_halves
+halves_rows p a b ea eb = is_tabulate 0 (a ++ b) 256 (coded_half p) (simp length-append (omega (arith, la, lb))) (λ k l. here k l (dec_lt k 128))
+  where
+    la : length a ≡ 128
+    la = ap length ea ∙ length_tabulate 128 (λ i. coded_half p (0 * 128 + i))
+
+    lb : length b ≡ 128
+    lb = ap length eb ∙ length_tabulate 128 (λ i. coded_half p (1 * 128 + i))
+
+    here : (k : ℕ) → k < 256 → Dec (k < 128) → get_or (a ++ b) k 0 ≡ coded_half p k
+    here k l (yes h) =
+        get_or-append a b 0 k (omega (arith, la))
+        ∙ ap (λ u. get_or u k 0) ea ∙ get_d_tabulate 128 (λ i. coded_half p (0 * 128 + i)) k 0 h ∙ ap (coded_half p) (omega arith)
+    here k l (no h) =
+        let s : k ≡ length a + (k - 128) = omega (arith, la) in
+        ap (λ x. get_or (a ++ b) x 0) s ∙ get_or-append-add a b (k - 128) 0
+        ∙ ap (λ u. get_or u (k - 128) 0) eb ∙ get_d_tabulate 128 (λ i. coded_half p (1 * 128 + i)) (k - 128) 0 (omega arith)
+        ∙ ap (coded_half p) (omega arith)
 
 -- Number by number.
 pub exchanged_at : (words : List ℕ) (x : ℕ) → x < 128 → get_or (backs_in words) x 0 ≡ exchanged_number words x

@@ -3,8 +3,7 @@
 // and coded pairs. Over `cells_core`, `superframe_buffers_core` and `superframe_core`; by the definitions of `superframe_spec`.
 #![tactic(auto)]
 
-ghost use Rattle.std.specs.Prelude.{◌≡◌};
-ghost use Rattle.std.specs.Prelude.{Ok};
+ghost use Rattle.std.specs.Prelude.{◌≡◌, Ok};
 ghost use Rattle.profiles_spec.specs.Profiles.{modulation};
 ghost use Rattle.interleaver_spec.specs.Calls.{after_deinterleave};
 ghost use Rattle.superframe_spec.specs.Superframe.{superframe};
@@ -15,19 +14,15 @@ use calls::{Answer, Refusal};
 use cells_core::legal::first_illegal;
 use profile::Profile;
 
-// The payload of a super-frame: 172,032 cells of two bytes.
-type Payload = [u8; 344064];
-
-fn blank() -> Payload {
-    [0u8; 344064]
-}
+// The bytes of a super-frame's payload: 172,032 cells of two bytes.
+const PAYLOAD: usize = 344064;
 
 // The frames of a super-frame, end to end.
 pub fn make(profile: Profile, pairs0: &[u8], pairs1: &[u8], overhead: &[u8], line: &mut [u8])
     requires { PairsToFrames (modulation profile) pairs0.now pairs1.now overhead.now line.old }
     ensures { line.new ≡ superframe (modulation profile) pairs0.now pairs1.now overhead.now }
 {
-    let mut payload = blank();
+    let mut payload = [0; PAYLOAD];
     superframe_buffers_core::join(profile, pairs0, pairs1, &mut payload);
     superframe_core::frame_all(profile, &payload, overhead, line);
 }
@@ -37,7 +32,7 @@ fn take(profile: Profile, line: &[u8], overhead: &[u8], pairs0: &mut [u8], pairs
     requires { LegalFrames (modulation profile) line.now overhead.now × FramesToPairs (modulation profile) line.now overhead.now pairs0.old pairs1.old }
     ensures { after_deinterleave (Ok result) pairs0.new pairs1.new ≡ taken_apart (modulation profile) line.now overhead.now }
 {
-    let mut payload = blank();
+    let mut payload = [0; PAYLOAD];
     let differing = superframe_core::unframe_all(profile, line, overhead, &mut payload);
     superframe_buffers_core::part(profile, &payload, pairs0, pairs1);
     differing
@@ -54,12 +49,10 @@ pub fn take_apart(
     requires { FramesToPairs (modulation profile) line.now overhead.now pairs0.old pairs1.old }
     ensures { after_deinterleave result pairs0.new pairs1.new ≡ take_apart (modulation profile) line.now overhead.now pairs0.old pairs1.old }
 {
-    let list = first_illegal(overhead);
-    if list < overhead.len() {
+    if let Some(list) = first_illegal(overhead) {
         return Err(Refusal::OffGrid(list));
     }
-    let at = superframe_core::first_illegal(profile, line);
-    if at < line.len() {
+    if let Some(at) = superframe_core::first_illegal(profile, line) {
         return Err(Refusal::OffGrid(at));
     }
     Ok(take(profile, line, overhead, pairs0, pairs1))

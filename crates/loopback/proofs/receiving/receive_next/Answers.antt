@@ -1,5 +1,6 @@
--- The stream's history behind the pair, and what was made of it.
-use Rattle.std.proofs.Common.{refl, rules}
+-- `loopback::receiving::receive_next` meets its contract: the stream's history behind the pair, and what was made of it.
+use Rattle.std.proofs.Common.{rules}
+use Rattle.std.proofs.Common.{refl}
 use Rattle.loopback.specs.StreamLaws.{step_history, pair_taken_lem}
 use Rattle.loopback.proofs.receiving.receive_next.Goals as goal
 

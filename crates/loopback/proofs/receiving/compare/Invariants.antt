@@ -1,0 +1,8 @@
+-- The words compared so far.
+use Rattle.loopback_core.specs.StepLaws.{Stepping}
+use Rattle.loopback.specs.Received.{word_compared}
+use Rattle.loopback.proofs.receiving.compare.Given as goal
+
+abbrev pub invariant-loop-w : goal.invariant-loop-w
+invariant-loop-w l =
+    Stepping (word_compared l.encoder.number l.k l.sent l.got l.history l.out l.marks) 32 l.fn.counts l.w l.counts

@@ -1,0 +1,12 @@
+-- `pair_words_core::words::open_byte` meets its contract: one law for each half.
+use Rattle.std.proofs.Common.{arith, ◌∙◌}
+use Rattle.pair_words_core.specs.WordBytes.{open_start, open_byte}
+use Rattle.pair_words_core.proofs.words.open_byte.Goals as goal
+
+pub returns-then-j-lt16 : goal.returns-then-j-lt16
+returns-then-j-lt16 c =
+    c.front_byte.ensures ∙ open_start c.args.history.now c.args.payload.now c.args.pair c.args.w c.requires.2 c.args.j c.if-j-lt16.true
+
+pub returns-else-j-lt16 : goal.returns-else-j-lt16
+returns-else-j-lt16 c =
+    open_byte c.args.history.now c.args.payload.now c.args.pair c.args.w c.requires.2 c.args.j _ (omega arith) (omega arith) c.own_byte.ensures

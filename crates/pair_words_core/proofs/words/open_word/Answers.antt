@@ -1,0 +1,9 @@
+-- `pair_words_core::words::open_word` meets its contract: byte by byte.
+use Rattle.std.proofs.Common.{rules}
+use Rattle.bits.specs.Bits.{pack}
+use Rattle.bits.proofs.FromFn.{from_fn_is}
+use Rattle.pair_words_core.proofs.words.open_word.Goals as goal
+
+pub returns : goal.returns
+unfolding pack
+returns c = from_fn_is _ (λ j y q l e. search rules) c.from_fn.ensures.items
