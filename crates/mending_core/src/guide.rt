@@ -20,10 +20,10 @@ impl Guide {
         requires { w < 32 }
         ensures { result ≡ syndromes_in self.now.numbers self.now.odd w }
     {
-        let v = self.numbers[w % 8];
+        let bytes = self.numbers[w % 8].to_be_bytes();
         Syndromes {
-            s1: ((v >> (56 - 8 * (w / 8))) % 256) as u8,
-            s3: ((v >> (24 - 8 * (w / 8))) % 256) as u8,
+            s1: bytes[w / 8],
+            s3: bytes[w / 8 + 4],
             parity: ((self.odd >> (31 - w)) % 2) as u8,
         }
     }
