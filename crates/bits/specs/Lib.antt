@@ -10,4 +10,5 @@ pub mod LeastLaws
 pub mod Parts
 pub mod Numbers32
 pub mod Filling
+pub mod PartCalls
 pub mod Seeking

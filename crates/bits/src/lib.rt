@@ -3,6 +3,7 @@
 #![tactic(auto)]
 
 pub mod numbers;
+pub mod parts;
 
 ghost use Rattle.std.specs.Prelude.{◌≡◌, ◌+◌, ◌*◌, ◌%◌, ◌<◌, length};
 ghost use Rattle.bits.specs.Bits.{bit, pack, flipped};
