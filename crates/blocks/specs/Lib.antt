@@ -7,3 +7,4 @@ pub mod Exchanges
 pub mod SideBySide
 pub mod Laying
 pub mod Twos
+pub mod LaidBy

@@ -2,6 +2,8 @@
 // definitions and laws. Over `bits`; pairs and interleaver use it.
 #![tactic(auto)]
 
+pub mod laying;
+
 ghost use Rattle.std.specs.Prelude.{◌≡◌, ◌+◌, ◌<◌, length, get_or};
 ghost use Rattle.bits.specs.Lists.{tabulate};
 ghost use Rattle.blocks.specs.Moves.{chosen, turned};
