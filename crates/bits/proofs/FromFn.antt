@@ -7,20 +7,25 @@ use Rattle.std.specs.Array.{IsFromFnResult, IsFromFnResultFrom}
 use Rattle.bits.specs.Lists.{tabulate}
 use Rattle.bits.specs.ListLaws.{is_tabulate}
 
-module _ {F B : Type 0} (g : Mut F (ℕ × Unit {0}) B) (f : F) (ys : List B) (h : ℕ → B) (n : ℕ)
-    (e : (i : ℕ) (y : B) (q : F) → i < n → Called g f (i, tt) y q → (q ≡ f) × (y ≡ h i)) where
-  values : (m i : ℕ) (q : F) → i + m ≡ n → q ≡ f → IsFromFnResultFrom g q ys i m → (k : ℕ) → k < m → (d : B) → get_or ys (i + k) d ≡ h (i + k)
+module _ {F B : Type 0} (g : Mut F (ℕ × Unit {0}) B) (f : F) (ys : List B) (R : ℕ → B → Type 0) (n : ℕ)
+    (e : (i : ℕ) (y : B) (q : F) → i < n → Called g f (i, tt) y q → (q ≡ f) × R i y) where
+  values : (m i : ℕ) (q : F) → i + m ≡ n → q ≡ f → IsFromFnResultFrom g q ys i m → (k : ℕ) → k < m → (d : B) → R (i + k) (get_or ys (i + k) d)
   values zero i q p s r k l d = absurd (omega arith)
   values (suc m) i q p s (q', y, at, called, rest) zero l d =
       let here : i + 0 ≡ i = omega arith in
-      let first : (q' ≡ f) × (y ≡ h i) = e i y q' (omega arith) (subst (λ x. Called g x (i, tt) y q') s called) in
-      subst (λ x. get_or ys x d ≡ h x) (sym here) (at.1 d ∙ first.1)
+      let first : (q' ≡ f) × R i y = e i y q' (omega arith) (subst (λ x. Called g x (i, tt) y q') s called) in
+      subst (λ x. R x (get_or ys x d)) (sym here) (subst (R i) (sym (at.1 d)) first.1)
   values (suc m) i q p s (q', y, at, called, rest) (suc k) l d =
       let next : i + 1 + k ≡ i + suc k = omega arith in
-      let first : (q' ≡ f) × (y ≡ h i) = e i y q' (omega arith) (subst (λ x. Called g x (i, tt) y q') s called) in
-      subst (λ x. get_or ys x d ≡ h x) next (values m (i + 1) q' (omega arith) first.0 rest k (omega arith) d)
+      let first : (q' ≡ f) × R i y = e i y q' (omega arith) (subst (λ x. Called g x (i, tt) y q') s called) in
+      subst (λ x. R x (get_or ys x d)) next (values m (i + 1) q' (omega arith) first.0 rest k (omega arith) d)
 
--- Where each call leaves the closure as it is and gives h i.
+-- Where each call leaves the closure as it is and gives at i what is in R;
+pub from_fn_each : {F B : Type 0} {g : Mut F (ℕ × Unit {0}) B} {f : F} {ys : List B} {n : ℕ} (R : ℕ → B → Type 0)
+    → ((i : ℕ) (y : B) (q : F) → i < n → Called g f (i, tt) y q → (q ≡ f) × R i y) → IsFromFnResult g f ys n → (i : ℕ) → i < n → (d : B) → R i (get_or ys i d)
+from_fn_each {g = g} {f = f} {ys = ys} {n = n} R e r i l d = let here : 0 + i ≡ i = omega arith in subst (λ x. R x (get_or ys x d)) here (values g f ys R n e n 0 f (omega arith) refl r.each i l d)
+
+-- and where it gives h i.
 pub from_fn_is : {F B : Type 0} {g : Mut F (ℕ × Unit {0}) B} {f : F} {ys : List B} {n : ℕ} (h : ℕ → B)
     → ((i : ℕ) (y : B) (q : F) → i < n → Called g f (i, tt) y q → (q ≡ f) × (y ≡ h i)) → IsFromFnResult g f ys n → ys ≡ tabulate n h
-from_fn_is {g = g} {f = f} {ys = ys} {n = n} h e r = is_tabulate (h 0) ys n h r.long (λ k l. let here : 0 + k ≡ k = omega arith in subst (λ x. get_or ys x (h 0) ≡ h x) here (values g f ys h n e n 0 f (omega arith) refl r.each k l (h 0)))
+from_fn_is {g = g} {f = f} {ys = ys} {n = n} h e r = is_tabulate (h 0) ys n h r.long (λ i l. from_fn_each (λ i y. y ≡ h i) e r i l (h 0))
