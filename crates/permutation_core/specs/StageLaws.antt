@@ -333,4 +333,9 @@ two_transposed_lem b t u v r p q s w =
     moves_same (λ i c. c % 16) (λ i c. c / 16 * 16 + i)
     (stages_then (stages_then (stages_then (cross_moves 8 32 16711935 8 b t p) (cross_moves 8 32 252645135 4 t u q) tt tt) (cross_moves 8 32 858993459 2 u v s) tt tt) (cross_moves 8 32 1431655765 1 v r w) tt tt) tt tt
 
-pub ruleset permuting = (as_numbers, mask8, mask4, mask2, mask1, eight4, eight2, eight1, two8, two4, two2, two1, rows_exchanged_lem, columns_exchanged_lem, block_transposed, eight_transposed_lem, two_transposed_lem)
+pub ruleset the_masks = (mask8, mask4, mask2, mask1, eight4, eight2, eight1, two8, two4, two2, two1)
+
+pub ruleset rows = (rows_even, rows_odd, columns_even, columns_odd, numbered, cross_even, cross_odd)
+
+-- What the crate's functions rest on.
+pub ruleset permuting = (the_masks, rows, as_numbers, rows_exchanged_lem, columns_exchanged_lem, block_transposed, eight_transposed_lem, two_transposed_lem)

@@ -1,6 +1,6 @@
 // The permutations of a block, each in four stages of one shape: bit rows k and k+8 give bit rows 2k and 2k+1. Over `blocks`; the words
 // of a row are put in order with them, and S1 and S3 of the words are taken one by one from the sums of all.
-#![tactic(auto)]
+#![tactic(auto, using(crate::specs::StageLaws::permuting))]
 
 ghost use Rattle.std.specs.Prelude.{◌≡◌, ◌/◌, ◌%◌, ◌<◌, length, map};
 ghost use Rattle.blocks.specs.Block.{row_word, block};
