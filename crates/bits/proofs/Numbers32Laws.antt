@@ -1,7 +1,9 @@
 -- Laws of numbers of 32 bits: written ones are read back, and what stands behind them does not matter.
 -- Assumes nothing.
-use Rattle.std.specs.Prelude.{◌≡◌, List, ◌++◌, ℕ, ◌+◌, ◌*◌, ◌/◌, ◌%◌, ◌^◌, ◌<◌, get_or}
-use Rattle.std.proofs.Common.{sym, ap, ◌∙◌, add-zero, div-one, div-add-mod', mod-eq_of_lt}
+use Rattle.std.specs.Prelude.{◌≡◌, refl, List, ◌++◌, ℕ, zero, suc, ◌+◌, ◌*◌, ◌/◌, ◌%◌, ◌^◌, ◌<◌, get_or, take, drop}
+use Rattle.std.specs.Int.{w32, from_be_bytes, to_be_bytes}
+use Rattle.std.specs.Simd.{first_chunks}
+use Rattle.std.proofs.Common.{sym, ap, ◌∙◌, add-zero, div-one, div-add-mod', mod-eq_of_lt, get_or-take, get_or-drop, drop-drop}
 use Rattle.std.proofs.Math.Nat.{div-div-eq-div-mul}
 use native.Mathlib.Omega.{arith}
 use Rattle.std.proofs.Math.ListN.{length, get_or-append}
@@ -14,11 +16,36 @@ pub number_below : (bytes : List ℕ) (k : ℕ) → ((i : ℕ) → get_or bytes 
 unfolding number32
 number_below bytes k small = omega (arith, small (4 * k), small (4 * k + 1), small (4 * k + 2), small (4 * k + 3))
 
--- A number by halves, as a worker gathers it.
-pub by_halves : (bytes : List ℕ) (k a b : ℕ) → a ≡ get_or bytes (4 * k) 0 * 256 + get_or bytes (4 * k + 1) 0
-    → b ≡ get_or bytes (4 * k + 2) 0 * 256 + get_or bytes (4 * k + 2 + 1) 0 → a * 65536 + b ≡ number32 bytes k
+-- A number as code reads it, of the k-th four bytes,
+four_bytes : (m k : ℕ) (xs : List ℕ) (d : List ℕ) → k < m → get_or (first_chunks 4 m xs) k d ≡ take 4 (drop (4 * k) xs)
+four_bytes zero k xs d l = absurd (omega arith)
+four_bytes (suc m) zero xs d l = refl
+four_bytes (suc m) (suc k) xs d l =
+    let e : 4 + 4 * k ≡ 4 * suc k = omega arith in
+    four_bytes m k (drop 4 xs) d (omega arith) ∙ ap (take 4) (drop-drop (4 * k) 4 xs ∙ ap (λ i. drop i xs) e)
+
+pub number_read : (bytes : List ℕ) (m k : ℕ) (d : List ℕ) → k < m → from_be_bytes w32 (get_or (first_chunks 4 m bytes) k d) ≡ number32 bytes k
 unfolding number32
-by_halves bytes k a b ea eb = let e : 4 * k + 2 + 1 ≡ 4 * k + 3 = omega arith in omega (arith, ea, eb, ap (λ (i : ℕ). get_or bytes i 0) e)
+number_read bytes m k d l =
+    let at : (j : ℕ) → j < 4 → get_or (take 4 (drop (4 * k) bytes)) j 0 ≡ get_or bytes (4 * k + j) 0 =
+    (λ j lj. get_or-take 4 (drop (4 * k) bytes) j 0 lj ∙ get_or-drop (4 * k) bytes j 0)
+    in
+    rw (four_bytes m k bytes d l, at 0 (omega arith), at 1 (omega arith), at 2 (omega arith), at 3 (omega arith), add-zero (4 * k)) (omega arith)
+
+-- and the bytes of one as code writes them.
+pub bytes_written : (numbers : List ℕ) (k x : ℕ) → x ≡ get_or numbers k 0
+    → to_be_bytes w32 x ≡ tabulate 4 (λ i. byte32 (get_or numbers ((k * 4 + i) / 4) 0) ((k * 4 + i) % 4))
+unfolding tabulate byte32
+bytes_written numbers k x e =
+    let d0 : (k * 4 + 0) / 4 ≡ k = omega arith in
+    let d1 : (k * 4 + 1) / 4 ≡ k = omega arith in
+    let d2 : (k * 4 + 2) / 4 ≡ k = omega arith in
+    let d3 : (k * 4 + 3) / 4 ≡ k = omega arith in
+    let m0 : (k * 4 + 0) % 4 ≡ 0 = omega arith in
+    let m1 : (k * 4 + 1) % 4 ≡ 1 = omega arith in
+    let m2 : (k * 4 + 2) % 4 ≡ 2 = omega arith in
+    let m3 : (k * 4 + 3) % 4 ≡ 3 = omega arith in
+    rw (d0, d1, d2, d3, m0, m1, m2, m3, e, div-one (get_or numbers k 0)) refl
 
 -- Buffers with the same four bytes there have the same number.
 pub number_same : (bytes more : List ℕ) (k : ℕ) → ((i : ℕ) → i < 4 * k + 4 → get_or bytes i 0 ≡ get_or more i 0) → number32 bytes k ≡ number32 more k

@@ -2,6 +2,7 @@
 // it.
 #![tactic(auto)]
 
+pub mod lanes;
 pub mod numbers;
 pub mod parts;
 
@@ -21,27 +22,19 @@ pub fn flip(s: &mut [u8], i: usize)
     requires { i < length s.old * 8 }
     ensures { s.new ≡ pack (length s.old) (flipped i (bit s.old)) }
 {
-    let j = i / 8;
-    s[j] = s[j] ^ (1u8 << (7 - i % 8));
+    s[i / 8] ^= 1 << (7 - i % 8);
 }
 
 // A byte as an index.
 pub fn widen(x: u8) -> usize
     ensures { (result ≡ x) × (result < 256) }
 {
-    x as usize
-}
-
-// A number of 32 bits as one of 64.
-fn wide(x: u32) -> u64
-    ensures { (result ≡ x) × (result < 4294967296) }
-{
-    x as u64
+    usize::from(x)
 }
 
 // Two numbers of 32 bits in one of 64.
 pub fn pair_up(a: u32, b: u32) -> u64
     ensures { result ≡ a * 4294967296 + b % 4294967296 }
 {
-    wide(a) * 4294967296 + wide(b)
+    (u64::from(a) << 32) + u64::from(b)
 }
