@@ -5,3 +5,4 @@
 pub mod checks;
 mod guide;
 pub mod mending;
+mod words;

@@ -5,6 +5,7 @@ ghost use Rattle.mending_core.specs.Mending.{flipped_back, flipped_coded, mended
 
 use crate::checks::Checks;
 use crate::guide::Guide;
+use crate::words::Words;
 use word_spec::Repair;
 
 // Flips bit k of word w in back halves and coded pair, if it is one of the back half: in the halves it stands eight columns further on. A
@@ -50,11 +51,8 @@ fn repair_set(halves: &mut [u16; 256], coded: &mut [u8], marks: &mut [u8], set: 
     requires { (length coded.old ≡ 512) × (length marks.old ≡ 32) }
     ensures { HandledSet guide.now.numbers guide.now.odd guide.now.front set halves.old coded.old marks.old halves.new coded.new marks.new × (length coded.new ≡ 512) × (length marks.new ≡ 32) }
 {
-    let mut left = set;
-    while left != 0 {
-        let w = left.leading_zeros() as usize;
+    for w in Words(set) {
         marks[w] = repair_word(halves, coded, w, guide);
-        left -= 1 << (31 - w);
     }
 }
 
