@@ -20,6 +20,7 @@ pub fn read_word(s: &[u8], j: usize) -> u16
 }
 
 // A row turned left by n columns.
+#[tactic(auto, using(crate::specs::MoveLaws::turn_is))]
 pub fn turn(x: u16, n: usize) -> u16
     requires { n < 16 }
     ensures { result ≡ turned x n }
@@ -28,6 +29,7 @@ pub fn turn(x: u16, n: usize) -> u16
 }
 
 // The columns of m from x, the others from y.
+#[tactic(auto, using(crate::specs::MoveLaws::choose_is))]
 pub fn choose(m: u16, x: u16, y: u16) -> u16
     ensures { result ≡ chosen m x y }
 {

@@ -13,6 +13,14 @@ use bits::lanes::Lanes;
 use blocks::choose;
 use std::array;
 
+// The columns of a mask, and those `by` before them: what changes places in a stage.
+#[derive(Drop)]
+struct Columns<T: Lanes> {
+    mask: T,
+    by: u32,
+    ghost apart: { Mask T.width (T.number mask) by × (by < T.width) },
+}
+
 // Bit row i after two exchange the columns of m.
 fn rows_word(b: &[u16; 16], m: u16, i: usize) -> u16
     requires { i < 16 }
@@ -32,58 +40,54 @@ fn rows_stage(b: [u16; 16], m: u16) -> [u16; 16]
     array::from_fn(|i| rows_word(&b, m, i))
 }
 
-// Bit row i after the second of two exchanges the columns of m with those n before them.
-fn columns_word(b: &[u16; 16], m: u16, n: u32, i: usize) -> u16
-    requires { Mask 16 m n × (n < 16) × (i < 16) }
-    ensures { result ≡ row_word (columns_stage m n b.now) i }
+// Bit row i after the second of two exchanges columns with those before them.
+fn columns_word(b: &[u16; 16], columns: &Columns<u16>, i: usize) -> u16
+    requires { i < 16 }
+    ensures { result ≡ row_word (columns_stage columns.now.mask columns.now.by b.now) i }
 {
     let (x, y) = (b[i / 2], b[8 + i / 2]);
     if i % 2 == 0 {
         x
     } else {
-        choose(m, y >> n, y << n)
+        choose(columns.mask, y >> columns.by, y << columns.by)
     }
 }
 
-fn columns_stage(b: [u16; 16], m: u16, n: u32) -> [u16; 16]
-    requires { Mask 16 m n × (n < 16) }
-    ensures { result ≡ block (columns_stage m n b) }
+fn columns_stage(b: [u16; 16], columns: &Columns<u16>) -> [u16; 16]
+    ensures { result ≡ block (columns_stage columns.now.mask columns.now.by b) }
 {
-    array::from_fn(|i| columns_word(&b, m, n, i))
+    array::from_fn(|i| columns_word(&b, columns, i))
 }
 
-// The columns of m of the first change places with those n before them of the second.
-fn crossed<T: Lanes>(x: T, y: T, m: T, n: u32) -> (T, T)
-    requires { Mask T.width (T.number m) n × (n < T.width) }
-    ensures first { T.number result.0 ≡ crossed_first T.width (T.number m) n (T.number x) (T.number y) }
-    ensures second { T.number result.1 ≡ crossed_second T.width (T.number m) n (T.number x) (T.number y) }
+// The columns of the first change places with those before them of the second.
+fn crossed<T: Lanes>(x: T, y: T, columns: &Columns<T>) -> (T, T)
+    ensures first { T.number result.0 ≡ crossed_first T.width (T.number columns.now.mask) columns.now.by (T.number x) (T.number y) }
+    ensures second { T.number result.1 ≡ crossed_second T.width (T.number columns.now.mask) columns.now.by (T.number x) (T.number y) }
 {
-    let d = x.xor(y >> n) & m;
-    (x.xor(d), y.xor(d << n))
+    let d = x.xor(y >> columns.by) & columns.mask;
+    (x.xor(d), y.xor(d << columns.by))
 }
 
 // Number i of 2R after a stage: numbers k and R+k exchange columns so, and give numbers 2k and 2k+1.
-fn cross_word<T: Lanes>(b: &[T], m: T, n: u32, i: usize) -> T
-    requires mask { Mask T.width (T.number m) n × (n < T.width) }
-    requires within { (length b.now % 2 ≡ 0) × (i < length b.now) }
-    ensures { T.number result ≡ cross_word (length b.now / 2) T.width (T.number m) n (map T.number b.now) i }
+fn cross_word<T: Lanes>(b: &[T], columns: &Columns<T>, i: usize) -> T
+    requires { (length b.now % 2 ≡ 0) × (i < length b.now) }
+    ensures { T.number result ≡ cross_word (length b.now / 2) T.width (T.number columns.now.mask) columns.now.by (map T.number b.now) i }
 {
-    let (x, y) = crossed(b[i / 2], b[b.len() / 2 + i / 2], m, n);
+    let (x, y) = crossed(b[i / 2], b[b.len() / 2 + i / 2], columns);
     if i % 2 == 0 { x } else { y }
 }
 
 // All of them. Of sixteen u16 it is a stage of a block, of sixteen u32 one of two blocks side by side, and of eight u64 one of eight blocks
 // of 8 by 8 bits.
-fn cross_stage<T: Lanes, const N: usize>(b: [T; N], m: T, n: u32) -> [T; N]
-    requires mask { Mask T.width (T.number m) n × (n < T.width) }
-    requires even { N % 2 ≡ 0 }
-    ensures { map T.number result ≡ cross_stage (N / 2) T.width (T.number m) n (map T.number b) }
+fn cross_stage<T: Lanes, const N: usize>(b: [T; N], columns: &Columns<T>) -> [T; N]
+    requires { N % 2 ≡ 0 }
+    ensures { map T.number result ≡ cross_stage (N / 2) T.width (T.number columns.now.mask) columns.now.by (map T.number b) }
 {
     array::from_fn(
         |i: usize| -> T
-            requires { Mask T.width (T.number m) n × (n < T.width) × (N % 2 ≡ 0) × (i < N) }
-            ensures { T.number result ≡ cross_word (N / 2) T.width (T.number m) n (map T.number b) i }
-        { cross_word(&b, m, n, i) },
+            requires { (N % 2 ≡ 0) × (i < N) }
+            ensures { T.number result ≡ cross_word (N / 2) T.width (T.number columns.entry.now.mask) columns.entry.now.by (map T.number b) i }
+        { cross_word(&b, columns, i) },
     )
 }
 
@@ -101,37 +105,127 @@ pub fn exchange_rows(b: [u16; 16]) -> [u16; 16]
 pub fn exchange_columns(b: [u16; 16]) -> [u16; 16]
     ensures { result ≡ columns_exchanged b }
 {
-    let t = columns_stage(b, 0x00FF, 8);
-    let u = columns_stage(t, 0x0F0F, 4);
-    let v = columns_stage(u, 0x3333, 2);
-    columns_stage(v, 0x5555, 1)
+    let t = columns_stage(
+        b,
+        &Columns {
+            mask: 0x00FF,
+            by: 8,
+        },
+    );
+    let u = columns_stage(
+        t,
+        &Columns {
+            mask: 0x0F0F,
+            by: 4,
+        },
+    );
+    let v = columns_stage(
+        u,
+        &Columns {
+            mask: 0x3333,
+            by: 2,
+        },
+    );
+    columns_stage(
+        v,
+        &Columns {
+            mask: 0x5555,
+            by: 1,
+        },
+    )
 }
 
 // Bit row i, column c changes places with bit row c, column i.
 pub fn transpose(b: [u16; 16]) -> [u16; 16]
     ensures { result ≡ transposed b }
 {
-    let t = cross_stage(b, 0x00FF, 8);
-    let u = cross_stage(t, 0x0F0F, 4);
-    let v = cross_stage(u, 0x3333, 2);
-    cross_stage(v, 0x5555, 1)
+    let t = cross_stage(
+        b,
+        &Columns {
+            mask: 0x00FF,
+            by: 8,
+        },
+    );
+    let u = cross_stage(
+        t,
+        &Columns {
+            mask: 0x0F0F,
+            by: 4,
+        },
+    );
+    let v = cross_stage(
+        u,
+        &Columns {
+            mask: 0x3333,
+            by: 2,
+        },
+    );
+    cross_stage(
+        v,
+        &Columns {
+            mask: 0x5555,
+            by: 1,
+        },
+    )
 }
 
 // Two blocks side by side, each transposed.
 pub fn transpose_two(b: [u32; 16]) -> [u32; 16]
     ensures { result ≡ two_transposed b }
 {
-    let t = cross_stage(b, 0x00FF00FF, 8);
-    let u = cross_stage(t, 0x0F0F0F0F, 4);
-    let v = cross_stage(u, 0x33333333, 2);
-    cross_stage(v, 0x55555555, 1)
+    let t = cross_stage(
+        b,
+        &Columns {
+            mask: 0x00FF00FF,
+            by: 8,
+        },
+    );
+    let u = cross_stage(
+        t,
+        &Columns {
+            mask: 0x0F0F0F0F,
+            by: 4,
+        },
+    );
+    let v = cross_stage(
+        u,
+        &Columns {
+            mask: 0x33333333,
+            by: 2,
+        },
+    );
+    cross_stage(
+        v,
+        &Columns {
+            mask: 0x55555555,
+            by: 1,
+        },
+    )
 }
 
 // Eight blocks of 8 by 8 bits side by side, each transposed.
 pub fn transpose_eight(b: [u64; 8]) -> [u64; 8]
     ensures { result ≡ eight_transposed b }
 {
-    let u = cross_stage(b, 0x0F0F0F0F0F0F0F0F, 4);
-    let v = cross_stage(u, 0x3333333333333333, 2);
-    cross_stage(v, 0x5555555555555555, 1)
+    let u = cross_stage(
+        b,
+        &Columns {
+            mask: 0x0F0F0F0F0F0F0F0F,
+            by: 4,
+        },
+    );
+    let v = cross_stage(
+        u,
+        &Columns {
+            mask: 0x3333333333333333,
+            by: 2,
+        },
+    );
+    cross_stage(
+        v,
+        &Columns {
+            mask: 0x5555555555555555,
+            by: 1,
+        },
+    )
 }

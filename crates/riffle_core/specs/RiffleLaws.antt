@@ -7,7 +7,7 @@ use Rattle.riffle_core.specs.Riffles.{riffled_number, riffled, by_blocks, by_wor
 
 -- ---- what code makes
 
--- Two numbers of a riffle, of the halves of a row,
+-- Two numbers of a riffle, of the halves of a row.
 pub riffle_even : (x : List ℕ) (n v : ℕ) → n < 64 → v ≡ get_or (take 64 x) n 0 → v ≡ riffled_number x (2 * n)
 unfolding riffled_number
 riffle_even x n v l e = e ∙ get_or-take 64 x n 0 l ∙ ap (λ k. get_or x k 0) (omega arith)
@@ -16,16 +16,7 @@ pub riffle_odd : (x : List ℕ) (n v : ℕ) → v ≡ get_or (drop 64 x) n 0 →
 unfolding riffled_number
 riffle_odd x n v e = e ∙ get_or-drop 64 x n 0 ∙ ap (λ k. get_or x k 0) (omega arith)
 
--- three riffles, and four.
-pub three_riffles : (x a b c : List ℕ) → c ≡ riffled b → b ≡ riffled a → a ≡ riffled x → c ≡ by_words x
-unfolding by_words
-three_riffles x a b c ec eb ea = ec ∙ ap riffled (eb ∙ ap riffled ea)
-
-pub four_riffles : (x a b c d : List ℕ) → d ≡ riffled c → c ≡ riffled b → b ≡ riffled a → a ≡ riffled x → d ≡ by_blocks x
-unfolding by_blocks
-four_riffles x a b c d ed ec eb ea = ed ∙ ap riffled (ec ∙ ap riffled (eb ∙ ap riffled ea))
-
-pub ruleset riffling = (riffle_even, riffle_odd, three_riffles, four_riffles)
+pub ruleset riffling = (riffle_even, riffle_odd)
 
 -- ---- where a number comes from
 

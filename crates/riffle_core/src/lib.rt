@@ -20,6 +20,7 @@ fn riffle(x: [u16; 128]) -> [u16; 128]
 }
 
 // Number 8r+C comes to place 16C+r.
+#[tactic(auto, unfolding(crate::specs::Riffles::by_blocks))]
 pub fn by_blocks(x: [u16; 128]) -> [u16; 128]
     ensures { result ≡ by_blocks x }
 {
@@ -27,6 +28,7 @@ pub fn by_blocks(x: [u16; 128]) -> [u16; 128]
 }
 
 // Number 16C+r comes to place 8r+C.
+#[tactic(auto, unfolding(crate::specs::Riffles::by_words))]
 pub fn by_words(x: [u16; 128]) -> [u16; 128]
     ensures { result ≡ by_words x }
 {

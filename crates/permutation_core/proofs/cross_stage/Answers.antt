@@ -8,5 +8,5 @@ use Rattle.permutation_core.proofs.cross_stage.Goals as goal
 pub returns : goal.returns
 unfolding cross_stage cross_word moved_in
 returns g c =
-    let e : 2 * (g.row.N / 2) ≡ g.row.N = omega (arith, c.requires.even) in
+    let e : 2 * (g.row.N / 2) ≡ g.row.N = omega (arith, c.requires) in
     rw e (from_fn_maps _ _ (λ i y q l e. search rules) c.from_fn.ensures.items)
