@@ -9,6 +9,7 @@ ghost use Rattle.bits.specs.Lists.{tabulate};
 ghost use Rattle.blocks.specs.Moves.{chosen, turned};
 ghost use Rattle.blocks.specs.SideBySide.{laid_in, read_word, row_block, words_block, row_byte, word_byte};
 
+use laying::put_lane;
 use std::array;
 
 // Bytes j and j+1, the second the upper: so the compiler reads them as they lie in memory.
@@ -57,9 +58,7 @@ pub fn lay(row: &mut [u16], block: usize, b: [u16; 16])
     requires { (length row.old ≡ 128) × (block < 8) }
     ensures { row.new ≡ laid_in row.old block b }
 {
-    for (i, word) in b.iter().enumerate() {
-        row[8 * i + block] = *word;
-    }
+    put_lane(row, block, &b);
 }
 
 // Puts two bytes for each word: those that `bytes` makes of it.

@@ -5,12 +5,11 @@ ghost use Rattle.std.specs.Prelude.{◌≡◌, ℕ, ◌+◌, ◌*◌, ◌%◌, �
 ghost use Rattle.bits.specs.Lists.{tabulate};
 ghost use Rattle.bits.specs.Xor.{◌⊕◌, xor_sum};
 ghost use Rattle.blocks.specs.Laying.{Laid};
-ghost use Rattle.blocks.specs.SideBySide.{laid_in};
 ghost use Rattle.gathering_spec.specs.Sums.{halves_lane, lane64, paired_lanes, lanes32, lane16, joined_rows};
 ghost use Rattle.gathering_core.specs.Lanes.{Levelled};
 
 use bits::pair_up;
-use blocks::laying::laid_by;
+use blocks::laying::{laid_by, put_lane};
 use std::array;
 use std::ops::BitXor;
 
@@ -100,17 +99,6 @@ fn lane_64(z: &[u32; 128], c: usize) -> [u32; 16]
     let b = lane(z, c + 4);
     let s = moved_sums_core::up64(&f);
     added(&s, &b)
-}
-
-// Puts sixteen numbers into a lane. `blocks::lay` does the same of numbers of sixteen bits: `laid_in`, by which both are stated, is of
-// lists of numbers, and what is stated for any type would have to be proved of these two again.
-fn put_lane(z: &mut [u32], c: usize, v: &[u32; 16])
-    requires { (length z.old ≡ 128) × (c < 8) }
-    ensures { z.new ≡ laid_in z.old c v.now }
-{
-    for (i, x) in v.iter().enumerate() {
-        z[8 * i + c] = *x;
-    }
 }
 
 // Of eight sums four. In a loop that puts each number beside those of the other lanes the compiler forms all four at once; with the lanes
