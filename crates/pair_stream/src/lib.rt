@@ -1,11 +1,8 @@
 // Streams of pairs, one call after the other: encoded and received. Over `encoder` and `receiver`, by the definitions of `pair_spec`.
 #![tactic(auto)]
 
-ghost use Rattle.std.specs.Prelude.{◌≡◌, ◌*◌, ◌≤◌, ◌<◌, length};
-ghost use Rattle.bits.specs.Parts.{part_of};
-ghost use Rattle.pair_spec.specs.History.{depth};
-ghost use Rattle.pair_spec.specs.Front.{BeforePair};
-ghost use Rattle.pair_spec.specs.Calls.{encode_buffers, encode_next, receive_buffers, receive_next};
+ghost use Rattle.std.specs.Prelude.{◌≡◌};
+ghost use Rattle.pair_spec.specs.Calls.{encode_buffers, receive_buffers};
 ghost use Rattle.pair_spec.specs.Stream.{EncodesStream, ReceivesStream, encode_stream, receive_stream};
 
 // Encodes the pairs of an encoder, numbered from `first` on. (Encoder, first number and history go apart: three programs call this so. The
