@@ -61,7 +61,8 @@ pub fn lay(row: &mut [u16], block: usize, b: [u16; 16])
     put_lane(row, block, &b);
 }
 
-// Puts two bytes for each word: those that `bytes` makes of it.
+// Puts two bytes for each word: those that `bytes` makes of it. Each at its place: so the compiler puts eight words at once, which it does
+// not where two are copied together.
 fn put_words<F: Fn(u16) -> [u8; 2]>(words: &[u16; 128], out: &mut [u8], bytes: F)
     requires room { length out.old ≡ 256 }
     requires callable { F.IsAlwaysCallable bytes }

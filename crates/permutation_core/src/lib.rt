@@ -21,6 +21,15 @@ struct Columns<T: Lanes> {
     ghost apart: { Mask T.width (T.number mask) by × (by < T.width) },
 }
 
+impl<T: Lanes> Columns<T> {
+    fn new(mask: T, by: u32) -> Columns<T>
+        requires { Mask T.width (T.number mask) by × (by < T.width) }
+        ensures { (result.mask ≡ mask) × (result.by ≡ by) }
+    {
+        Columns { mask, by }
+    }
+}
+
 // Bit row i after two exchange the columns of m.
 fn rows_word(b: &[u16; 16], m: u16, i: usize) -> u16
     requires { i < 16 }
@@ -105,127 +114,37 @@ pub fn exchange_rows(b: [u16; 16]) -> [u16; 16]
 pub fn exchange_columns(b: [u16; 16]) -> [u16; 16]
     ensures { result ≡ columns_exchanged b }
 {
-    let t = columns_stage(
-        b,
-        &Columns {
-            mask: 0x00FF,
-            by: 8,
-        },
-    );
-    let u = columns_stage(
-        t,
-        &Columns {
-            mask: 0x0F0F,
-            by: 4,
-        },
-    );
-    let v = columns_stage(
-        u,
-        &Columns {
-            mask: 0x3333,
-            by: 2,
-        },
-    );
-    columns_stage(
-        v,
-        &Columns {
-            mask: 0x5555,
-            by: 1,
-        },
-    )
+    let t = columns_stage(b, &Columns::new(0x00FF, 8));
+    let u = columns_stage(t, &Columns::new(0x0F0F, 4));
+    let v = columns_stage(u, &Columns::new(0x3333, 2));
+    columns_stage(v, &Columns::new(0x5555, 1))
 }
 
 // Bit row i, column c changes places with bit row c, column i.
 pub fn transpose(b: [u16; 16]) -> [u16; 16]
     ensures { result ≡ transposed b }
 {
-    let t = cross_stage(
-        b,
-        &Columns {
-            mask: 0x00FF,
-            by: 8,
-        },
-    );
-    let u = cross_stage(
-        t,
-        &Columns {
-            mask: 0x0F0F,
-            by: 4,
-        },
-    );
-    let v = cross_stage(
-        u,
-        &Columns {
-            mask: 0x3333,
-            by: 2,
-        },
-    );
-    cross_stage(
-        v,
-        &Columns {
-            mask: 0x5555,
-            by: 1,
-        },
-    )
+    let t = cross_stage(b, &Columns::new(0x00FF, 8));
+    let u = cross_stage(t, &Columns::new(0x0F0F, 4));
+    let v = cross_stage(u, &Columns::new(0x3333, 2));
+    cross_stage(v, &Columns::new(0x5555, 1))
 }
 
 // Two blocks side by side, each transposed.
 pub fn transpose_two(b: [u32; 16]) -> [u32; 16]
     ensures { result ≡ two_transposed b }
 {
-    let t = cross_stage(
-        b,
-        &Columns {
-            mask: 0x00FF00FF,
-            by: 8,
-        },
-    );
-    let u = cross_stage(
-        t,
-        &Columns {
-            mask: 0x0F0F0F0F,
-            by: 4,
-        },
-    );
-    let v = cross_stage(
-        u,
-        &Columns {
-            mask: 0x33333333,
-            by: 2,
-        },
-    );
-    cross_stage(
-        v,
-        &Columns {
-            mask: 0x55555555,
-            by: 1,
-        },
-    )
+    let t = cross_stage(b, &Columns::new(0x00FF00FF, 8));
+    let u = cross_stage(t, &Columns::new(0x0F0F0F0F, 4));
+    let v = cross_stage(u, &Columns::new(0x33333333, 2));
+    cross_stage(v, &Columns::new(0x55555555, 1))
 }
 
 // Eight blocks of 8 by 8 bits side by side, each transposed.
 pub fn transpose_eight(b: [u64; 8]) -> [u64; 8]
     ensures { result ≡ eight_transposed b }
 {
-    let u = cross_stage(
-        b,
-        &Columns {
-            mask: 0x0F0F0F0F0F0F0F0F,
-            by: 4,
-        },
-    );
-    let v = cross_stage(
-        u,
-        &Columns {
-            mask: 0x3333333333333333,
-            by: 2,
-        },
-    );
-    cross_stage(
-        v,
-        &Columns {
-            mask: 0x5555555555555555,
-            by: 1,
-        },
-    )
+    let u = cross_stage(b, &Columns::new(0x0F0F0F0F0F0F0F0F, 4));
+    let v = cross_stage(u, &Columns::new(0x3333333333333333, 2));
+    cross_stage(v, &Columns::new(0x5555555555555555, 1))
 }
