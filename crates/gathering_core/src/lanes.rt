@@ -76,7 +76,7 @@ pub fn row_parities(x: &[u16; 128], y: &[u16; 128]) -> u16
 
 // ---- the words of both rows
 
-// Two numbers of sixteen bits in one of 32.
+// Two numbers of sixteen bits in one of 32, as `bits::pair_up` those of 32 in one of 64: a line each, shorter than a trait over both.
 pub fn join(a: u16, b: u16) -> u32
     ensures { result ≡ a * 65536 + b % 65536 }
 {

@@ -1,4 +1,5 @@
-// Rows as words of sixteen bits, eight blocks side by side: read in byte order, and with the words of a pair put in order.
+// Rows as words of sixteen bits, eight blocks side by side: read in byte order, and with the words of a pair put in order. A history is a
+// slice of bytes, as the C interface lends it (`ofec_receive_pair`), so its length stands in the contracts; s is a row's number in its pair.
 ghost use Rattle.std.specs.Prelude.{◌≡◌, ◌+◌, ◌*◌, ◌<◌, ◌≤◌, length};
 ghost use Rattle.bits.specs.Lists.{tabulate};
 ghost use Rattle.blocks.specs.Exchanges.{rows_exchanged, columns_exchanged};
@@ -13,6 +14,7 @@ use blocks::laying::laid_by;
 use blocks::{block_in, block_of, read_word};
 use permutation_core::{exchange_columns, exchange_rows, transpose};
 use std::array;
+
 // The words of the row that starts at a byte.
 fn row_words(s: &[u8], from: usize) -> [u16; 128]
     requires { from + 256 ≤ length s.now }
