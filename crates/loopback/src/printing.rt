@@ -46,10 +46,22 @@ fn print_words<R: Print>(rt: &R, counts: &Counts) -> io::Result<()> {
         "words with 0 wrong bits: marked 0 {}, 1 {}, 2 {}, lost {}",
         counts[7], counts[8], counts[9], counts[10]
     )?;
-    println!(rt; "words with 1: {} {} {} {}", counts[11], counts[12], counts[13], counts[14])?;
-    println!(rt; "words with 2: {} {} {} {}", counts[15], counts[16], counts[17], counts[18])?;
-    println!(rt; "words with 3: {} {} {} {}", counts[19], counts[20], counts[21], counts[22])?;
-    println!(rt; "words with more: {} {} {} {}", counts[23], counts[24], counts[25], counts[26])
+    println!(rt;
+        "words with 1: {} {} {} {}",
+        counts[11], counts[12], counts[13], counts[14]
+    )?;
+    println!(rt;
+        "words with 2: {} {} {} {}",
+        counts[15], counts[16], counts[17], counts[18]
+    )?;
+    println!(rt;
+        "words with 3: {} {} {} {}",
+        counts[19], counts[20], counts[21], counts[22]
+    )?;
+    println!(rt;
+        "words with more: {} {} {} {}",
+        counts[23], counts[24], counts[25], counts[26]
+    )
 }
 
 // Prints the bits, coded and of the payload.

@@ -43,7 +43,7 @@ fn encode_spent() -> Answer
 pub fn refuse_encodings(history: &mut [u8], counts: &mut Counts)
     ensures { (history.new ≡ history.old) × (counts.new ≡ each_step 168 (λ k. refused_two) counts.old) }
 {
-    for _ in 0..168 {
+    for _ in 0..168usize {
         answered(counts, encode_short(history));
         answered(counts, encode_spent());
     }

@@ -17,7 +17,8 @@ use profile::Profile;
 // The bytes of a super-frame's payload: 172,032 cells of two bytes.
 const PAYLOAD: usize = 344064;
 
-// The frames of a super-frame, end to end.
+// The frames of a super-frame, end to end. Not compiled into its callers, which hold large arrays of their own.
+#[inline(never)]
 pub fn make(profile: Profile, pairs0: &[u8], pairs1: &[u8], overhead: &[u8], line: &mut [u8])
     requires { PairsToFrames (modulation profile) pairs0.now pairs1.now overhead.now line.old }
     ensures { line.new ≡ superframe (modulation profile) pairs0.now pairs1.now overhead.now }
@@ -38,7 +39,8 @@ fn take(profile: Profile, line: &[u8], overhead: &[u8], pairs0: &mut [u8], pairs
     differing
 }
 
-// The same from any frames, all of which must be legal, as the list must be.
+// The same from any frames, all of which must be legal, as the list must be. Not compiled into its callers either.
+#[inline(never)]
 pub fn take_apart(
     profile: Profile,
     line: &[u8],

@@ -30,7 +30,11 @@ pub fn join(profile: Profile, pairs0: &[u8], pairs1: &[u8], cells: &mut [u8])
     requires { PairsToCells (modulation profile) 344064 pairs0.now pairs1.now cells.old }
     ensures { cells.new ≡ payload_of_pairs (modulation profile) pairs0.now pairs1.now }
 {
-    fill_parts(cells, cell_bytes(profile), |b, own| buffer(profile, b, pairs0, pairs1, own));
+    fill_parts(
+        cells,
+        cell_bytes(profile),
+        |b, own| buffer(profile, b, pairs0, pairs1, own),
+    );
 }
 
 // The pairs of buffer b.
@@ -50,6 +54,7 @@ pub fn part(profile: Profile, cells: &[u8], pairs0: &mut [u8], pairs1: &mut [u8]
     requires { CellsToPairs (modulation profile) ((modulation profile).bits * 10752) cells.now pairs0.old pairs1.old }
     ensures { (pairs0.new ≡ taken_pairs (modulation profile) cells.now 0) × (pairs1.new ≡ taken_pairs (modulation profile) cells.now 1) }
 {
+    // By number, and not by `fill_parts`: one turn fills parts of two buffers.
     for b in 0..buffers(profile) {
         let at = b * 10752;
         part_buffer(

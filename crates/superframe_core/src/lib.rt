@@ -36,7 +36,11 @@ pub fn frame_all(profile: Profile, cells: &[u8], overhead: &[u8], line: &mut [u8
     requires { CellsToFrames (modulation profile) 356352 cells.now overhead.now line.old }
     ensures { line.new ≡ frames_end_to_end cells.now overhead.now }
 {
-    fill_parts(line, 7424, |s, frame| sub_frame(profile, s, cells, overhead, frame));
+    fill_parts(
+        line,
+        7424,
+        |s, frame| sub_frame(profile, s, cells, overhead, frame),
+    );
 }
 
 // The payload of sub-frame s, and the number of its overhead cells that differ.
@@ -55,6 +59,7 @@ pub fn unframe_all(profile: Profile, line: &[u8], overhead: &[u8], cells: &mut [
     ensures { (cells.new ≡ taken_cells line.now) × (result ≡ differing_all line.now overhead.now) }
 {
     let mut n = 0;
+    // By number, and not by `fill_parts`: the parts are of two sizes, and the count changes from part to part.
     for s in 0..48 {
         let own = &mut cells[start(s)..start(s + 1)];
         n += unframe_next(profile, s, line, overhead, own);

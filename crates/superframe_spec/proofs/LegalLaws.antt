@@ -2,7 +2,7 @@
 -- Assumes nothing.
 use Rattle.std.specs.Prelude.{◌≡◌, Bool, List, ℕ, ◌+◌, ◌-◌, ◌*◌, ◌<◌, ◌≤◌, length, get_or, refl, Some, None}
 use Rattle.std.proofs.Math.Path.{sym, ap, ap₂}
-use Rattle.std.proofs.Common.{◌∙◌, lit<}
+use Rattle.std.proofs.Common.{◌∙◌, lit<, Fits, w64}
 use Rattle.std.proofs.Math.Bool.{false}
 use native.Mathlib.Omega.{arith}
 use Rattle.std.proofs.Math.Decide.{dec_lt}
@@ -96,6 +96,9 @@ module _ {p : Modulation} {line : List ℕ} {s : ℕ} (f g : ℕ) (h : Judged p 
       let l : at < 7424 = omega (arith, found_within _ _ at e, long) in
       is_found _ _ _ (judged_hit f g at h ls ll ef eg (found_at _ _ at e) l) (omega arith)
 
+  pub line_fits : (at : ℕ) → Some at ≡ found (length (part f (g - f) line)) (first_illegal (frame_rule p s) (part f (g - f) line)) → Fits w64 (f + at)
+  line_fits at e = record { fits = omega (arith, found_within _ _ at e, long) }
+
   pub line_more : None ≡ found (length (part f (g - f) line)) (first_illegal (frame_rule p s) (part f (g - f) line)) → Judged p line (s + 1)
   line_more e = judged_more f g _ h ls ll ef eg refl (omega (arith, found_none _ _ e, long))
 
@@ -103,4 +106,4 @@ pub line_end : {p : Modulation} {line : List ℕ} {s : ℕ} → Judged p line s 
     → None ≡ found (length line) (first_illegal (line_rule p) line)
 line_end {p} {line} h ll l = not_found _ _ (omega (arith, judged_all (length line) h ll refl l))
 
-pub ruleset judging_line = (judged_none, line_hit, line_more, line_end)
+pub ruleset judging_line = (judged_none, line_hit, line_fits, line_more, line_end)

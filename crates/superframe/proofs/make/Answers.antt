@@ -5,7 +5,7 @@ use Rattle.superframe_spec.proofs.SuperframeLaws.{payload_legal, superframe_is}
 use Rattle.superframe.proofs.make.Goals as goal
 
 pub frame_all-requires : goal.frame_all-requires
-frame_all-requires c = 
+frame_all-requires c =
     record {
       cells_long = c.join.auto.cells ∙ length-replicate {A = ℕ} 344064 0;
       cells_legal = payload_legal _ _ _ _ c.join.ensures;

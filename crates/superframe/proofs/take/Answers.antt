@@ -5,7 +5,7 @@ use Rattle.superframe_spec.proofs.ApartLaws.{taken_legal, taken_is}
 use Rattle.superframe.proofs.take.Goals as goal
 
 pub part-requires : goal.part-requires
-part-requires c = 
+part-requires c =
     record {
       cells_long = c.unframe_all-differing.auto.cells ∙ length-replicate {A = ℕ} 344064 0;
       cells_legal = taken_legal _ _ c.requires.1.frames_long c.requires.0.frames_legal _ c.unframe_all-differing.ensures.0;

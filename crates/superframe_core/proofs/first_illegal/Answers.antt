@@ -11,3 +11,6 @@ loop-s-preserved c = search (rules, judging_line)
 
 pub returns : goal.returns
 returns c = search (rules, judging_line)
+
+pub overflow_add-result : goal.overflow_add-result
+overflow_add-result c = search (rules, judging_line)

@@ -10,7 +10,7 @@ pub receive_next-requires : goal.receive_next-requires
 receive_next-requires c = (search rules, search (rules, before_kept))
 
 pub loop-k-init : goal.loop-k-init
-loop-k-init c = 
+loop-k-init c =
     record {
       before = before_fresh _ _ c.fresh-history.ensures;
       history_is = before_none _ _ _ _ _ c.fresh-history.ensures;
@@ -18,7 +18,7 @@ loop-k-init c =
     }
 
 pub loop-k-preserved : goal.loop-k-preserved
-loop-k-preserved c = 
+loop-k-preserved c =
     let l = c.loop-k in
     let left = c.refuse_receiving.ensures in
     let made = c.receive_next.ensures in

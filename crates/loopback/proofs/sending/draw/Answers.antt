@@ -7,7 +7,7 @@ use Rattle.loopback_core.specs.RandomLaws.{pair_block, payload_stream_is}
 use Rattle.loopback.proofs.sending.draw.Goals as goal
 
 pub returns : goal.returns
-returns c = 
+returns c =
     let e = c.args.encoder.number in
     let q = c.args.q in
     payload_stream_is e q _

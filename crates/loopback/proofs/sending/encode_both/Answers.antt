@@ -12,7 +12,7 @@ pub encode_next-requires : goal.encode_next-requires
 encode_next-requires c = (search rules, search (rules, before_kept), search (rules, part_long))
 
 pub loop-q-init : goal.loop-q-init
-loop-q-init c = 
+loop-q-init c =
     record {
       before = before_fresh _ _ c.fresh-history.ensures;
       blocks = search (rules, by_blocks);
@@ -21,7 +21,7 @@ loop-q-init c =
     }
 
 pub loop-q-preserved : goal.loop-q-preserved
-loop-q-preserved c = 
+loop-q-preserved c =
     let l = c.loop-q in
     let left = c.refuse_encodings.ensures in
     let made = c.encode_next.ensures in
