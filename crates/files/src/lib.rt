@@ -13,7 +13,7 @@ mod reading;
 
 pub use filenames::Name;
 pub use filestatus::{is_regular, same};
-pub use making::{Made, close, create, discard, finish, leads_to, remove, take_name};
+pub use making::{close, create, discard, finish, leads_to, remove, take_name};
 pub use message::Said;
 pub use naming::target;
 pub use places::collide;
@@ -34,7 +34,8 @@ pub fn is_word<R: Env>(rt: &R, argument: usize, word: &str) -> bool {
     Name::of_argument(rt, argument).is_some_and(|name| name.as_bytes() == word.as_bytes())
 }
 
-// The profile that the arguments name, where there are as many as there must be: 16-QAM, or that of one more, which is `qpsk`, at this place.
+// The profile that the arguments name, where there are as many as there must be: 16-QAM, or where there is one more, `qpsk`, at this place,
+// that.
 pub fn profile_at<R: Env>(rt: &R, argument: usize) -> Option<Profile>
     requires { (0 < argument) × (argument < 2 ^ 32) }
 {

@@ -49,8 +49,8 @@ impl Encoder {
         self.next += pairs as u32;
     }
 
-    // The coded pairs of the next super-frame, at the front of their buffer. Its payload is read into one that has room for the frames of a
-    // super-frame: it takes the front, so that no stack is needed for it.
+    // The coded pairs of the next super-frame, at the front of their buffer. Its payload is read into the front of one that has room for the
+    // frames of a super-frame, so that no stack is needed for it.
     pub fn encode_next<R: Env + Eprint, F: Read + Seek + OpenFile + Drop>(
         &mut self,
         rt: &R,

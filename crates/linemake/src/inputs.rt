@@ -30,8 +30,8 @@ const LIST: usize = 12288;
 // The most super-frames of a line file.
 const MOST: usize = 64;
 
-// The payload files of both encoders, and the overhead list. The payload files stand in no array: the proof of its drop would need the size of a
-// file.
+// The payload files of both encoders, and the overhead list. The payload files stand in no array: the proof of its drop would need the size
+// of a file.
 #[derive(Drop)]
 pub struct Inputs<F> {
     pub payload0: Input<F>,

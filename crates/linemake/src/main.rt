@@ -9,6 +9,7 @@ mod line;
 mod superframes;
 
 use calls::Refusal;
+use files::Name;
 use inputs::{Inputs, LINE, PROFILE};
 use profile::Profile;
 use std::io::Read;
@@ -24,11 +25,12 @@ fn make<R: Files + Env + RandomSource + Alloc + Eprint>(
     let superframes = inputs::superframes(rt, profile, inputs)?;
     let name = files::target(rt, LINE)?;
     inputs::spare(rt, inputs, &name)?;
-    let mut made = files::create(rt, &name)?;
-    match line::write(rt, profile, inputs, superframes, &mut made.file) {
-        Ok(()) => Ok(files::finish(rt, made, &name)?),
+    let mut path = Name::new();
+    let mut out = files::create(rt, &name, &mut path)?;
+    match line::write(rt, profile, inputs, superframes, &mut out) {
+        Ok(()) => Ok(files::finish(rt, out, &path, &name)?),
         Err(refusal) => {
-            files::discard(rt, made);
+            files::discard(rt, out, &path);
             Err(refusal)
         }
     }

@@ -46,7 +46,8 @@ fn write_next<R: Env + Eprint, F: Read + Seek + OpenFile + Drop, W: Write>(
     write_frames(rt, profile, &coded, list, line, out)
 }
 
-// Writes so many super-frames.
+// Writes so many super-frames. It is not inlined, so that its buffers are off the stack while the file is made and named.
+#[inline(never)]
 pub fn write_all<R: Env + Eprint, F: Read + Seek + OpenFile + Drop, W: Write>(
     rt: &R,
     profile: Profile,

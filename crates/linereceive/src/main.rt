@@ -12,6 +12,7 @@ mod say;
 
 use calls::Refusal;
 use failure::Failure;
+use files::Name;
 use inputs::Inputs;
 use outputs::Outputs;
 use profile::Profile;
@@ -43,23 +44,31 @@ fn receive<R: Env + Eprint, F: Read + Seek + OpenFile + Drop, W: Write>(
     receiving::receive_all(rt, profile, capture, &list, outputs)
 }
 
-// Receives into files beside the names, which then take them.
+// Receives into files at these paths beside their names, which they take when all are whole.
+fn receive_at<R: Files + Env + RandomSource + Alloc + Eprint>(
+    rt: &R,
+    profile: Profile,
+    inputs: &mut Inputs<R::File>,
+    paths: &mut [Name; 4],
+) -> Result<Received, Refusal> {
+    let mut outputs = outputs::make_all(rt, inputs, paths)?;
+    let received = receive(rt, profile, inputs, &mut outputs)?;
+    outputs::finish(rt, outputs, paths)?;
+    Ok(received)
+}
+
+// The same; where it fails, nothing is left at the paths.
 fn receive_to_files<R: Files + Env + RandomSource + Alloc + Eprint>(
     rt: &R,
     profile: Profile,
     inputs: &mut Inputs<R::File>,
 ) -> Result<Received, Refusal> {
-    let mut outputs = outputs::make_all(rt, inputs)?;
-    match receive(rt, profile, inputs, &mut outputs) {
-        Ok(received) => {
-            outputs::finish(rt, outputs)?;
-            Ok(received)
-        }
-        Err(refusal) => {
-            outputs::discard_all(rt, outputs);
-            Err(refusal)
-        }
+    let mut paths = outputs::no_paths();
+    let received = receive_at(rt, profile, inputs, &mut paths);
+    if received.is_err() {
+        outputs::remove_all(rt, &paths);
     }
+    received
 }
 
 // Opens the line file and the capture, receives, and prints what came of it.

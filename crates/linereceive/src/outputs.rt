@@ -1,28 +1,24 @@
 // The four files that are written: each is made beside its name and takes it when all four are whole.
 use crate::inputs::Inputs;
-use files::{Made, Name, Said, message};
+use files::{Name, Said, message};
 use std::io::Write;
 use std::random::RandomSource;
 use std::rt::{Env, Files};
 
-// The arguments of the first payload file and of the first marks file.
-const PAYLOAD: usize = 3;
+// The first of their arguments.
+const FIRST: usize = 3;
 
-const MARKS: usize = 5;
-
-// The file of an argument, which is called `what` where a write fails.
+// A file that is written, and what it is called where a write fails.
 #[derive(Drop)]
 pub struct Output<F> {
-    argument: usize,
+    file: F,
     what: &'static str,
-    made: Made<F>,
 }
 
 impl<F: Write> Output<F> {
     // Writes to the file, or says why it cannot.
     pub fn put<R: Eprint>(&mut self, rt: &R, bytes: &[u8]) -> Result<(), Said> {
-        self.made
-            .file
+        self.file
             .write_all(bytes)
             .map_err(|error| message::fail(rt, self.what.as_bytes(), error))
     }
@@ -70,7 +66,7 @@ fn spare_outputs<R: Files + Env + Alloc + Eprint>(
     argument: usize,
     name: &Name,
 ) -> Result<(), Said> {
-    match (PAYLOAD..argument).find(|other| is_name_of(rt, *other, name)) {
+    match (FIRST..argument).find(|other| is_name_of(rt, *other, name)) {
         Some(other) => Err(message::line(
             rt,
             argument,
@@ -80,124 +76,99 @@ fn spare_outputs<R: Files + Env + Alloc + Eprint>(
     }
 }
 
-// Makes the file of an argument; or says why it cannot.
+// Makes the file of an argument, and puts the path at which it lies where that is lent; or says why it cannot, and what is lent stays as it
+// was.
 fn make<R: Files + Env + RandomSource + Alloc + Eprint>(
     rt: &R,
     argument: usize,
     what: &'static str,
     inputs: &Inputs<R::File>,
+    path: &mut Name,
 ) -> Result<Output<R::File>, Said> {
     let name = files::target(rt, argument)?;
     spare_inputs(rt, argument, &name, inputs)?;
     spare_outputs(rt, argument, &name)?;
-    let made = files::create(rt, &name)?;
-    Ok(Output {
-        argument,
-        what,
-        made,
-    })
+    let file = files::create(rt, &name, path)?;
+    Ok(Output { file, what })
 }
 
-// Makes the files of an argument and the next; or neither, where one cannot be made, which is said.
-fn make_both<R: Files + Env + RandomSource + Alloc + Eprint>(
-    rt: &R,
-    argument: usize,
-    what: [&'static str; 2],
-    inputs: &Inputs<R::File>,
-) -> Result<(Output<R::File>, Output<R::File>), Said>
-    requires { argument < 100 }
-{
-    let [what0, what1] = what;
-    let first = make(rt, argument, what0, inputs)?;
-    match make(rt, argument + 1, what1, inputs) {
-        Ok(second) => Ok((first, second)),
-        Err(said) => {
-            files::discard(rt, first.made);
-            Err(said)
-        }
-    }
+// Empty paths: those of no file. This, and what is done with them, is not inlined, so that the stack holds each once.
+#[inline(never)]
+pub fn no_paths() -> [Name; 4] {
+    [Name::new(), Name::new(), Name::new(), Name::new()]
 }
 
-// Makes all four files; or none, where one cannot be made, which is said.
+// Makes the four files in the order of their arguments, and puts their paths where these are lent; or says which cannot be made, and its path
+// and those behind it stay as they were.
+#[inline(never)]
 pub fn make_all<R: Files + Env + RandomSource + Alloc + Eprint>(
     rt: &R,
     inputs: &Inputs<R::File>,
+    paths: &mut [Name; 4],
 ) -> Result<Outputs<R::File>, Said> {
-    let (payload0, payload1) = make_both(rt, PAYLOAD, ["PAYLOAD0", "PAYLOAD1"], inputs)?;
-    match make_both(rt, MARKS, ["MARKS0", "MARKS1"], inputs) {
-        Ok((marks0, marks1)) => Ok(Outputs {
-            first: Side {
-                payload: payload0,
-                marks: marks0,
-            },
-            second: Side {
-                payload: payload1,
-                marks: marks1,
-            },
-        }),
-        Err(said) => {
-            files::discard(rt, payload0.made);
-            files::discard(rt, payload1.made);
-            Err(said)
-        }
+    let payload0 = make(rt, 3, "PAYLOAD0", inputs, &mut paths[0])?;
+    let payload1 = make(rt, 4, "PAYLOAD1", inputs, &mut paths[1])?;
+    let marks0 = make(rt, 5, "MARKS0", inputs, &mut paths[2])?;
+    let marks1 = make(rt, 6, "MARKS1", inputs, &mut paths[3])?;
+    Ok(Outputs {
+        first: Side {
+            payload: payload0,
+            marks: marks0,
+        },
+        second: Side {
+            payload: payload1,
+            marks: marks1,
+        },
+    })
+}
+
+// Removes what lies at these paths.
+pub fn remove_all<R: Files>(rt: &R, paths: &[Name; 4]) {
+    for path in paths {
+        files::remove(rt, path);
     }
 }
 
-// Removes all four files.
-pub fn discard_all<R: Files>(rt: &R, outputs: Outputs<R::File>) {
-    let Outputs { first, second } = outputs;
-    files::discard(rt, first.payload.made);
-    files::discard(rt, second.payload.made);
-    files::discard(rt, first.marks.made);
-    files::discard(rt, second.marks.made);
-}
-
-// A file that is closed: its argument, and the path at which it was made.
-#[derive(Drop)]
-struct Closed {
-    argument: usize,
-    path: Name,
-}
-
-// Closes a file; says why it is not whole, where it is not.
+// Closes the file of an argument; or says why it is not whole.
 fn close<R: Files + Env + Eprint>(
     rt: &R,
+    argument: usize,
     output: Output<R::File>,
-    good: &mut Result<(), Said>,
-) -> Closed {
-    let Output { argument, made, .. } = output;
-    let Made { file, path } = made;
+) -> Result<(), Said> {
     let name = Name::of_argument(rt, argument).unwrap_or(Name::new());
-    if let Err(said) = files::close(rt, file, name.as_bytes()) {
-        *good = Err(said);
-    }
-    Closed { argument, path }
+    files::close(rt, output.file, name.as_bytes())
 }
 
-// Gives a closed file the name of its argument, an empty one where it gives none; or says why it cannot.
-fn take_name<R: Files + Env + Alloc + Eprint>(rt: &R, closed: &Closed) -> Result<(), Said> {
-    let name = files::target(rt, closed.argument).unwrap_or(Name::new());
-    files::take_name(rt, &closed.path, &name)
+// Closes all four files; or says which are not whole.
+fn close_all<R: Files + Env + Eprint>(rt: &R, outputs: Outputs<R::File>) -> Result<(), Said> {
+    let Outputs { first, second } = outputs;
+    let payload0 = close(rt, 3, first.payload);
+    let payload1 = close(rt, 4, second.payload);
+    let marks0 = close(rt, 5, first.marks);
+    let marks1 = close(rt, 6, second.marks);
+    payload0.and(payload1).and(marks0).and(marks1)
 }
 
-// Gives all four files their names where they are whole; or says why not, and removes those that have not theirs.
+// Gives the file at a path the name of its argument, an empty one where it gives none; or says why it cannot.
+fn take_name<R: Files + Env + Alloc + Eprint>(
+    rt: &R,
+    argument: usize,
+    path: &Name,
+) -> Result<(), Said> {
+    let name = files::target(rt, argument).unwrap_or(Name::new());
+    files::take_name(rt, path, &name)
+}
+
+// Gives all four files their names where they are whole; or says why not, and those behind the first that cannot take its name have none.
+#[inline(never)]
 pub fn finish<R: Files + Env + Alloc + Eprint>(
     rt: &R,
     outputs: Outputs<R::File>,
+    paths: &[Name; 4],
 ) -> Result<(), Said> {
-    let Outputs { first, second } = outputs;
-    let mut good = Ok(());
-    let all = [
-        close(rt, first.payload, &mut good),
-        close(rt, second.payload, &mut good),
-        close(rt, first.marks, &mut good),
-        close(rt, second.marks, &mut good),
-    ];
-    for closed in &all {
-        match good {
-            Ok(()) => good = take_name(rt, closed),
-            Err(_) => files::remove(rt, &closed.path),
-        }
+    close_all(rt, outputs)?;
+    for (k, path) in paths.iter().enumerate() {
+        take_name(rt, FIRST + k, path)?;
     }
-    good
+    Ok(())
 }

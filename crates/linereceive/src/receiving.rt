@@ -87,8 +87,8 @@ impl Receiver {
     }
 }
 
-// Takes the pairs of both encoders off the frames of super-frame q, the next of the capture, which is read into a buffer, and answers how many
-// overhead cells differ; or says where the capture ended, or where its illegal byte is.
+// Takes the pairs of both encoders off the frames of super-frame q, the next of the capture, which is read into a buffer, and answers how
+// many overhead cells differ; or says that the capture ended, or where its illegal byte is.
 fn take<R: Env + Eprint, F: Read + Seek + OpenFile + Drop>(
     rt: &R,
     profile: Profile,
@@ -143,7 +143,8 @@ fn receive_next<R: Env + Eprint, F: Read + Seek + OpenFile + Drop, W: Write>(
     Ok((differing, sums0, sums1))
 }
 
-// Receives all super-frames.
+// Receives all super-frames. It is not inlined, so that its buffers are off the stack while files are made and named.
+#[inline(never)]
 pub fn receive_all<R: Env + Eprint, F: Read + Seek + OpenFile + Drop, W: Write>(
     rt: &R,
     profile: Profile,
