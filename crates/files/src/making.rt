@@ -18,7 +18,7 @@ const LETTERS: [u8; 62] = *b"abcdefghijklmnopqrstuvwxyzABCDEFGHIJKLMNOPQRSTUVWXY
 // The system's number for a path that is there already.
 const EXISTS: i32 = 17;
 
-// How many paths are tried, as in the C library.
+// How many paths are tried, as in the C library: a number of turns, and no index.
 const TRIES: usize = 238328;
 
 // The system's number for what no path has, as one that is too long.

@@ -36,14 +36,14 @@ fn readable<F: Read + Seek>(file: &mut F) -> io::Result<usize> {
 }
 
 impl<F: Read + Seek + OpenFile + Drop> Input<F> {
-    // The length of the file; none where it has none.
+    // The length of the file. One that has none is judged as an empty one.
     pub fn length(&mut self) -> usize {
         self.file
             .seek(SeekFrom::End(0))
             .map_or(0, |end| end as usize)
     }
 
-    // The bytes of the file that can be read, from its front, where the next read begins.
+    // The bytes of the file that can be read, from its front, where the next read begins. One that cannot be read is judged as an empty one.
     pub fn size(&mut self) -> usize {
         readable(&mut self.file).unwrap_or(0)
     }

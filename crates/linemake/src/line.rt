@@ -21,11 +21,10 @@ pub struct List<'a> {
 impl<'a> List<'a> {
     // These cells; or the refusal for the first illegal byte.
     fn of(cells: &'a [u8; 12288]) -> Result<List<'a>, Refusal> {
-        let illegal = cells_core::legal::first_illegal(cells);
-        if illegal < cells.len() {
-            return Err(Refusal::OffGrid(illegal));
+        match cells_core::legal::first_illegal(cells) {
+            Some(index) => Err(Refusal::OffGrid(index)),
+            None => Ok(List { cells }),
         }
-        Ok(List { cells })
     }
 }
 

@@ -35,10 +35,9 @@ fn receive<R: Env + Eprint, F: Read + Seek + OpenFile + Drop, W: Write>(
     let Inputs { line, capture } = inputs;
     let mut list = [0u8; 12288];
     inputs::read_list(rt, line, &mut list)?;
-    let illegal = cells_core::legal::first_illegal(&list);
-    if illegal < list.len() {
-        say::illegal(rt, line.header.overhead as usize + illegal);
-        return Err(Refusal::OffGrid(illegal));
+    if let Some(index) = cells_core::legal::first_illegal(&list) {
+        say::illegal(rt, line.header.overhead as usize + index);
+        return Err(Refusal::OffGrid(index));
     }
     inputs::seek_frames(capture);
     receiving::receive_all(rt, profile, capture, &list, outputs)

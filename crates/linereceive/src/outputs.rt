@@ -139,7 +139,7 @@ fn close<R: Files + Env + Eprint>(
     files::close(rt, output.file, name.as_bytes())
 }
 
-// Closes all four files; or says which are not whole.
+// Closes all four files, one by one, since they stand in no array; or says which are not whole.
 fn close_all<R: Files + Env + Eprint>(rt: &R, outputs: Outputs<R::File>) -> Result<(), Said> {
     let Outputs { first, second } = outputs;
     let payload0 = close(rt, 3, first.payload);

@@ -40,7 +40,7 @@ fn end<R: Eprint>(rt: &R, printed: io::Result<()>) {
     }
 }
 
-// Prints a refusal's number.
+// Prints a refusal's number: a program may refuse by one that is no call's.
 pub fn print_refusal<R: Print + Eprint>(rt: &R, number: u32) {
     end(rt, println!(rt; "refused {number}"));
 }
@@ -48,14 +48,18 @@ pub fn print_refusal<R: Print + Eprint>(rt: &R, number: u32) {
 // Prints the numbers of a header, or its refusal.
 pub fn print_header<R: Print + Eprint>(rt: &R, header: Result<Header, Refusal>) {
     match header {
-        Ok(Header {
-            superframes,
-            overhead,
-            frames,
-            total,
-        }) => end(
+        Ok(
+            Header {
+                superframes,
+                overhead,
+                frames,
+                total,
+            },
+        ) => end(
             rt,
-            println!(rt; "superframes {superframes} overhead {overhead} frames {frames} total {total}"),
+            println!(rt;
+                "superframes {superframes} overhead {overhead} frames {frames} total {total}"
+            ),
         ),
         Err(refusal) => print_refusal(rt, refusal.number()),
     }
