@@ -10,6 +10,7 @@ ghost use Rattle.std.specs.Prelude.{◌≡◌, ◌+◌, ◌*◌, ◌%◌, ◌<�
 ghost use Rattle.bits.specs.Bits.{bit, pack, flipped};
 
 // Bit i of a buffer.
+#[tactic(auto, unfolding(crate::specs::Bits::bit, crate::specs::Bits::bit_of))]
 pub fn bit(s: &[u8], i: usize) -> u8
     requires { i < length s.now * 8 }
     ensures { (result ≡ bit s.now i) × (result < 2) }

@@ -1,14 +1,14 @@
 // A block of sixteen 16-bit rows, by value, reordered and restored by whole rows. The place (i, j) of a reordered block takes its bit
 // from (r, c), i = c - r and j = r + 2i + d, so each row is turned left by its number, which brings the bit to column i, and then
 // column i is moved down by 2i + d rows: what results is the reordered block by columns.
-ghost use Rattle.std.specs.Prelude.{◌≡◌, ◌<◌, get_or};
+ghost use Rattle.std.specs.Prelude.{◌≡◌, ◌<◌};
 ghost use Rattle.blocks.specs.Block.{block};
 ghost use Rattle.interleaver_spec.specs.Block.{reordered, restored};
 ghost use Rattle.blocks.specs.Moves.{transposed};
 ghost use Rattle.interleaver_spec.specs.Moves.{turned_bit, moved_bit};
 
 use blocks::{choose, turn};
-use interleaver_spec::BitRow;
+use std::array;
 
 // The columns i, column 0 the most significant bit, for which 2i + d has 8, 4, 2 and 1 in it.
 const BY_8: u16 = 0x0F0F;
@@ -19,25 +19,12 @@ const BY_2: u16 = 0x5555;
 
 const BY_1: u16 = 0x00FF;
 
-// A row of a block.
-fn row(b: &[u16; 16], i: BitRow) -> u16
-    requires { i.0 < 16 }
-    ensures { result ≡ get_or b.now i.0 0 }
-{
-    let i = i.0;
-    b[i]
-}
-
 // Each row turned left by n times its number.
 fn turn_rows(b: [u16; 16], n: usize) -> [u16; 16]
     requires { n < 16 }
     ensures { result ≡ block (turned_bit n b) }
 {
-    let mut out = [0u16; 16];
-    for i in 0..16 {
-        out[i] = turn(row(&b, BitRow(i)), n * i % 16);
-    }
-    out
+    array::from_fn(|i| turn(b[i], n * i % 16))
 }
 
 // Each column of m moved up by n rows, the first coming after the last.
@@ -45,11 +32,7 @@ fn move_columns(b: [u16; 16], n: usize, m: u16) -> [u16; 16]
     requires { n < 16 }
     ensures { result ≡ block (moved_bit n m b) }
 {
-    let mut out = [0u16; 16];
-    for i in 0..16 {
-        out[i] = choose(m, row(&b, BitRow((i + n) % 16)), row(&b, BitRow(i)));
-    }
-    out
+    array::from_fn(|i| choose(m, b[(i + n) % 16], b[i]))
 }
 
 // The reordered block, by columns: down by 8, 4, 2 and 1 is up by 8, 12, 14 and 15.

@@ -1,8 +1,7 @@
--- The invariants of the loops that make block rows: words of a block into a block row, block after block.
--- Of each: none / more / done.
+-- The invariant of the loops that make block rows block after block: none / more / done.
 -- Assumes nothing.
-use Rattle.std.specs.Prelude.{◌≡◌, refl, List, ◌≢◌, ℕ, ◌+◌, ◌*◌, ◌/◌, ◌%◌, ◌<◌, ◌≤◌, length, get_or, set}
-use Rattle.std.proofs.Common.{sym, ap, ◌∙◌, arith, eq-eqb, ne_eqb, length-set, get_or-set_same, get_or-set_other}
+use Rattle.std.specs.Prelude.{◌≡◌, List, ℕ, ◌+◌, ◌*◌, ◌/◌, ◌%◌, ◌<◌, ◌≤◌, length, get_or}
+use Rattle.std.proofs.Common.{sym, ap, ◌∙◌, arith, eq-eqb, ne_eqb}
 use Rattle.std.proofs.Math.Decide.{ℕ_discrete}
 use Rattle.bits.specs.ListLaws.{length_tabulate, get_d_tabulate, is_tabulate, tabulate_ext}
 use Rattle.bits.specs.Bits.{bit_of, from_bits}
@@ -10,48 +9,6 @@ use Rattle.bits.proofs.BitLaws.{bit_of_from_bits, from_bits_ext}
 use Rattle.blocks.specs.Block.{bit_at, row_word, block}
 use Rattle.blocks.specs.Moves.{turned}
 use Rattle.blocks.specs.SideBySide.{laid_word, laid, laid_at, laid_in, words_block}
-
--- ---- the words of block C
-
--- Of block C's words the first i are in the block row; its other words are as they were.
-pub record Laying (from : List ℕ) (C : ℕ) (b : List ℕ) (i : ℕ) (row : List ℕ) : Type 0 where
-  pub upto : i ≤ 16
-  pub long : length row ≡ 128
-  pub new : (x : ℕ) → x < 128 → x % 8 ≡ C → x / 8 < i → get_or row x 0 ≡ get_or b (x / 8) 0
-  pub old : (x : ℕ) → x < 128 → (x % 8 ≡ C → ⊥) → get_or row x 0 ≡ get_or from x 0
-
-pub laying_none : (from : List ℕ) (C : ℕ) (b : List ℕ) → length from ≡ 128 → Laying from C b 0 from
-laying_none from C b e = record { upto = omega arith; long = e; new = λ x l p q. absurd (omega arith); old = λ x l p. refl }
-
-pub laying_more : {from : List ℕ} {C : ℕ} {b : List ℕ} {i : ℕ} {row : List ℕ} (v : ℕ) → Laying from C b i row → i < 16 → C < 8
-    → v ≡ get_or b i 0
-    → Laying from C b (i + 1) (set row (8 * i + C) v)
-laying_more {from} {C} {b} {i} {row} v h l lC e =
-    record {
-      upto = omega arith;
-      long = length-set row (8 * i + C) v ∙ h.long;
-      new = λ x lx p q. put x lx p q (ℕ_discrete x (8 * i + C));
-      old = λ x lx p. let ne : x ≢ 8 * i + C = (λ s. p (omega arith)) in get_or-set_other row (8 * i + C) x v 0 ne ∙ h.old x lx p;
-    }
-  where
-    put : (x : ℕ) → x < 128 → x % 8 ≡ C → x / 8 < i + 1 → Dec (x ≡ 8 * i + C) → get_or (set row (8 * i + C) v) x 0 ≡ get_or b (x / 8) 0
-    put x lx p q (yes s) =
-        let d : x / 8 ≡ i = omega arith in
-        ap (λ y. get_or (set row (8 * i + C) v) y 0) s
-        ∙ get_or-set_same row (8 * i + C) v 0 (omega (arith, h.long)) ∙ e ∙ ap (λ y. get_or b y 0) (sym d)
-    put x lx p q (no s) =
-        let d : x / 8 < i = omega arith in
-        get_or-set_other row (8 * i + C) x v 0 s ∙ h.new x lx p d
-
-pub laying_done : {from : List ℕ} {C : ℕ} {b : List ℕ} {i : ℕ} {row : List ℕ} → Laying from C b i row → 16 ≤ i → row ≡ laid_in from C b
-unfolding laid_in laid_at
-laying_done {from} {C} {b} {i} {row} h l = is_tabulate 0 row 128 (laid_at from C b) h.long (λ x lx. here x lx (ℕ_discrete (x % 8) C))
-  where
-    here : (x : ℕ) → x < 128 → Dec (x % 8 ≡ C) → get_or row x 0 ≡ laid_at from C b x
-    here x lx (yes p) = h.new x lx p (omega arith) ∙ simp (eq-eqb (x % 8) C p)
-    here x lx (no p) = h.old x lx p ∙ simp (ne_eqb (x % 8) C p)
-
-pub ruleset lay = (laying_none, laying_more, laying_done)
 
 -- ---- the blocks of a block row
 

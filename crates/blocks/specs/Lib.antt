@@ -8,3 +8,4 @@ pub mod SideBySide
 pub mod Laying
 pub mod Twos
 pub mod LaidBy
+pub mod PutLane

@@ -1,10 +1,11 @@
 -- Laws of blocks by whole rows: what the word operations give, and moves one after the other.
 -- Assumes nothing.
 use Rattle.std.specs.Prelude.{◌≡◌, refl, List, ℕ, zero, suc, ◌+◌, ◌-◌, ◌*◌, ◌/◌, ◌%◌, ◌^◌, ◌<◌, T, eqb, get_or}
-use Rattle.std.proofs.Common.{sym, ◌∙◌, add-mul, mul_assoc, shr-shr, pow-add, shl_lt}
+use Rattle.std.proofs.Common.{sym, ◌∙◌, add-mul, div-one, mul-one, mul_assoc, pow-add, shl_lt}
 use Rattle.std.proofs.Math.Path.{ap, ap₂}
 use native.Mathlib.Omega.{arith}
-use Rattle.std.specs.Int.Bits.{bit_and, bit_or, bit_xor, and_zero_r, and_lt, xor_zero_r}
+use Rattle.std.specs.Int.Bits.{bit_and, bit_or, bit_xor, and_zero_r, and_lt, or_self, xor_zero_r}
+use Rattle.std.specs.Int.{w16, rotate_left}
 use Rattle.std.proofs.lemmas.Nat.{and_shr, and_mod, xor_shr, xor_mod, xor_lt, or_shifted}
 use Rattle.std.proofs.Math.Pow.{high, low}
 use Rattle.bits.specs.Bits.{bit_of, from_bits}
@@ -97,10 +98,19 @@ module _ (x n rest : ℕ) (lx : x < 2 ^ 16) (is : n + rest ≡ 16) where
   turn_parts : bit_or (x * 2 ^ n % 2 ^ 16) (x / 2 ^ rest) ≡ turned x n
   turn_parts = ap₂ bit_or turn_back turn_front ∙ or_shifted back n front (from_bits_lt n (bit_of 16 x)) ∙ sym turn_whole
 
-pub turn_is : (x n : ℕ) → x < 2 ^ 16 → n < 16 → bit_or (x * 2 ^ n % 2 ^ 16) (x / 2 ^ 1 / 2 ^ (15 - n)) ≡ turned x n
-turn_is x n lx ln =
-    ap (bit_or (x * 2 ^ n % 2 ^ 16)) (shr-shr x 1 (15 - n) ∙ ap (λ k. x / 2 ^ k) (omega arith))
-    ∙ turn_parts x n (16 - n) lx (omega arith)
+turned_none : (x : ℕ) → x < 2 ^ 16 → turned x 0 ≡ x
+unfolding turned
+turned_none x lx =
+    from_bits_ext 16 (λ c. bit_of 16 x ((c + 0) % 16)) (bit_of 16 x) (λ c l. ap (λ k. bit_of 16 x k % 2) (omega arith)) ∙ from_bits_bit_of 16 x lx
+
+pub turn_is : (x n : ℕ) → x < 2 ^ 16 → n < 16 → rotate_left w16 x n ≡ turned x n
+turn_is x zero lx ln =
+    let whole : x % 65536 ≡ x = omega arith in
+    rw (mul-one x, whole, div-one x, or_self x) (sym (turned_none x lx))
+turn_is x (suc n) lx ln =
+    let m : suc n % 16 ≡ suc n = omega arith in
+    let r : (16 - suc n) % 16 ≡ 16 - suc n = omega arith in
+    rw (m, r) (turn_parts x (suc n) (16 - suc n) lx (omega arith))
 
 pub turned_bit : (x n c : ℕ) → c < 16 → bit_of 16 (turned x n) c ≡ bit_of 16 x ((c + n) % 16)
 unfolding turned

@@ -18,7 +18,8 @@ ghost use Rattle.capi.specs.Exports.{exported, in_numbers};
 use calls::Answer;
 use profile::Profile;
 
-// What an exported call answers: the refusal's number or 0, the call's own number, and the index of refusal 5.
+// What an exported call answers: the refusal's number or 0, the call's own number, and the index of refusal 5. C has no `Result`, so that
+// this and `Line` are numbers side by side, as include/ofec.h declares them.
 #[repr(C)]
 #[derive(Clone, Copy)]
 pub struct Outcome {
@@ -131,6 +132,8 @@ pub fn ofec_unframe(number: u32, frame: &[u8], overhead: &[u8], payload: &mut [u
         0,
     )
 }
+
+// The same four for QPSK. They differ from the others in the profile alone: the C interface has a name for each.
 
 // Maps a buffer's bits to the cells of QPSK.
 pub fn ofec_bits_to_cells_qpsk(bits: &[u8], cells: &mut [u8]) -> Outcome

@@ -1,5 +1,6 @@
 // The exports: each function of `capi` under the same name for C and Rust, buffers as pointer and length, with the same contract. See
-// include/ofec.h. The library is built from this crate, since a crate that C links is used by no other.
+// include/ofec.h. The library is built from this crate, since a crate that C links is used by no other. The functions of the two profiles
+// differ in the profile alone: the C interface has a name for each.
 #![tactic(auto)]
 
 ghost use Rattle.std.specs.Prelude.{◌≡◌};

@@ -1,13 +1,12 @@
 -- A row of halves with the check bits put in is the row of the completions.
 -- Assumes nothing.
-use Rattle.std.specs.Prelude.{◌≡◌, refl, cond, List, ◌≢◌, ℕ, ◌+◌, ◌-◌, ◌*◌, ◌/◌, ◌%◌, ◌^◌, ◌<◌, ◌≤◌, ltb, eqb, length, set}
+use Rattle.std.specs.Prelude.{◌≡◌, cond, List, ◌≢◌, ℕ, ◌+◌, ◌-◌, ◌*◌, ◌/◌, ◌%◌, ◌^◌, ◌<◌, ◌≤◌, ltb, eqb}
 use Rattle.std.proofs.Math.Path.{sym, ap, ap₂}
-use Rattle.std.proofs.Common.{◌∙◌, mod-lt, zero-lt-suc, arith, lt-ltb, le-ltb, eq-eqb, ne_eqb, shr-shr, get_or-set_same, get_or-set_other}
+use Rattle.std.proofs.Common.{◌∙◌, arith, eq-eqb, ne_eqb, shr-shr, get_or-set_same, get_or-set_other}
 use Rattle.std.proofs.Math.Decide.{dec_lt, ℕ_discrete}
 use Rattle.std.proofs.Math.ListN.{get_or}
-use Rattle.bits.specs.Bits.{bit_of, from_bits}
+use Rattle.bits.specs.Bits.{bit_of}
 use Rattle.bits.proofs.BitLaws.{bit_of_lt, bit_of_equal, from_bits_lt, bit_of_from_bits}
-use Rattle.bits.specs.Lists.{tabulate}
 use Rattle.bits.specs.ListLaws.{length_tabulate, get_d_tabulate, tabulate_ext}
 use Rattle.bits.proofs.TestLaws.{either}
 use Rattle.bits.specs.Tests.{grid}

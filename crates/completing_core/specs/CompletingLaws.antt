@@ -1,31 +1,21 @@
 -- Laws of the words with their check bits: as code makes them, and that they are the completions.
 -- Assumes nothing.
-use Rattle.std.specs.Prelude.{◌≡◌, refl, cond, List, ◌≢◌, ℕ, zero, suc, ◌+◌, ◌-◌, ◌*◌, ◌/◌, ◌%◌, ◌^◌, ◌<◌, ◌≤◌, ltb, length, set, replicate}
-use Rattle.std.proofs.Common.{sym, ap₂, ◌∙◌, zero-mul, arith, below_more, lt-ltb, le-ltb, length-set, get_or-set_same, get_or-set_other}
+use Rattle.std.specs.Prelude.{◌≡◌, refl, List, ℕ, ◌+◌, ◌-◌, ◌<◌, set, replicate}
+use Rattle.std.proofs.Common.{sym, ◌∙◌, arith, lt-ltb, le-ltb}
 use Rattle.std.proofs.Math.Path.{ap}
-use Rattle.std.proofs.Math.Decide.{dec_lt, ℕ_discrete}
 use borrow.Rule.Slice.PartMut.{put_mid}
 use Rattle.std.specs.Int.Bits.{bit_xor}
 use Rattle.std.proofs.Math.ListN.{get_or}
 use Rattle.std.proofs.lemmas.List.{get_or-replicate}
 use Rattle.bits.specs.Filling.{Filling, fill_part, fill_done}
 use Rattle.bits.specs.Lists.{tabulate}
-use Rattle.bits.specs.ListLaws.{is_tabulate, tabulate_ext}
+use Rattle.bits.specs.ListLaws.{tabulate_ext}
 use Rattle.bits.specs.Xor.{◌⊕◌, xor_sum}
 use Rattle.networks_spec.specs.Networks.{network, check_columns}
 use Rattle.permutation_core.specs.Stages.{two_transposed}
-use Rattle.riffle_core.specs.Riffles.{by_words}
 use Rattle.completing_core.specs.Completing.{half_of, check_numbers, own_number, last_number, check_number, check_row}
 
 -- ---- as code makes them
-
-pub own_made : (own r : ℕ) → own / 2 ^ (15 - r) % 2 * 256 ≡ own_number own r
-unfolding own_number
-own_made own r = refl
-
-pub last_made : (last : List ℕ) (s r x v : ℕ) → v ≡ half_of s x → x ≡ get_or last r 0 → v ≡ last_number last s r
-unfolding last_number
-last_made last s r x v e p = e ∙ ap (half_of s) p
 
 pub number_none : (last : List ℕ) (own s n : ℕ) → n < 96 → check_number last own s n ≡ 0
 unfolding check_number
@@ -46,9 +36,6 @@ number_last last own s r =
 pub check_none : (last : List ℕ) (own s : ℕ) → Filling (check_number last own s) 128 96 (replicate 128 0)
 check_none last own s =
     record { upto = omega arith; long = refl; done = λ z k l. get_or-replicate 128 k 0 z (omega arith) ∙ sym (number_none last own s k l) }
-
-pub check_long : {f : ℕ → ℕ} {d : List ℕ} → Filling f 128 96 d → length d ≡ 128
-check_long h = h.long
 
 pub check_row_lem : (last : List ℕ) (own s x : ℕ) (d ys zs : List ℕ) → Filling (check_number last own s) 128 96 d → x ≡ half_of s own
     → ys ≡ tabulate 16 (own_number x) → zs ≡ tabulate 16 (last_number last s) → put_mid 112 16 (put_mid 96 16 d ys) zs ≡ check_row last own s
@@ -71,9 +58,3 @@ module _ (sums b : List ℕ) (e : b ≡ network check_columns sums) where
 
   pub own_first : get_or b 7 0 ≡ get_or (network check_columns sums) 7 0
   own_first = ap (λ u. get_or u 7 0) e
-
--- By words.
-pub checks_made : (last : List ℕ) (own s : ℕ) (r c : List ℕ) → r ≡ by_words c → c ≡ check_row last own s → r ≡ by_words (check_row last own s)
-checks_made last own s r c e p = e ∙ ap by_words p
-
-pub ruleset completing = (own_made, last_made, check_none, check_long, check_row_lem, numbers_made, own_first, checks_made)

@@ -4,7 +4,7 @@ use Rattle.std.specs.Prelude.{◌≡◌, List, ℕ, ◌+◌, ◌-◌, ◌*◌, �
 use Rattle.std.proofs.Math.Path.{refl, ap}
 use Rattle.std.proofs.Common.{sym, ◌∙◌}
 use native.Mathlib.Omega.{arith}
-use Rattle.bits.specs.Bits.{bit_of, byte_of, from_bits, pack}
+use Rattle.bits.specs.Bits.{bit_of, byte_of, pack}
 use Rattle.bits.proofs.BitLaws.{bit_of_lt, bit_of_from_bits, from_bits_ext}
 use Rattle.bits.specs.Lists.{tabulate}
 use Rattle.bits.specs.ListLaws.{get_d_tabulate, tabulate_ext}

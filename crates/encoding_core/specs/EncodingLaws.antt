@@ -21,7 +21,7 @@ use Rattle.gathering_spec.proofs.Dirty.{gathered_same, parities_same}
 use Rattle.gathering_core.specs.Lanes.{Levelled}
 use Rattle.permutation_core.specs.Stages.{two_transposed}
 use Rattle.riffle_core.specs.Riffles.{by_words}
-use Rattle.pair_spec.specs.History.{depth, shift}
+use Rattle.pair_spec.specs.History.{depth}
 use Rattle.pair_spec.specs.Encoding.{open_word, encoded_word, encoded}
 use Rattle.pair_spec.proofs.EncodingLaws.{open_bits}
 use Rattle.pair_spec.specs.Calls.{encode_buffers, encode_pair}
@@ -147,5 +147,3 @@ encoded_made h P y halves last q d p own size eh c m eq ep =
     encode_written h y q (put_mid 4608 512 d p) P
     (pair_bytes (encoded_word depth h P y) (encoded_bits depth h P y) (completed_halves last own halves) (halves_encoded h P y halves eh last own c) q eq)
     (shift_is h d q p 4608 512 m (omega (arith, size)) refl ep)
-
-pub ruleset encoding = (words_checked, block_with, parts_moved, encoded_made)

@@ -109,8 +109,8 @@ impl Name {
         Some(())
     }
 
-    // Puts the name that a link's text gives in the place of the link's name. Where it does not fit, all bytes are the name's, which is then no
-    // file's.
+    // Puts the name that a link's text gives in the place of the link's name. Where it does not fit, the name fills the buffer, as that of no
+    // file does.
     fn lead(&mut self, text: &[u8]) {
         self.length = start(text, self.as_bytes());
         if self.push(text).is_none() {

@@ -3,6 +3,8 @@
 // Over `report`, `filestatus` and `filenames`, below the programs.
 #![tactic(auto)]
 
+ghost use Rattle.std.specs.Prelude.{◌^◌, ◌<◌};
+
 mod making;
 pub mod message;
 mod naming;
@@ -11,10 +13,11 @@ mod reading;
 
 pub use filenames::Name;
 pub use filestatus::{is_regular, same};
-pub use making::{Made, close, create, discard, finish, leads_to, remove, take_name};
+pub use making::{close, create, discard, finish, leads_to, remove, take_name};
 pub use message::Said;
 pub use naming::target;
 pub use places::collide;
+use profile::Profile;
 pub use reading::{Input, open};
 use std::env::FillError;
 use std::os::fd::AsRawFd;
@@ -23,17 +26,26 @@ use std::{array, fs};
 
 // Whether the program was started with so many arguments, its own name not counted.
 pub fn has_argument<R: Env>(rt: &R, argument: usize) -> bool {
-    let mut start = [0u8; 1];
-    match rt.arg(argument, &mut start) {
-        Ok(_) => true,
-        Err(FillError::TooLong) => true,
-        Err(FillError::NotPresent) => false,
-    }
+    !matches!(rt.arg(argument, &mut [0]), Err(FillError::NotPresent))
 }
 
 // Whether an argument is this word.
 pub fn is_word<R: Env>(rt: &R, argument: usize, word: &str) -> bool {
     Name::of_argument(rt, argument).is_some_and(|name| name.as_bytes() == word.as_bytes())
+}
+
+// The profile that the arguments name, where there are as many as there must be: 16-QAM, or where there is one more, `qpsk`, at this place,
+// that.
+pub fn profile_at<R: Env>(rt: &R, argument: usize) -> Option<Profile>
+    requires { (0 < argument) × (argument < 2 ^ 32) }
+{
+    if !has_argument(rt, argument) {
+        return has_argument(rt, argument - 1).then_some(Profile::Qam16);
+    }
+    if has_argument(rt, argument + 1) {
+        return None;
+    }
+    is_word(rt, argument, "qpsk").then_some(Profile::Qpsk)
 }
 
 // The standard descriptors that were closed, taken up as long as this lasts.

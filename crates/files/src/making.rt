@@ -24,13 +24,6 @@ const TRIES: usize = 238328;
 // The system's number for what no path has, as one that is too long.
 const INVALID: i32 = 22;
 
-// An open file, and the path at which it is made.
-#[derive(Drop)]
-pub struct Made<F> {
-    pub file: F,
-    pub path: Name,
-}
-
 // Whether the name leads to the open file.
 pub fn leads_to<R: Files>(rt: &R, name: &[u8], file: &R::File) -> bool {
     open_update(rt, name).is_ok_and(|old| same(&old, file))
@@ -50,15 +43,22 @@ fn create_free<R: Files>(rt: &R, path: &[u8]) -> io::Result<R::File> {
     options.open(rt, path_of(path)?)
 }
 
-// Makes a new file at a path beside this name.
-fn create_beside<R: Files + RandomSource>(rt: &R, name: &Name) -> io::Result<Made<R::File>> {
+// Makes a new file at a path beside this name, and puts the path where it is lent. Where it fails, what is lent stays as it was.
+fn create_beside<R: Files + RandomSource>(
+    rt: &R,
+    name: &Name,
+    path: &mut Name,
+) -> io::Result<R::File> {
     for _ in 0..TRIES {
         let letters = draw(rt)?;
-        let Some(path) = name.beside(&letters) else {
+        let Some(beside) = name.beside(&letters) else {
             return Err(io::Error::from_raw_os_error(INVALID));
         };
-        match create_free(rt, path.as_bytes()) {
-            Ok(file) => return Ok(Made { file, path }),
+        match create_free(rt, beside.as_bytes()) {
+            Ok(file) => {
+                *path = beside;
+                return Ok(file);
+            }
             Err(error) if error.kind() == ErrorKind::AlreadyExists => {}
             Err(error) => return Err(error),
         }
@@ -66,12 +66,13 @@ fn create_beside<R: Files + RandomSource>(rt: &R, name: &Name) -> io::Result<Mad
     Err(io::Error::from_raw_os_error(EXISTS))
 }
 
-// Makes a new file for this name; or says why it cannot.
+// The same; or says why it cannot.
 fn create_new<R: Files + RandomSource + Eprint>(
     rt: &R,
     name: &Name,
-) -> Result<Made<R::File>, Said> {
-    create_beside(rt, name).map_err(|error| message::fail(rt, name.as_bytes(), error))
+    path: &mut Name,
+) -> Result<R::File, Said> {
+    create_beside(rt, name, path).map_err(|error| message::fail(rt, name.as_bytes(), error))
 }
 
 // The same with the mode of the file that has the name, which is open; a pipe or a device is not replaced. One of which the system does not
@@ -80,24 +81,28 @@ fn create_like<R: Files + RandomSource + Eprint>(
     rt: &R,
     old: &R::File,
     name: &Name,
-) -> Result<Made<R::File>, Said> {
+    path: &mut Name,
+) -> Result<R::File, Said> {
     if !is_regular(old) {
         return Err(message::of(rt, name.as_bytes(), "not a regular file"));
     }
-    let made = create_new(rt, name)?;
+    let file = create_new(rt, name, path)?;
     let mode = mode(old).unwrap_or(0);
-    let _ = made.file.set_permissions(Permissions::from_mode(mode));
-    Ok(made)
+    let _ = file.set_permissions(Permissions::from_mode(mode));
+    Ok(file)
 }
 
-// Makes a new file for this name; or says why it cannot. The name is free, or a regular file has it that can be written.
+// Makes a new file for this name, and puts the path at which it lies where that is lent; or says why it cannot, and what is lent stays as it
+// was. The name is free, or a regular file has it that can be written. It is not inlined, so that its names are off the stack afterwards.
+#[inline(never)]
 pub fn create<R: Files + RandomSource + Eprint>(
     rt: &R,
     name: &Name,
-) -> Result<Made<R::File>, Said> {
+    path: &mut Name,
+) -> Result<R::File, Said> {
     match open_update(rt, name.as_bytes()) {
-        Ok(old) => create_like(rt, &old, name),
-        Err(error) if error.kind() == ErrorKind::NotFound => create_new(rt, name),
+        Ok(old) => create_like(rt, &old, name, path),
+        Err(error) if error.kind() == ErrorKind::NotFound => create_new(rt, name, path),
         Err(error) => Err(message::fail(rt, name.as_bytes(), error)),
     }
 }
@@ -141,19 +146,22 @@ pub fn take_name<R: Files + Eprint>(rt: &R, path: &Name, name: &Name) -> Result<
     Ok(())
 }
 
-// Closes the file, which is whole, and gives it its name; or says why not, and removes it.
-pub fn finish<R: Files + Eprint>(rt: &R, made: Made<R::File>, name: &Name) -> Result<(), Said> {
-    let Made { file, path } = made;
+// Closes the file at path, which is whole, and gives it its name; or says why not, and removes it.
+pub fn finish<R: Files + Eprint>(
+    rt: &R,
+    file: R::File,
+    path: &Name,
+    name: &Name,
+) -> Result<(), Said> {
     if let Err(said) = close(rt, file, name.as_bytes()) {
-        remove(rt, &path);
+        remove(rt, path);
         return Err(said);
     }
-    take_name(rt, &path, name)
+    take_name(rt, path, name)
 }
 
-// Closes the file, which is not whole, and removes it.
-pub fn discard<R: Files>(rt: &R, made: Made<R::File>) {
-    let Made { file, path } = made;
+// Closes the file at path, which is not whole, and removes it.
+pub fn discard<R: Files>(rt: &R, file: R::File, path: &Name) {
     drop(file);
-    remove(rt, &path);
+    remove(rt, path);
 }

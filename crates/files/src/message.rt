@@ -30,7 +30,9 @@ pub fn fail<R: Eprint>(rt: &R, name: &[u8], error: io::Error) -> Said {
     Said(())
 }
 
-// Begins a line with the name that an argument gives, or with the argument's number where it gives none.
+// Begins a line with the name that an argument gives, or with the argument's number where it gives none. It is not inlined, so that the name
+// is off the stack of what calls it.
+#[inline(never)]
 pub fn begin<R: Env + Eprint>(rt: &R, argument: usize) {
     match Name::of_argument(rt, argument) {
         Some(name) if !name.as_bytes().is_empty() => report::words(rt, name.as_bytes()),

@@ -51,8 +51,8 @@ fn follow<R: Files + Alloc>(rt: &R, name: &mut Name) -> io::Result<bool> {
     Ok(is_link)
 }
 
-// The name of the file that an argument names for writing: its own, or where it is a symbolic link, the name of the file that it leads to; or
-// says why it names none.
+// The name of the file that an argument names for writing: its own, or where it is a symbolic link, the name of the file that it leads to;
+// or says why it names none.
 pub fn target<R: Files + Alloc + Env + Eprint>(rt: &R, argument: usize) -> Result<Name, Said> {
     let mut name = name_of(rt, argument)?;
     match follow(rt, &mut name) {

@@ -11,13 +11,11 @@ fn cell_differs(a: &[u8], i: usize, b: &[u8], k: usize) -> u32
     requires { (i * 2 + 1 < length a.now) × (k * 2 + 1 < length b.now) }
     ensures { result ≡ cell_differs a.now i b.now k }
 {
-    if a[i * 2] != b[k * 2] {
-        return 1;
+    if a[i * 2] == b[k * 2] && a[i * 2 + 1] == b[k * 2 + 1] {
+        0
+    } else {
+        1
     }
-    if a[i * 2 + 1] != b[k * 2 + 1] {
-        return 1;
-    }
-    0
 }
 
 // How many of the cells below the edge differ.
@@ -25,10 +23,9 @@ fn differing_below(number: u32, frame: &[u8], own: &[u8]) -> u32
     requires { (length frame.now ≡ 7424) × (length own.now ≡ overhead_cells number * 2) }
     ensures { result ≡ count (edge number) (overhead_differs number frame.now own.now) }
 {
-    let e = edge(number);
-    let mut n: u32 = 0;
-    for m in 0..e {
-        n = n + cell_differs(frame, m, own, m);
+    let mut n = 0;
+    for m in 0..edge(number) {
+        n += cell_differs(frame, m, own, m);
     }
     n
 }
@@ -39,10 +36,9 @@ pub fn differing(number: u32, frame: &[u8], own: &[u8]) -> u32
     ensures { result ≡ differing number frame.now own.now }
 {
     let g = gap(number);
-    let w = first_whole(number);
     let mut n = differing_below(number, frame, own);
-    for i in w..116 {
-        n = n + cell_differs(frame, i * 32, own, i + g);
+    for i in first_whole(number)..116 {
+        n += cell_differs(frame, i * 32, own, i + g);
     }
     n
 }

@@ -13,49 +13,38 @@ pub fn edge(number: u32) -> usize
     ensures { (result ≡ edge number) × (result ≤ overhead_cells number) × (result ≤ 110) }
 {
     if number == 0 {
-        return FIRST_OVERHEAD;
+        FIRST_OVERHEAD
+    } else {
+        TRAINING
     }
-    TRAINING
 }
 
 // How many of the cells below the edge are no pilots: of 110 all but 4, of 11 all but 1. The pilots of a sub-frame are 3712 / 32 = 116.
 pub fn gap(number: u32) -> usize
     ensures { (result ≡ gap number) × (result + 116 ≡ overhead_cells number) × (result + 116 + payload_cells number ≡ 3712) }
 {
-    if number == 0 {
-        return 106;
-    }
-    10
+    if number == 0 { 106 } else { 10 }
 }
 
 // The first of its groups of 32 cells that stands past the edge.
 pub fn first_whole(number: u32) -> usize
     ensures { (result + gap number ≡ edge number) × (edge number ≤ result * 32) × (result ≤ 4) }
 {
-    if number == 0 {
-        return 4;
-    }
-    1
+    if number == 0 { 4 } else { 1 }
 }
 
 // The overhead cells of a sub-frame.
 fn overhead_cells(number: u32) -> usize
     ensures { result ≡ overhead_cells number }
 {
-    if number == 0 {
-        return 222;
-    }
-    126
+    if number == 0 { 222 } else { 126 }
 }
 
 // The payload cells of a sub-frame.
 pub fn payload_cells(number: u32) -> usize
     ensures { (result ≡ payload_cells number) × (result < 3712) }
 {
-    if number == 0 {
-        return 3490;
-    }
-    3586
+    if number == 0 { 3490 } else { 3586 }
 }
 
 // The overhead cells of the sub-frames before this one: sub-frame 0 has 222, and each other 126, which is 96 fewer.
@@ -64,9 +53,10 @@ pub fn overhead_start(number: u32) -> usize
     ensures { (result ≡ overhead_start number) × (result + overhead_cells number ≤ 6144) }
 {
     if number == 0 {
-        return 0;
+        0
+    } else {
+        number as usize * 126 + 96
     }
-    number as usize * 126 + 96
 }
 
 // The sub-frame's own part of the overhead list.

@@ -12,38 +12,7 @@ fn copy(from: &[u8], at: usize, n: usize, to: &mut [u8])
     requires { (at + n ≤ length from.now) × (length to.old ≡ n) }
     ensures { to.new ≡ tabulate n (λ k. get_or from.now (at + k) 0) }
 {
-    for k in 0..n {
-        to[k] = from[at + k];
-    }
-}
-
-// A run of 31 cells, from a byte on.
-fn run_of(from: &[u8], at: usize) -> [u8; 62]
-    requires { at + 62 ≤ length from.now }
-    ensures { result ≡ tabulate 62 (λ k. get_or from.now (at + k) 0) }
-{
-    let mut run = [0u8; 62];
-    for k in 0..62 {
-        run[k] = from[at + k];
-    }
-    run
-}
-
-fn put_run(run: [u8; 62], to: &mut [u8])
-    requires { length to.old ≡ 62 }
-    ensures { to.new ≡ tabulate 62 (λ k. get_or run k 0) }
-{
-    for k in 0..62 {
-        to[k] = run[k];
-    }
-}
-
-// Copies a run; by way of an array, since the compiler cannot know that the two buffers are apart.
-fn copy_run(from: &[u8], at: usize, to: &mut [u8])
-    requires { (at + 62 ≤ length from.now) × (length to.old ≡ 62) }
-    ensures { to.new ≡ tabulate 62 (λ k. get_or from.now (at + k) 0) }
-{
-    put_run(run_of(from, at), to);
+    to.copy_from_slice(&from[at..at + n]);
 }
 
 // Places what stands before the first whole group, overhead up to the edge and payload from there on, and gives that group.
@@ -59,27 +28,6 @@ fn place_rest(number: u32, payload: &[u8], own: &[u8], frame: &mut [u8]) -> usiz
     w
 }
 
-// 64 bytes, from a byte on.
-fn group_of(from: &[u8], at: usize) -> [u8; 64]
-    requires { at + 64 ≤ length from.now }
-    ensures { result ≡ tabulate 64 (λ k. get_or from.now (at + k) 0) }
-{
-    let mut group = [0u8; 64];
-    for k in 0..64 {
-        group[k] = from[at + k];
-    }
-    group
-}
-
-fn put_group(group: [u8; 64], to: &mut [u8])
-    requires { length to.old ≡ 64 }
-    ensures { to.new ≡ tabulate 64 (λ k. get_or group k 0) }
-{
-    for k in 0..64 {
-        to[k] = group[k];
-    }
-}
-
 // Group i past the edge: a run of 31 payload cells with the cell before it, which is whole vectors, and a pilot in that cell's place.
 fn place_group(number: u32, payload: &[u8], own: &[u8], i: usize, group: &mut [u8])
     requires { (length payload.now ≡ payload_cells number * 2) × (length own.now ≡ overhead_cells number * 2) × (i < 116) × (edge number ≤ i * 32) × (length group.old ≡ 64) }
@@ -87,7 +35,7 @@ fn place_group(number: u32, payload: &[u8], own: &[u8], i: usize, group: &mut [u
 {
     let g = gap(number);
     let pilot = (i + g) * 2;
-    put_group(group_of(payload, i * 62 - (g + 1) * 2), group);
+    copy(payload, i * 62 - (g + 1) * 2, 64, group);
     group[0] = own[pilot];
     group[1] = own[pilot + 1];
 }
@@ -127,6 +75,6 @@ pub fn extract(number: u32, frame: &[u8], payload: &mut [u8])
     for i in w..116 {
         let a = i * 62 - g * 2;
         let e = a + 62;
-        copy_run(frame, i * 64 + 2, &mut payload[a..e]);
+        copy(frame, i * 64 + 2, 62, &mut payload[a..e]);
     }
 }

@@ -1,8 +1,8 @@
 -- Laws for the workers that go by runs: a sub-frame is 116 groups of a pilot and 31 other cells, and past the edge those carry payload.
 -- Assumes nothing.
-use Rattle.std.specs.Prelude.{◌≡◌, List, ◌≢◌, length, set}
+use Rattle.std.specs.Prelude.{◌≡◌, List, ◌≢◌, length, set, take, drop}
 use Rattle.std.proofs.Math.Path.{refl, ap, ap₂}
-use Rattle.std.proofs.Common.{sym, ◌∙◌, length-set, get_or-set_same, get_or-set_other}
+use Rattle.std.proofs.Common.{sym, ◌∙◌, length-take, length-drop, get_or-take, get_or-drop, length-set, get_or-set_same, get_or-set_other}
 use Prim.Native.Nat.{ℕ, zero, suc, ◌+◌, ◌-◌, ◌*◌, ◌/◌, ◌%◌, ◌<◌, ◌≤◌}
 use native.Mathlib.Omega.{arith}
 use borrow.Rule.Slice.PartMut.{put_mid}
@@ -16,9 +16,11 @@ use Rattle.frame_spec.proofs.LayoutLaws.{First, zeroth, other, which, edge_le, c
 use Rattle.frame_spec.proofs.ByteLaws.{byte_low, byte_pilot, byte_rest, payload_read}
 use Rattle.frame_spec.specs.RunLaws.{group_at, Groups, Runs}
 
--- What was copied number by number is what was there.
-pub copied : (n : ℕ) (f : ℕ → ℕ) (t d : List ℕ) → d ≡ tabulate n (λ k. get_or t k 0) → t ≡ tabulate n f → d ≡ tabulate n f
-copied n f t d e p = e ∙ tabulate_ext n (λ k. get_or t k 0) f (λ k l. ap (λ z. get_or z k 0) p ∙ get_d_tabulate n f k 0 l)
+-- What was copied is what stands there, number by number.
+pub copied : (from : List ℕ) (at n : ℕ) → at + n ≤ length from → take n (drop at from) ≡ tabulate n (λ k. get_or from (at + k) 0)
+copied from at n l =
+    is_tabulate 0 (take n (drop at from)) n (λ k. get_or from (at + k) 0) (simp (length-take, length-drop) (omega arith))
+    (λ k lk. get_or-take n (drop at from) k 0 lk ∙ get_or-drop at from k 0)
 
 -- The payload before a group past the edge.
 pub run_from : (s i g : ℕ) → g ≡ gap s → edge s ≤ i * 32 → (g + 1) * 2 ≤ i * 62
@@ -51,9 +53,9 @@ module _ (s : ℕ) (payload own : List ℕ) (i g : ℕ) (gis : g ≡ gap s) (l :
   run_inside li lp = omega (arith, run_from s i g gis l, cells_all s, overhead_cells_gap s)
 
   -- The run is put with the cell before it, and then the pilot in that cell's place.
-  pub group_put : (t d : List ℕ) → t ≡ tabulate 64 (λ k. get_or payload (i * 62 - (g + 1) * 2 + k) 0) → d ≡ tabulate 64 (λ k. get_or t k 0)
+  pub group_put : (d : List ℕ) → d ≡ tabulate 64 (λ k. get_or payload (i * 62 - (g + 1) * 2 + k) 0)
       → set (set d 0 (get_or own ((i + g) * 2) 0)) 1 (get_or own ((i + g) * 2 + 1) 0) ≡ tabulate 64 (group_at s payload own i)
-  group_put t d et ed =
+  group_put d ed =
       is_tabulate 0 (set (set d 0 u) 1 v) 64 (group_at s payload own i) (length-set (set d 0 u) 1 v ∙ length-set d 0 u ∙ long) byte
     where
       u : ℕ
@@ -63,7 +65,7 @@ module _ (s : ℕ) (payload own : List ℕ) (i g : ℕ) (gis : g ≡ gap s) (l :
       v = get_or own ((i + g) * 2 + 1) 0
 
       long : length d ≡ 64
-      long = ap length ed ∙ length_tabulate 64 (λ k. get_or t k 0)
+      long = ap length ed ∙ length_tabulate 64 (λ k. get_or payload (i * 62 - (g + 1) * 2 + k) 0)
 
       byte : (k : ℕ) → k < 64 → get_or (set (set d 0 u) 1 v) k 0 ≡ group_at s payload own i k
       byte zero lk =
@@ -72,7 +74,7 @@ module _ (s : ℕ) (payload own : List ℕ) (i g : ℕ) (gis : g ≡ gap s) (l :
       byte (suc zero) lk = get_or-set_same (set d 0 u) 1 v 0 (omega (arith, length-set d 0 u, long)) ∙ group_pilot 1 (omega arith)
       byte (suc (suc k)) lk =
           get_or-set_other (set d 0 u) 1 (suc (suc k)) v 0 (omega arith) ∙ get_or-set_other d 0 (suc (suc k)) u 0 (omega arith)
-          ∙ ap (λ z. get_or z (suc (suc k)) 0) (copied 64 (λ n. get_or payload (i * 62 - (g + 1) * 2 + n) 0) t d ed et)
+          ∙ ap (λ z. get_or z (suc (suc k)) 0) ed
           ∙ get_d_tabulate 64 (λ n. get_or payload (i * 62 - (g + 1) * 2 + n) 0) (suc (suc k)) 0 lk ∙ group_run (suc (suc k)) (omega arith) lk
 
 pub ruleset by_groups = (run_from, run_inside, group_put)

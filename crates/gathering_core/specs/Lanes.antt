@@ -1,7 +1,11 @@
 -- The lanes of eight, four and two, as code goes through them.
 -- Assumes nothing.
-use Rattle.std.specs.Prelude.{◌≡◌, List, ℕ, ◌+◌, ◌<◌}
+use Rattle.std.specs.Prelude.{◌≡◌, List, ℕ, ◌+◌, ◌*◌, ◌<◌, length, get_or}
+use Rattle.std.specs.Int.Bits.{bit_xor}
 use Rattle.std.proofs.Common.{ap, ap₂, ◌∙◌, arith}
+use Rattle.bits.specs.Lists.{tabulate}
+use Rattle.bits.specs.ListLaws.{is_tabulate}
+use Rattle.bits.specs.Xor.{◌⊕◌}
 use Rattle.blocks.specs.SideBySide.{laid_in}
 use Rattle.blocks.specs.Laying.{Laid, laid_none, laid_more, laid_fewer}
 use Rattle.networks_spec.specs.Networks.{network, lane, added, back_columns, front_columns, up64_columns, up32_columns, up16_columns}
@@ -16,6 +20,16 @@ pub record Levelled (a b s : List ℕ) : Type 0 where
 pub levelled : (a b eight four two s : List ℕ) → eight ≡ joined_rows a b → Laid (lane64 eight) 4 four → two ≡ lanes32 four → s ≡ lane16 two
     → Levelled a b s
 levelled a b eight four two s e l m q = record { four = four; of_eight = rw e at l; of_four = q ∙ ap lane16 m }
+
+-- ---- lanes and sums of lanes as generic code gives them
+
+pub lane_made : (x : List ℕ) (C : ℕ) (f : List ℕ) → ((z : ℕ) → f ≡ tabulate 16 (λ i. get_or x (8 * i + C) z)) → f ≡ lane x C
+unfolding lane
+lane_made x C f e = e 0
+
+pub added_made : (a b r : List ℕ) → length r ≡ 16 → ((z i : ℕ) → i < 16 → get_or r i z ≡ bit_xor (get_or a i z) (get_or b i z)) → r ≡ added a b
+unfolding added ◌⊕◌
+added_made a b r n e = is_tabulate 0 r 16 (λ i. get_or a i 0 ⊕ get_or b i 0) n (λ i l. e 0 i l)
 
 -- ---- a lane of sums, call by call
 
@@ -42,12 +56,10 @@ module _ (z f b s r : List ℕ) where
   unfolding lane16
   made16 = raised up16_columns f b s r
 
-pub ruleset lanes = (halves_made, made64, made32, made16)
-
--- ---- lanes laid side by side, with the bounds of the loops
+-- ---- lanes laid side by side, with the bounds of the loop
 
 pub laid_four : {f : ℕ → List ℕ} {C : ℕ} {from : List ℕ} (b row : List ℕ) → Laid f C from → C < 4 → row ≡ laid_in from C b → b ≡ f C
     → Laid f (C + 1) row
 laid_four b row h l e p = laid_more b row h (omega arith) e p
 
-pub ruleset lanes_laid = (laid_none, laid_more, laid_four, laid_fewer)
+pub ruleset lanes_laid = (laid_none, laid_four, laid_fewer)

@@ -31,6 +31,7 @@ pub fn cube(x: u8) -> u8
 }
 
 // x times y, of which neither is 0.
+#[tactic(auto, using(crate::proofs::PowerLaws::multiplying))]
 pub fn times(x: u8, y: u8) -> u8
     requires { (0 < x) × (0 < y) }
     ensures { result ≡ x · y }
@@ -40,6 +41,7 @@ pub fn times(x: u8, y: u8) -> u8
 }
 
 // x over y, which is not 0.
+#[tactic(auto, using(crate::proofs::PowerLaws::dividing))]
 pub fn over(x: u8, y: u8) -> u8
     requires { 0 < y }
     ensures { result · y ≡ x }

@@ -10,7 +10,7 @@ ghost use Rattle.pair_spec.specs.Front.{encoder_of, next_pair, fresh_history};
 use bits::numbers::{number, put_numbers};
 
 // The pair number at which the count is spent.
-pub const SPENT: u32 = 4294967295;
+pub const SPENT: u32 = u32::MAX;
 
 // A history: the encoder's number, the next pair number, and ten pairs.
 type History = [u8; 5128];
@@ -20,13 +20,7 @@ pub fn stray(history: &[u8], encoder: u32, pair: u32) -> bool
     requires { 8 ≤ length history.now }
     ensures { result ≡ (stray_history (encoder_of history.now) (next_pair history.now) encoder pair).refuses }
 {
-    if number(history, 0) != encoder as usize {
-        return true;
-    }
-    if number(history, 1) != pair as usize {
-        return true;
-    }
-    1 < encoder
+    number(history, 0) != encoder as usize || number(history, 1) != pair as usize || 1 < encoder
 }
 
 // Writes a front.
@@ -34,8 +28,7 @@ pub fn put(encoder: u32, pair: u32, front: &mut [u8])
     requires { length front.old ≡ 8 }
     ensures { front.new ≡ bytes32 (encoder ∷ pair ∷ []) }
 {
-    let numbers = [encoder, pair];
-    put_numbers(&numbers, front);
+    put_numbers(&[encoder, pair], front);
 }
 
 // A fresh history of an encoder.

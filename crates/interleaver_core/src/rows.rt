@@ -43,7 +43,7 @@ pub fn output_byte(k: BlockRow, column: usize) -> usize
 // The byte of its encoder's pairs at which bit row i of block C of a block row begins: 256 bytes a row, 16 a bit row, two a block.
 pub fn pairs_byte(k: BlockRow, block: usize, i: BitRow) -> usize
     requires { (k.0 < 84) × (block < 8) × (i.0 < 16) }
-    ensures { (result * 8 ≡ pairs_bit (row_in k) block i.0 0) × (result + 1 < 10752) }
+    ensures { (result * 8 ≡ pairs_bit (row_in k) block i.0 0) × (result + 1 < 10752) × (result ≤ 10496 + 16 * i.0 + 2 * block) }
 {
     256 * (k.0 / 2) + 16 * i.0 + 2 * block
 }

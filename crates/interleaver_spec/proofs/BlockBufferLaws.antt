@@ -3,7 +3,8 @@
 use Rattle.std.specs.Prelude.{◌≡◌, refl, ℕ, ◌+◌, ◌-◌, ◌*◌, ◌/◌, ◌%◌, ◌^◌, ◌<◌, ◌≤◌, length}
 use Rattle.std.proofs.Math.Path.{sym, ap, ap₂}
 use Rattle.std.proofs.Common.{◌∙◌, eq-eqb, ne_eqb}
-use mathlib.Core.List.{List, []}
+use mathlib.Core.List.{List, [], ◌∷◌}
+use Rattle.std.specs.Int.{w16, from_be_bytes}
 use native.Mathlib.Omega.{arith}
 use borrow.Rule.Slice.PartMut.{put_mid}
 use Rattle.std.proofs.Math.ListN.{get_or}
@@ -29,7 +30,7 @@ use Rattle.interleaver_spec.specs.PositionLaws.{output_at}
 use Rattle.interleaver_spec.proofs.PositionLaws.{part_column, part_t, part_subset, part_b, output_for, output_upper, output_lower}
 use Rattle.interleaver_spec.specs.Interleaving.{pairs_bit, pairs_of, source_of, interleaved_bit, interleaved, output_of, apart}
 use Rattle.interleaver_spec.proofs.InterleavingLaws.{output_from, output_of_is}
-use Rattle.blocks.specs.SideBySide.{laid_word, laid, words_block}
+use Rattle.blocks.specs.SideBySide.{laid_word, laid, words_block, read_word}
 use Rattle.blocks.specs.Laying.{laid_bit, words_block_lem}
 use Rattle.interleaver_spec.specs.BlockBuffer.{pairs_place, pairs_word, pairs_words, sent_words}
 use Rattle.interleaver_spec.specs.BlockBuffer.{reordered_in, sent_block, reordered_block, reordered_row, joined_word, joined, subset_row_at}
@@ -47,14 +48,12 @@ word_number i C l = omega arith
 
 -- ---- from pairs to bits, as code finds them
 
--- A word is two bytes of the pairs.
-pub pairs_word_lem : (s : List ℕ) (k : BlockRow) (at x u v : ℕ) → at * 8 ≡ pairs_bit (row_in k) (x % 8) (x / 8) 0 → u ≡ get_or s (at + 1) 0
-    → v ≡ get_or s at 0 → u < 256 → v < 256 → u * 256 + v ≡ pairs_word s k x
-unfolding pairs_word pairs_place pairs_bit
-pairs_word_lem s k at x u v e p q lu lv =
-    two_bytes s (at + 1) at u v (λ c. pairs_place s k (x % 8) (x / 8) ((c + 8) % 16)) p q lu lv
-    (λ j l. let n : (j + 8) % 16 ≡ 8 + j = omega arith in rw n (ap (bit s) (omega arith)))
-    (λ j l. let n : (8 + j + 8) % 16 ≡ j = omega arith in rw n (ap (bit s) (omega arith)))
+-- A word is two bytes of the pairs, the second of them the upper. Those of a block row begin where it begins.
+pub pairs_word_lem : (s : List ℕ) (k : BlockRow) (begin x w : ℕ) → begin * 8 ≡ pairs_bit (row_in k) 0 0 0 → w ≡ read_word s (begin + 2 * x) → w ≡ pairs_word s k x
+unfolding pairs_word pairs_place pairs_bit read_word
+pairs_word_lem s k begin x w b e =
+    e ∙ from_bits_ext 16 (λ c. bit s (8 * (begin + 2 * x) + (c + 8) % 16)) (λ c. pairs_place s k (x % 8) (x / 8) ((c + 8) % 16))
+    (λ c l. ap (λ i. bit s i % 2) (omega arith))
 
 -- By its encoder.
 pub sent_0 : (pairs0 pairs1 : List ℕ) (k : BlockRow) (w : List ℕ) → k.0 % 2 ≡ 0 → w ≡ pairs_words pairs0 k → w ≡ sent_words pairs0 pairs1 k
@@ -191,11 +190,13 @@ interleaved_rows pairs0 pairs1 rows bits h e =
 -- ---- from bits to pairs, as code finds them
 
 -- The bit rows of a column of a block are two bytes, four apart.
-pub line_word : (bits : List ℕ) (k : BlockRow) (C j at x y : ℕ) → at * 8 ≡ output_at k (record { 0 = 0 }) (16 * C + j) → x ≡ get_or bits at 0
-    → y ≡ get_or bits (at + 4) 0 → x < 256 → y < 256 → x * 256 + y ≡ row_word (line_column bits k C) j
+pub line_word : (bits : List ℕ) (k : BlockRow) (C j at n : ℕ) → ((i : ℕ) → get_or bits i 0 < 256) → at * 8 ≡ output_at k (record { 0 = 0 }) (16 * C + j)
+    → n ≡ from_be_bytes w16 (get_or bits at 0 ∷ get_or bits (at + 4) 0 ∷ []) → n ≡ row_word (line_column bits k C) j
 unfolding row_word line_column line_place
-line_word bits k C j at x y e p q lx ly =
-    two_bytes bits at (at + 4) x y (line_column bits k C j) p q lx ly
+line_word bits k C j at n bytes e p =
+    p
+    ∙ omega arith
+    ∙ two_bytes bits at (at + 4) (get_or bits at 0) (get_or bits (at + 4) 0) (line_column bits k C j) refl refl (bytes at) (bytes (at + 4))
     (λ i l. ap (bit bits) (output_upper k (16 * C + j) at i e l)) (λ i l. ap (bit bits) (output_lower k (16 * C + j) at i e l))
 
 line_lt : (bits : List ℕ) (k : BlockRow) (C i j : ℕ) → line_place bits k C i j < 2
@@ -235,7 +236,7 @@ module _ (bits : List ℕ) where
       ∙ ap (bit bits) (from_at e m ∙ sym (output_of_is e m le lm))
 
   -- The bytes of block row 2r+e are those of row r of encoder e's pairs.
-  row_bytes : (e r : ℕ) (row ys : List ℕ) → e < 2 → r < 42 → row ≡ restored_row bits (2 * r + e) → ys ≡ tabulate 256 (row_byte row)
+  pub row_bytes : (e r : ℕ) (row ys : List ℕ) → e < 2 → r < 42 → row ≡ restored_row bits (2 * r + e) → ys ≡ tabulate 256 (row_byte row)
       → ys ≡ tabulate 256 (λ y. byte_of (λ m. bit bits (output_of e m)) (r * 256 + y))
   unfolding byte_of row_byte
   row_bytes e r row ys le lr p q =

@@ -12,7 +12,7 @@ pub fn start(frames: u32, superframe: u32, subframe: u32) -> usize
     frames as usize + 356352 * superframe as usize + 7424 * subframe as usize
 }
 
-// What the reader answers: done, or the refusal.
+// What the reader answers: done, or the refusal. An open file's numbers come one by one, here and below, as the C interface lends them.
 pub fn read_answer(
     file: &[u8],
     superframes: u32,

@@ -3,20 +3,23 @@
 // Over `header_core`, `report` and `files`.
 #![tactic(auto)]
 
-ghost use Rattle.std.specs.Prelude.{◌≤◌, length};
+ghost use Rattle.std.specs.Prelude.{◌≤◌, ◌<◌, length, IfSome};
 
 use std::io::Read;
 
-// Reads into a buffer, and answers how many bytes it got: none at the end of the input, or where the read fails.
-fn read_some<I: Read>(input: &mut I, buffer: &mut [u8]) -> usize
-    ensures { result ≤ length buffer.new }
+// Reads into a buffer, and answers how many bytes it got, where it got any: none come at the end of the input, or where the read fails.
+fn read_some<I: Read>(input: &mut I, buffer: &mut [u8]) -> Option<usize>
+    ensures { IfSome result (λ n. (0 < n) × (n ≤ length buffer.new)) }
 {
-    input.read(buffer).unwrap_or(0)
+    match input.read(buffer) {
+        Ok(0) | Err(_) => None,
+        Ok(n) => Some(n),
+    }
 }
 
-// Reads a block and answers how many bytes it had: none at the end of the input, or where the read fails.
-fn block<I: Read>(input: &mut I) -> usize
-    ensures { result ≤ 65536 }
+// Reads a block and answers how many bytes it had, likewise.
+fn block<I: Read>(input: &mut I) -> Option<usize>
+    ensures { IfSome result (λ n. (0 < n) × (n ≤ 65536)) }
 {
     let mut buffer = [0u8; 65536];
     read_some(input, &mut buffer)
@@ -27,11 +30,7 @@ fn read_first<I: Read>(input: &mut I, first: &mut [u8; 16]) -> usize
     ensures { result ≤ 16 }
 {
     let mut done = 0;
-    while done < 16 {
-        let n = read_some(input, &mut first[done..]);
-        if n == 0 {
-            return done;
-        }
+    while done < 16 && let Some(n) = read_some(input, &mut first[done..]) {
         done += n;
     }
     done
@@ -41,11 +40,7 @@ fn read_first<I: Read>(input: &mut I, first: &mut [u8; 16]) -> usize
 // whatever follows.
 fn count_on<I: Read>(input: &mut I, from: usize) -> usize {
     let mut count = from;
-    while count < 4294967296 {
-        let n = block(input);
-        if n == 0 {
-            return count;
-        }
+    while count < 4294967296 && let Some(n) = block(input) {
         count += n;
     }
     count

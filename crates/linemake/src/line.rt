@@ -1,94 +1,73 @@
 // The line file's content: header, overhead list, super-frames.
-ghost use Rattle.std.specs.Prelude.{◌≡◌, ◌≤◌, length};
+ghost use Rattle.cells_spec.specs.Cells.{overhead_rule, Legal};
 
 use crate::inputs;
-use crate::inputs::{Inputs, MISFIT, OVERHEAD};
+use crate::inputs::{Inputs, OVERHEAD};
 use crate::superframes::write_all;
-use calls::{Answer, Refusal};
-use files::message;
+use calls::Refusal;
+use files::{Said, message};
 use profile::Profile;
+use std::fs::OpenFile;
 use std::io::{Read, Seek, Write};
 use std::rt::Env;
 
-// Writes to the line file, or says why it cannot.
-pub fn put<R: Eprint, W: Write>(rt: &R, out: &mut W, bytes: &[u8]) -> u32 {
-    match out.write_all(bytes) {
-        Ok(()) => 0,
-        Err(error) => {
-            report::fail(rt, b"line file", error);
-            MISFIT
+// An overhead list that is legal.
+#[derive(Clone, Copy)]
+pub struct List<'a> {
+    pub cells: &'a [u8; 12288],
+    ghost legal: { Legal overhead_rule cells.now },
+}
+
+impl<'a> List<'a> {
+    // These cells; or the refusal for the first illegal byte.
+    fn of(cells: &'a [u8; 12288]) -> Result<List<'a>, Refusal> {
+        let illegal = cells_core::legal::first_illegal(cells);
+        if illegal < cells.len() {
+            return Err(Refusal::OffGrid(illegal));
         }
+        Ok(List { cells })
     }
 }
 
-// Reads the overhead list and makes the header: 0, or the refusal.
-fn prepare<R: Env + Eprint, F: Read + Seek>(
+// Writes to the line file, or says why it cannot.
+pub fn put<R: Eprint, W: Write>(rt: &R, out: &mut W, bytes: &[u8]) -> Result<(), Said> {
+    out.write_all(bytes)
+        .map_err(|error| message::fail(rt, b"line file", error))
+}
+
+// The list of these cells; or says where they have an illegal byte.
+fn legal<'a, R: Env + Eprint>(rt: &R, cells: &'a [u8; 12288]) -> Result<List<'a>, Refusal> {
+    List::of(cells).map_err(|refusal| {
+        let index = refusal.index();
+        message::line(
+            rt,
+            OVERHEAD,
+            format_args!("a byte of 16 or more at index {index}"),
+        );
+        refusal
+    })
+}
+
+// Reads the overhead list, makes the header, and writes the line file.
+pub fn write<R: Env + Eprint, F: Read + Seek + OpenFile + Drop, W: Write>(
     rt: &R,
     profile: Profile,
     inputs: &mut Inputs<F>,
-    superframes: u32,
-    header: &mut [u8; 16],
-    overhead: &mut [u8; 12288],
-) -> u32 {
-    if inputs.overhead.read_exact(overhead).is_err() {
-        message::line(rt, OVERHEAD, b"the file ended early");
-        return MISFIT;
-    }
-    let refusal = calls::refusal_of(line_file::write_header(superframes, header));
-    if refusal != 0 {
+    superframes: u8,
+    out: &mut W,
+) -> Result<(), Refusal> {
+    let mut overhead = [0u8; 12288];
+    inputs
+        .overhead
+        .read(rt, &mut overhead, "the file ended early")?;
+    let mut header = [0u8; 16];
+    if let Err(refusal) = line_file::write_header(u32::from(superframes), &mut header) {
         inputs::say_too_many(rt, profile, inputs);
+        return Err(refusal);
     }
-    refusal
-}
-
-// Says where the list has an illegal byte.
-fn say_illegal<R: Env + Eprint>(rt: &R, index: usize) {
-    message::line_with(rt, OVERHEAD, b"a byte of 16 or more at index ", index);
-}
-
-// Writes header, list and super-frames: 0, or the refusal.
-fn write_parts<R: Env + Eprint, F: Read, W: Write>(
-    rt: &R,
-    profile: Profile,
-    inputs: &mut Inputs<F>,
-    superframes: u32,
-    header: &[u8],
-    overhead: &[u8],
-    out: &mut W,
-) -> u32
-    requires { (superframes ≤ 65) × (length overhead.now ≡ 12288) }
-{
-    let illegal = cells_core::legal::first_illegal(overhead);
-    if illegal < overhead.len() {
-        say_illegal(rt, illegal);
-        return calls::refusal_of(Err(Refusal::OffGrid(illegal)));
-    }
-    let headed = put(rt, out, header);
-    if headed != 0 {
-        return headed;
-    }
-    let listed = put(rt, out, overhead);
-    if listed != 0 {
-        return listed;
-    }
-    write_all(rt, profile, inputs, superframes, overhead, out)
-}
-
-// Writes the line file: 0, or the refusal.
-pub fn write<R: Env + Eprint, F: Read + Seek, W: Write>(
-    rt: &R,
-    profile: Profile,
-    inputs: &mut Inputs<F>,
-    superframes: u32,
-    header: &mut [u8; 16],
-    overhead: &mut [u8; 12288],
-    out: &mut W,
-) -> u32
-    requires { superframes ≤ 65 }
-{
-    let prepared = prepare(rt, profile, inputs, superframes, header, overhead);
-    if prepared != 0 {
-        return prepared;
-    }
-    write_parts(rt, profile, inputs, superframes, header, overhead, out)
+    let list = legal(rt, &overhead)?;
+    put(rt, out, &header)?;
+    put(rt, out, &overhead)?;
+    write_all(rt, profile, inputs, superframes, list, out)?;
+    Ok(())
 }

@@ -1,250 +1,174 @@
 // The four files that are written: each is made beside its name and takes it when all four are whole.
-use files::message;
-use std::fs::OpenFile;
+use crate::inputs::Inputs;
+use files::{Name, Said, message};
 use std::io::Write;
 use std::random::RandomSource;
 use std::rt::{Env, Files};
-use std::{fs, str};
 
 // The first of their arguments.
 const FIRST: usize = 3;
 
-// Where the file of an argument is made: a path of so many bytes.
-#[derive(Clone, Copy)]
-pub struct Place {
-    pub argument: usize,
-    pub length: usize,
-    pub path: [u8; 4096],
-}
-
-// The file of an argument.
+// A file that is written, and what it is called where a write fails.
 #[derive(Drop)]
 pub struct Output<F> {
-    pub file: F,
-    pub place: Place,
+    file: F,
+    what: &'static str,
 }
 
-// All four.
+impl<F: Write> Output<F> {
+    // Writes to the file, or says why it cannot.
+    pub fn put<R: Eprint>(&mut self, rt: &R, bytes: &[u8]) -> Result<(), Said> {
+        self.file
+            .write_all(bytes)
+            .map_err(|error| message::fail(rt, self.what.as_bytes(), error))
+    }
+}
+
+// Payload and marks of a receiver.
+#[derive(Drop)]
+pub struct Side<F> {
+    pub payload: Output<F>,
+    pub marks: Output<F>,
+}
+
+// Those of both. They stand in no array: the proof of its drop would need the size of a file.
 #[derive(Drop)]
 pub struct Outputs<F> {
-    pub payload0: Output<F>,
-    pub payload1: Output<F>,
-    pub marks0: Output<F>,
-    pub marks1: Output<F>,
+    pub first: Side<F>,
+    pub second: Side<F>,
 }
 
-// Whether a name is that of an input; says so.
-fn is_input<R: Files + Env + Eprint>(
+// Says which input a name is that of, where it is one's.
+fn spare_inputs<R: Files + Env + Eprint>(
     rt: &R,
     argument: usize,
-    name: &[u8],
-    line: &R::File,
-    capture: &R::File,
-) -> bool {
-    if files::leads_to(rt, name, line) {
-        message::line(rt, argument, b"the same file as LINE");
-        return true;
-    }
-    if files::leads_to(rt, name, capture) {
-        message::line(rt, argument, b"the same file as CAPTURE");
-        return true;
-    }
-    false
-}
-
-// Whether a name is that of the file which another argument gives.
-fn is_name_of<R: Files + Env + Alloc + Eprint>(rt: &R, other: usize, name: &[u8]) -> bool {
-    let mut path = [0u8; 4096];
-    let n = files::target(rt, other, &mut path);
-    files::collide(rt, &path[..n], name)
-}
-
-// Whether a name is that of an output before it; says so.
-fn is_output<R: Files + Env + Alloc + Eprint>(rt: &R, argument: usize, name: &[u8]) -> bool {
-    for other in FIRST..argument {
-        if is_name_of(rt, other, name) {
-            message::line_with(rt, argument, b"the same file as argument ", other);
-            return true;
+    name: &Name,
+    inputs: &Inputs<R::File>,
+) -> Result<(), Said> {
+    let Inputs { line, capture } = inputs;
+    for (headed, what) in [(line, "LINE"), (capture, "CAPTURE")] {
+        if files::leads_to(rt, name.as_bytes(), &headed.input.file) {
+            return Err(message::line(rt, argument, format_args!("the same file as {what}")));
         }
     }
-    false
+    Ok(())
 }
 
-// Makes the file of an argument for this name; or says why it cannot.
-fn make_named<R: Files + Env + RandomSource + Alloc + Eprint>(
+// Whether a name is that of the file which another argument gives: an empty one where it gives none.
+fn is_name_of<R: Files + Env + Alloc + Eprint>(rt: &R, other: usize, name: &Name) -> bool {
+    let theirs = files::target(rt, other).unwrap_or(Name::new());
+    files::collide(rt, theirs.as_bytes(), name.as_bytes())
+}
+
+// Says which output before it a name is that of, where it is one's.
+fn spare_outputs<R: Files + Env + Alloc + Eprint>(
     rt: &R,
     argument: usize,
-    name: &[u8],
-    line: &R::File,
-    capture: &R::File,
-) -> Option<Output<R::File>> {
-    if is_input(rt, argument, name, line, capture) {
-        return None;
-    }
-    if is_output(rt, argument, name) {
-        return None;
-    }
-    let mut path = [0u8; 4096];
-    let length = files::name_beside(name, &mut path);
-    let file = files::create(rt, name, &mut path[..length])?;
-    Some(Output {
-        file,
-        place: Place {
+    name: &Name,
+) -> Result<(), Said> {
+    match (FIRST..argument).find(|other| is_name_of(rt, *other, name)) {
+        Some(other) => Err(message::line(
+            rt,
             argument,
-            length,
-            path,
+            format_args!("the same file as argument {other}"),
+        )),
+        None => Ok(()),
+    }
+}
+
+// Makes the file of an argument, and puts the path at which it lies where that is lent; or says why it cannot, and what is lent stays as it
+// was.
+fn make<R: Files + Env + RandomSource + Alloc + Eprint>(
+    rt: &R,
+    argument: usize,
+    what: &'static str,
+    inputs: &Inputs<R::File>,
+    path: &mut Name,
+) -> Result<Output<R::File>, Said> {
+    let name = files::target(rt, argument)?;
+    spare_inputs(rt, argument, &name, inputs)?;
+    spare_outputs(rt, argument, &name)?;
+    let file = files::create(rt, &name, path)?;
+    Ok(Output { file, what })
+}
+
+// Empty paths: those of no file. This, and what is done with them, is not inlined, so that the stack holds each once.
+#[inline(never)]
+pub fn no_paths() -> [Name; 4] {
+    [Name::new(), Name::new(), Name::new(), Name::new()]
+}
+
+// Makes the four files in the order of their arguments, and puts their paths where these are lent; or says which cannot be made, and its path
+// and those behind it stay as they were.
+#[inline(never)]
+pub fn make_all<R: Files + Env + RandomSource + Alloc + Eprint>(
+    rt: &R,
+    inputs: &Inputs<R::File>,
+    paths: &mut [Name; 4],
+) -> Result<Outputs<R::File>, Said> {
+    let payload0 = make(rt, 3, "PAYLOAD0", inputs, &mut paths[0])?;
+    let payload1 = make(rt, 4, "PAYLOAD1", inputs, &mut paths[1])?;
+    let marks0 = make(rt, 5, "MARKS0", inputs, &mut paths[2])?;
+    let marks1 = make(rt, 6, "MARKS1", inputs, &mut paths[3])?;
+    Ok(Outputs {
+        first: Side {
+            payload: payload0,
+            marks: marks0,
+        },
+        second: Side {
+            payload: payload1,
+            marks: marks1,
         },
     })
 }
 
-// Makes the file of an argument; or says why it cannot.
-fn make<R: Files + Env + RandomSource + Alloc + Eprint>(
+// Removes what lies at these paths.
+pub fn remove_all<R: Files>(rt: &R, paths: &[Name; 4]) {
+    for path in paths {
+        files::remove(rt, path);
+    }
+}
+
+// Closes the file of an argument; or says why it is not whole.
+fn close<R: Files + Env + Eprint>(
     rt: &R,
     argument: usize,
-    line: &R::File,
-    capture: &R::File,
-) -> Option<Output<R::File>> {
-    let mut name = [0u8; 4096];
-    let n = files::target(rt, argument, &mut name);
-    if n == 0 {
-        return None;
-    }
-    make_named(rt, argument, &name[..n], line, capture)
+    output: Output<R::File>,
+) -> Result<(), Said> {
+    let name = Name::of_argument(rt, argument).unwrap_or(Name::new());
+    files::close(rt, output.file, name.as_bytes())
 }
 
-// Makes all four files; or none, where one cannot be made, which is said.
-pub fn make_all<R: Files + Env + RandomSource + Alloc + Eprint>(
+// Closes all four files; or says which are not whole.
+fn close_all<R: Files + Env + Eprint>(rt: &R, outputs: Outputs<R::File>) -> Result<(), Said> {
+    let Outputs { first, second } = outputs;
+    let payload0 = close(rt, 3, first.payload);
+    let payload1 = close(rt, 4, second.payload);
+    let marks0 = close(rt, 5, first.marks);
+    let marks1 = close(rt, 6, second.marks);
+    payload0.and(payload1).and(marks0).and(marks1)
+}
+
+// Gives the file at a path the name of its argument, an empty one where it gives none; or says why it cannot.
+fn take_name<R: Files + Env + Alloc + Eprint>(
     rt: &R,
-    line: &R::File,
-    capture: &R::File,
-) -> Option<Outputs<R::File>> {
-    let payload0 = make(rt, 3, line, capture)?;
-    let Some(payload1) = make(rt, 4, line, capture) else {
-        discard(rt, payload0);
-        return None;
-    };
-    let Some(marks0) = make(rt, 5, line, capture) else {
-        discard(rt, payload0);
-        discard(rt, payload1);
-        return None;
-    };
-    let Some(marks1) = make(rt, 6, line, capture) else {
-        discard(rt, payload0);
-        discard(rt, payload1);
-        discard(rt, marks0);
-        return None;
-    };
-    Some(Outputs {
-        payload0,
-        payload1,
-        marks0,
-        marks1,
-    })
+    argument: usize,
+    path: &Name,
+) -> Result<(), Said> {
+    let name = files::target(rt, argument).unwrap_or(Name::new());
+    files::take_name(rt, path, &name)
 }
 
-// Writes to a file, or says why it cannot.
-pub fn put<R: Eprint, W: Write>(rt: &R, out: &mut W, bytes: &[u8], what: &[u8]) -> bool {
-    match out.write_all(bytes) {
-        Ok(()) => true,
-        Err(error) => {
-            report::fail(rt, what, error);
-            false
-        }
+// Gives all four files their names where they are whole; or says why not, and those behind the first that cannot take its name have none.
+#[inline(never)]
+pub fn finish<R: Files + Env + Alloc + Eprint>(
+    rt: &R,
+    outputs: Outputs<R::File>,
+    paths: &[Name; 4],
+) -> Result<(), Said> {
+    close_all(rt, outputs)?;
+    for (k, path) in paths.iter().enumerate() {
+        take_name(rt, FIRST + k, path)?;
     }
-}
-
-// Closes a file, and answers whether it is whole, or says why not.
-fn close<R: Env + Eprint, F: OpenFile + Drop>(rt: &R, file: F, place: &Place) -> bool {
-    let mut name = [0u8; 4096];
-    let n = rt.arg(place.argument, &mut name).unwrap_or(0);
-    files::close(rt, file, &name[..n])
-}
-
-// Gives the file at a place the name of its argument, and answers whether it has it.
-fn take_name<R: Files + Env + Alloc + Eprint>(rt: &R, place: &Place) -> bool {
-    let mut name = [0u8; 4096];
-    let n = files::target(rt, place.argument, &mut name);
-    if place.length <= 4096 {
-        return files::take_name(rt, &place.path[..place.length], &name[..n]);
-    }
-    false
-}
-
-// Removes it.
-fn remove<R: Files>(rt: &R, place: &Place) {
-    if place.length <= 4096 {
-        if let Ok(path) = str::from_utf8(&place.path[..place.length]) {
-            let _ = fs::remove_file(rt, path);
-        }
-    }
-}
-
-// Closes a file and removes it.
-fn discard<R: Files>(rt: &R, out: Output<R::File>) {
-    let Output { file, place } = out;
-    drop(file);
-    remove(rt, &place);
-}
-
-// Gives a file its name where those before it have theirs, or removes it; answers whether it has the name.
-fn settle<R: Files + Env + Alloc + Eprint>(rt: &R, place: &Place, good: bool) -> bool {
-    if good {
-        return take_name(rt, place);
-    }
-    remove(rt, place);
-    false
-}
-
-// Removes all four files.
-pub fn discard_all<R: Files>(rt: &R, outputs: Outputs<R::File>) {
-    let Outputs {
-        payload0,
-        payload1,
-        marks0,
-        marks1,
-    } = outputs;
-    discard(rt, payload0);
-    discard(rt, payload1);
-    discard(rt, marks0);
-    discard(rt, marks1);
-}
-
-// Gives all four files their names where they are whole, or removes them; answers whether they have their names.
-pub fn finish<R: Files + Env + Alloc + Eprint>(rt: &R, outputs: Outputs<R::File>) -> bool {
-    let Outputs {
-        payload0,
-        payload1,
-        marks0,
-        marks1,
-    } = outputs;
-    let Output {
-        file: file0,
-        place: place0,
-    } = payload0;
-    let Output {
-        file: file1,
-        place: place1,
-    } = payload1;
-    let Output {
-        file: file2,
-        place: place2,
-    } = marks0;
-    let Output {
-        file: file3,
-        place: place3,
-    } = marks1;
-    let mut whole = close(rt, file0, &place0);
-    if !close(rt, file1, &place1) {
-        whole = false;
-    }
-    if !close(rt, file2, &place2) {
-        whole = false;
-    }
-    if !close(rt, file3, &place3) {
-        whole = false;
-    }
-    let first = settle(rt, &place0, whole);
-    let second = settle(rt, &place1, first);
-    let third = settle(rt, &place2, second);
-    settle(rt, &place3, third)
+    Ok(())
 }

@@ -8,6 +8,7 @@ use crate::root;
 use word_spec::{Repair, Syndromes};
 
 // The place that an element of GF(256) stands for.
+#[tactic(auto, using(crate::proofs::Finding::placing))]
 fn place_of(x: u8) -> usize
     ensures { (result < 256) × (locator result ≡ x) }
 {

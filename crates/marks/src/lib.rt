@@ -13,6 +13,7 @@ pub struct Sums {
 }
 
 // The flips that a mark tells of.
+#[tactic(auto, using(word_spec::proofs::MarkLaws::marks_telling))]
 fn flips_in(mark: u8) -> u32
     ensures { (result ≡ flips_in mark) × (result ≤ 2) }
 {
@@ -20,6 +21,7 @@ fn flips_in(mark: u8) -> u32
 }
 
 // The lost words that it tells of.
+#[tactic(auto, using(word_spec::proofs::MarkLaws::marks_telling))]
 pub fn lost_in(mark: u8) -> u32
     ensures { (result ≡ lost_in mark) × (result ≤ 1) }
 {

@@ -1,5 +1,4 @@
 pub mod ByWords
-pub mod Tables
 pub mod Sets
 pub mod Mending
 pub mod MendingLaws

@@ -1,8 +1,8 @@
 -- Laws of repairs put into the back halves: as code flips, word by word, and the whole of a pair.
 -- Assumes nothing.
-use Rattle.std.specs.Prelude.{◌≡◌, Bool, true, false, List, ◌≢◌, ltb, eqb, set}
+use Rattle.std.specs.Prelude.{◌≡◌, Bool, true, false, List, ◌≢◌, ◌⊎◌, ltb, eqb, set}
 use Rattle.std.proofs.Math.Path.{refl, sym, ap}
-use Rattle.std.proofs.Common.{ap₂, ◌∙◌, zero-mul, one-mul, lt-ltb, le-ltb, eq-eqb, ne_eqb, lit<, shl_exact, get_or-set_same}
+use Rattle.std.proofs.Common.{ap₂, ◌∙◌, inl, inr, zero-mul, one-mul, lt-ltb, le-ltb, eq-eqb, ne_eqb, lit<, shl_exact, get_or-set_same}
 use Rattle.std.proofs.Math.Bool.{cond}
 use Prim.Native.Nat.{ℕ, zero, suc, ◌+◌, ◌-◌, ◌*◌, ◌/◌, ◌%◌, ◌^◌, ◌<◌, ◌≤◌}
 use native.Mathlib.Omega.{arith}
@@ -36,7 +36,7 @@ use Rattle.gathering_spec.specs.Dirty.{Dirty}
 use Rattle.gathering_spec.proofs.Dirty.{zero_digit}
 use Rattle.gathering_spec.specs.Collecting.{syndromes_in, ByWords, Collected}
 use Rattle.gathering_spec.proofs.Collecting.{by_words_collected, syndromes_collected}
-use Rattle.mending_core.specs.Sets.{bit_of_power, Removed, pass_set, pass_first, pass_second}
+use Rattle.mending_core.specs.Sets.{bit_of_power, Removed}
 use Rattle.mending_core.specs.Mending.{flipped_number, flipped_if, buffer_flipped_if, flipped_back, coded_bit, flipped_coded, mended_by, updated, Holding}
 use Rattle.mending_core.specs.Mending.{repaired_by, in_set, Handled, HandledSet, HandledDirty, HandledAll}
 
@@ -347,13 +347,10 @@ module _ (f : ℕ → Word) (bits : (u : ℕ) → Bits (f u)) (w : ℕ) (s c : L
 
 -- Case by case, as code goes.
 module _ (flip : ℕ → List ℕ → List ℕ) (r : Repair) (s : List ℕ) where
-  pub mend_sound : r ≡ Sound → s ≡ mended_by flip r s
+  pub mend_none : (r ≡ Sound) ⊎ (r ≡ Lost) → s ≡ mended_by flip r s
   unfolding mended_by
-  mend_sound e = rw e refl
-
-  pub mend_lost : r ≡ Lost → s ≡ mended_by flip r s
-  unfolding mended_by
-  mend_lost e = rw e refl
+  mend_none (inl e) = rw e refl
+  mend_none (inr e) = rw e refl
 
   pub mend_one : (i : ℕ) (a : List ℕ) → r ≡ One i → a ≡ flip i s → a ≡ mended_by flip r s
   unfolding mended_by
@@ -363,16 +360,7 @@ module _ (flip : ℕ → List ℕ → List ℕ) (r : Repair) (s : List ℕ) wher
   unfolding mended_by
   mend_two i j b a e p q = rw e (q ∙ ap (flip i) p)
 
-pub one_inside : (r : Repair) (i : ℕ) → Inside r → r ≡ One i → i < 256
-one_inside r i t e = rw e at t
-
-pub first_inside : (r : Repair) (i j : ℕ) → Inside r → r ≡ Two i j → i < 256
-first_inside r i j t e = (rw e at t).0
-
-pub second_inside : (r : Repair) (i j : ℕ) → Inside r → r ≡ Two i j → j < 256
-second_inside r i j t e = (rw e at t).1
-
-pub ruleset mending = (mend_sound, mend_lost, mend_one, mend_two, one_inside, first_inside, second_inside, coded_long)
+pub ruleset mending = (mend_none, mend_one, mend_two, coded_long)
 
 pub sound : (front : Bool) (w : Word) → Bits w → CodeWord w → repair front w ≡ Sound
 unfolding repaired places flip_all
@@ -503,26 +491,9 @@ going_more {ms = ms} w m r a b go lw one lb k =
       whole = λ s' c' ms' h. go.whole s' c' ms' (set_first lw (omega (arith, go.marks)) k one h);
     }
 
-pub going_room : {u : List ℕ} {q : ℕ} {front : Bool} {all : ℕ} {s₀ c₀ ms₀ : List ℕ} {left : ℕ} {s c ms : List ℕ} (w : ℕ)
-    → Going u q front all s₀ c₀ ms₀ left s c ms → w < 32 → w < length ms
-going_room w go lw = omega (arith, go.marks)
-
-pub going_less : {left w r : ℕ} → Removed left w r → r < left
-going_less k = k.fewer
-
-pub going_coded : {u : List ℕ} {q : ℕ} {front : Bool} {all : ℕ} {s₀ c₀ ms₀ : List ℕ} {left : ℕ} {s c ms : List ℕ} → Going u q front all s₀ c₀ ms₀ left s c ms
-    → length c ≡ 512
-going_coded go = go.coded
-
-pub going_marks : {u : List ℕ} {q : ℕ} {front : Bool} {all : ℕ} {s₀ c₀ ms₀ : List ℕ} {left : ℕ} {s c ms : List ℕ} → Going u q front all s₀ c₀ ms₀ left s c ms
-    → length ms ≡ 32
-going_marks go = go.marks
-
 pub going_done : {u : List ℕ} {q : ℕ} {front : Bool} {all : ℕ} {s₀ c₀ ms₀ : List ℕ} {left : ℕ} {s c ms : List ℕ} → Going u q front all s₀ c₀ ms₀ left s c ms
     → left ≡ 0 → HandledSet u q front all s₀ c₀ ms₀ s c ms
 going_done {u} {q} {front} {left = left} {s = s} {c = c} {ms = ms} go z = go.whole s c ms (set_none u q front left s c ms z)
-
-pub ruleset going = (going_none, going_more, going_room, going_less, going_coded, going_marks, going_done)
 
 -- ---- all words
 
@@ -590,55 +561,8 @@ module _ (u : List ℕ) (q d : ℕ) (front : Bool) (s c ms₀ s₁ c₁ ms₁ s�
         (both_sets (repaired_by front words) words (λ v l i. sym (ap (λ r. repaired r (words v)) (sound front (words v) (bits v) i) ∙ stays (words v))) v lv))
         then_done.1
 
-  handled_dirty : HandledDirty u q d front s c ms₂ s₂ c₂
+  pub handled_dirty : HandledDirty u q d front s c ms₂ s₂ c₂
   handled_dirty = record { done = λ words bits g o k e. (marks_done words bits g o k e, words_done words bits g o k e) }
-
--- The two passes: none / more / done
-pub record Passing (u : List ℕ) (q d : ℕ) (front : Bool) (s₀ c₀ : List ℕ) (p : ℕ) (s c ms : List ℕ) : Type 0 where
-  pub upto : p ≤ 2
-  pub marks : length ms ≡ 32
-  pub coded : length c ≡ 512
-  pub start : p ≡ 0 → (ms ≡ tabulate 32 (λ w. 0)) × (s ≡ s₀) × (c ≡ c₀)
-  pub first : p ≡ 1 → HandledSet u q front q s₀ c₀ (tabulate 32 (λ w. 0)) s c ms
-  pub both : p ≡ 2 → HandledDirty u q d front s₀ c₀ ms s c
-
-pub pass_none : (u : List ℕ) (q d : ℕ) (front : Bool) (s c ms : List ℕ) → ms ≡ tabulate 32 (λ w. 0) → length c ≡ 512 → Passing u q d front s c 0 s c ms
-pass_none u q d front s c ms e l =
-    record {
-      upto = omega arith;
-      marks = ap length e ∙ length_tabulate 32 (λ w. 0);
-      coded = l;
-      start = λ z. (e, refl, refl);
-      first = λ z. absurd (omega arith);
-      both = λ z. absurd (omega arith);
-    }
-
-pub pass_more : {u : List ℕ} {q d : ℕ} {front : Bool} {s₀ c₀ : List ℕ} {p : ℕ} {s c ms : List ℕ} (k : ℕ) (a b ns : List ℕ) → Passing u q d front s₀ c₀ p s c ms → p < 2
-    → k ≡ pass_set q d p → HandledSet u q front k s c ms a b ns → length b ≡ 512 → length ns ≡ 32 → Passing u q d front s₀ c₀ (p + 1) a b ns
-pass_more {u} {q} {d} {front} {s₀} {c₀} {p} {s} {c} {ms} k a b ns was l ek h lb ln =
-    record {
-      upto = omega arith;
-      marks = ln;
-      coded = lb;
-      start = λ z. absurd (omega arith);
-      first = λ z. let o : p ≡ 0 = omega arith in let at-start = was.start o in rw (at-start.0, at-start.1, at-start.2, ek ∙ sym (pass_first q d p o)) at h;
-      both = λ z.
-          let o : p ≡ 1 = omega arith in
-          let n : p ≡ 0 → ⊥ = λ e. omega arith in
-          handled_dirty u q d front s₀ c₀ (tabulate 32 (λ w. 0)) s c ms a b ns refl (was.first o) (rw (ek ∙ sym (pass_second q d p n)) at h);
-    }
-
-pub pass_coded : {u : List ℕ} {q d : ℕ} {front : Bool} {s₀ c₀ : List ℕ} {p : ℕ} {s c ms : List ℕ} → Passing u q d front s₀ c₀ p s c ms → length c ≡ 512
-pass_coded was = was.coded
-
-pub pass_marks : {u : List ℕ} {q d : ℕ} {front : Bool} {s₀ c₀ : List ℕ} {p : ℕ} {s c ms : List ℕ} → Passing u q d front s₀ c₀ p s c ms → length ms ≡ 32
-pass_marks was = was.marks
-
-pub pass_done : {u : List ℕ} {q d : ℕ} {front : Bool} {s₀ c₀ : List ℕ} {p : ℕ} {s c ms : List ℕ} → Passing u q d front s₀ c₀ p s c ms → 2 ≤ p
-    → HandledDirty u q d front s₀ c₀ ms s c
-pass_done was l = was.both (omega (arith, was.upto))
-
-pub ruleset passing = (pass_none, pass_more, pass_coded, pass_marks, pass_done)
 
 pub handled_all : (t : List ℕ) (q d : ℕ) (front : Bool) (s c u ms s' c' : List ℕ) → ByWords t u → HandledDirty u q d front s c ms s' c'
     → HandledAll t q d front s c ms s' c'

@@ -6,7 +6,7 @@ use Rattle.std.proofs.Common.{sym, ap, ◌∙◌, one-mul, pow-suc, arith, eq-eq
 use Rattle.std.proofs.Math.Nat.{div-eq_of_lt}
 use Rattle.std.proofs.Math.Decide.{ℕ_discrete}
 use Rattle.std.specs.Int.Count.{count_leading_zeros}
-use Rattle.std.proofs.lemmas.Nat.{leading_le, leading_top}
+use Rattle.std.proofs.lemmas.Nat.{leading_top}
 use Rattle.bits.specs.Bits.{bit_of}
 use Rattle.bits.specs.Tests.{grid}
 use Rattle.bits.specs.Xor.{◌⊕◌}
@@ -23,21 +23,6 @@ pub record Removed (left w r : ℕ) : Type 0 where
   pub fewer : r < left
   pub gone : bit_of 32 r w ≡ 0
   pub each : (u : ℕ) → u < 32 → bit_of 32 left u ≡ cond (eqb u w) 1 0 ⊕ bit_of 32 r u
-
--- The words of odd parity in the first pass, the others that are no code words in the second.
-unfoldable pub pass_set : ℕ → ℕ → ℕ → ℕ
-pass_set q d p = cond (eqb p 0) q (d ⊕ q)
-
-pub pass_first : (q d p : ℕ) → p ≡ 0 → q ≡ pass_set q d p
-unfolding pass_set
-pass_first q d p e = sym (simp (eq-eqb p 0 e))
-
-pub pass_second : (q d p : ℕ) → (p ≡ 0 → ⊥) → d ⊕ q ≡ pass_set q d p
-unfolding pass_set
-pass_second q d p n = sym (simp (ne_eqb p 0 n))
-
-pub zeros_fit : (x : ℕ) → count_leading_zeros 32 x < 2 ^ 64
-zeros_fit x = omega (arith, leading_le 32 x)
 
 first_from : (left w j : ℕ) → w + suc j ≡ 32 → 2 ^ j ≤ left → left < 2 ^ suc j → First left w × (w < 32)
 first_from left w j s t l =

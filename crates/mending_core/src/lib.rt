@@ -2,5 +2,7 @@
 // `permutation_core`; `receiving_core` receives pairs with them.
 #![tactic(auto)]
 
-mod collecting;
+pub mod checks;
+mod guide;
 pub mod mending;
+mod words;

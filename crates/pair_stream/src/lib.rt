@@ -1,32 +1,13 @@
 // Streams of pairs, one call after the other: encoded and received. Over `encoder` and `receiver`, by the definitions of `pair_spec`.
 #![tactic(auto)]
 
-ghost use Rattle.std.specs.Prelude.{◌≡◌, ◌*◌, ◌≤◌, ◌<◌, length};
-ghost use Rattle.bits.specs.Parts.{part_of};
-ghost use Rattle.pair_spec.specs.History.{depth};
-ghost use Rattle.pair_spec.specs.Front.{BeforePair};
-ghost use Rattle.pair_spec.specs.Calls.{encode_buffers, encode_next, receive_buffers, receive_next};
+ghost use Rattle.std.specs.Prelude.{◌≡◌};
+ghost use Rattle.pair_spec.specs.Calls.{encode_buffers, receive_buffers};
 ghost use Rattle.pair_spec.specs.Stream.{EncodesStream, ReceivesStream, encode_stream, receive_stream};
 
-// Encodes pair k.
-fn encode_next(
-    k: usize,
-    pairs: usize,
-    payload: &[u8],
-    encoder: u32,
-    number: u32,
-    history: &mut [u8],
-    coded: &mut [u8],
-)
-    requires { (k < pairs) × (pairs ≤ 4294967295) × (length payload.now ≡ pairs * 444) × (encoder ≤ 1) × (number < 4294967295) × BeforePair encoder number history.old × (length coded.old ≡ 512) }
-    ensures { encode_buffers coded.new history.new ≡ encode_next history.old encoder number (part_of 444 payload.now k) }
-{
-    let a = k * 444;
-    let e = a + 444;
-    let _ = encoder::encode_pair(&payload[a..e], coded, history, encoder, number);
-}
-
-// Encodes the pairs of an encoder, numbered from `first` on.
+// Encodes the pairs of an encoder, numbered from `first` on. (Encoder, first number and history go apart: three programs call this so. The
+// parts of a buffer that `chunks_exact_mut` lends out leave a proof with nothing about the buffer, and `fill_parts` has no turn that changes
+// the history for the next.)
 pub fn encode(
     pairs: usize,
     payload: &[u8],
@@ -39,40 +20,19 @@ pub fn encode(
     ensures { encode_buffers coded.new history.new ≡ encode_stream pairs history.old encoder first payload.now }
 {
     for k in 0..pairs {
-        let f = k * 512;
-        let g = f + 512;
-        encode_next(
-            k,
-            pairs,
-            payload,
+        let given = k * 444;
+        let made = k * 512;
+        let _ = encoder::encode_pair(
+            &payload[given..given + 444],
+            &mut coded[made..made + 512],
+            history,
             encoder,
             first + k as u32,
-            history,
-            &mut coded[f..g],
         );
     }
 }
 
-// Receives pair k.
-fn receive_next(
-    k: usize,
-    pairs: usize,
-    coded: &[u8],
-    encoder: u32,
-    number: u32,
-    history: &mut [u8],
-    payload: &mut [u8],
-    marks: &mut [u8],
-)
-    requires { (k < pairs) × (pairs ≤ 4294967295) × (length coded.now ≡ pairs * 512) × (encoder ≤ 1) × (number < 4294967295) × BeforePair encoder number history.old × (length payload.old ≡ 444) × (length marks.old ≡ 32) }
-    ensures { receive_buffers payload.new marks.new history.new ≡ receive_next depth history.old encoder number (part_of 512 coded.now k) }
-{
-    let a = k * 512;
-    let e = a + 512;
-    let _ = receiver::receive_pair(&coded[a..e], payload, marks, history, encoder, number);
-}
-
-// Receives the pairs of an encoder, numbered from `first` on.
+// Receives the pairs of an encoder, numbered from `first` on, as `encode` encodes them.
 pub fn receive(
     pairs: usize,
     coded: &[u8],
@@ -86,20 +46,17 @@ pub fn receive(
     ensures { receive_buffers payload.new marks.new history.new ≡ receive_stream pairs history.old encoder first coded.now }
 {
     for k in 0..pairs {
-        let f = k * 444;
-        let g = f + 444;
-        let i = k * 32;
-        let j = i + 32;
+        let given = k * 512;
+        let made = k * 444;
+        let marked = k * 32;
         let number = first + k as u32;
-        receive_next(
-            k,
-            pairs,
-            coded,
+        let _ = receiver::receive_pair(
+            &coded[given..given + 512],
+            &mut payload[made..made + 444],
+            &mut marks[marked..marked + 32],
+            history,
             encoder,
             number,
-            history,
-            &mut payload[f..g],
-            &mut marks[i..j],
         );
     }
 }

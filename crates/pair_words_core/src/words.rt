@@ -14,7 +14,7 @@ use crate::bytes::byte_from;
 use crate::columns::coded_byte;
 use std::array;
 
-// Exclusive or of two columns or bit rows.
+// Exclusive or of two columns or bit rows. (`mending_core` calls it too.)
 pub fn xor16(a: usize, b: usize) -> usize
     requires { (a < 16) × (b < 16) }
     ensures { (result ≡ a ⊕ b) × (result < 16) }

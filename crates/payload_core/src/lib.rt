@@ -31,7 +31,7 @@ fn row_by_blocks(halves: &[u16; 256], s: usize) -> [u16; 128]
     by_blocks(row_of_halves(halves, s))
 }
 
-// Block C of a row by blocks, two bytes a number, the lower byte first, as they lie in memory.
+// Block C of a row by blocks, two bytes a number, the lower byte first, as they lie in memory. (`blocks::write_words` writes a whole row.)
 fn put_half(row: &[u16; 128], block: usize, out: &mut [u8])
     requires { (length out.old ≡ 32) × (block < 6) }
     ensures { out.new ≡ tabulate 32 (half_byte row.now block) }

@@ -1,3 +1,2 @@
 pub mod PayloadRows
-pub mod FourFronts
 pub mod PayloadRowLaws

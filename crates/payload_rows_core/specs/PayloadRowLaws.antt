@@ -1,27 +1,31 @@
 -- The numbers of a row as code makes them of the payload: six blocks, block 6 and zeros, and then all by words.
 -- Assumes nothing.
-use Rattle.std.specs.Prelude.{◌≡◌, refl, List, ℕ, ◌+◌, ◌-◌, ◌*◌, ◌/◌, ◌%◌, ◌^◌, ◌<◌, ◌≤◌, length, get_or, set, drop, replicate}
+use Rattle.std.specs.Prelude.{◌≡◌, refl, List, ℕ, ◌+◌, ◌-◌, ◌*◌, ◌/◌, ◌%◌, ◌^◌, ◌<◌, ◌≤◌, length, get_or, take, drop, replicate}
 use Rattle.std.proofs.Common.{sym, ap, ap₂, ◌∙◌, arith, get_or-drop}
 use Rattle.std.proofs.Math.Nat.{mul-mod_left}
 use Rattle.std.proofs.Math.Decide.{dec_lt}
-use borrow.Rule.Slice.PartMut.{mid_of, put_mid, same_len_mid, drop_put}
+use borrow.Rule.Slice.PartMut.{put_mid, drop_put}
 use Rattle.std.specs.Int.Bits.{bit_or}
 use Rattle.std.proofs.lemmas.Nat.{or_shifted, mod-pow-add, shl-shr}
 use Rattle.std.proofs.lemmas.List.{get_or-replicate}
 use Rattle.std.proofs.Math.Pow.{high, low}
 use Rattle.bits.specs.Bits.{bit, bit_of, from_bits}
 use Rattle.bits.proofs.BitLaws.{from_bits_lt, from_bits_ext, bit_of_from_bits}
-use Rattle.bits.specs.Filling.{Filling, fill_none, fill_more, fill_part, fill_ext}
+use Rattle.bits.specs.Filling.{Filling, fill_none, fill_part, fill_ext}
 use Rattle.bits.specs.Lists.{tabulate}
+use Rattle.bits.proofs.PartLaws.{part_length, part_at}
 use Rattle.bits.specs.ListLaws.{length_tabulate, get_d_tabulate, is_tabulate, tabulate_ext}
 use Rattle.blocks.specs.Moves.{turned}
 use Rattle.blocks.specs.SideBySide.{read_word}
 use Rattle.pair_words_core.specs.WordBytes.{own_bit, own_low, own_high, own_none}
 use Rattle.payload_core.specs.NumberBits.{behind, behind_split}
-use Rattle.riffle_core.specs.Riffles.{by_words}
+use Rattle.riffle_core.specs.Riffles.{by_words, riffled, riffled_number}
 use Rattle.riffle_core.specs.RiffleLaws.{by_words_at}
 use Rattle.payload_rows_core.specs.PayloadRows.{open_number, row_number, fifteen_of, last_number}
-use Rattle.payload_rows_core.specs.FourFronts.{FourFronts, fronts_none, fronts_more, fronts_done}
+
+-- A part of a buffer, number by number.
+part_tabulate : (a n : ℕ) (s : List ℕ) → a + n ≤ length s → take n (drop a s) ≡ tabulate n (λ k. get_or s (a + k) 0)
+part_tabulate a n s l = is_tabulate 0 (take n (drop a s)) n (λ k. get_or s (a + k) 0) (part_length a n s l) (part_at a n s l)
 
 -- ---- six blocks
 
@@ -148,25 +152,22 @@ end_of y s i t h l e =
     let q : (i + k) % 8 ≡ (3424 + i + k) % 8 = omega arith in
     ap₂ (λ u v. bit_of 8 u v % 2) (h.done 0 ((i + k) / 8) (omega arith) ∙ ap (λ j. get_or y j 0) p) q))
 
--- These sixteen, byte by byte, in a buffer of eighteen.
-pub end_more : {f : ℕ → ℕ} {i : ℕ} {d : List ℕ} (v : ℕ) → Filling f 18 i d → i < 16 → v ≡ f i → Filling f 18 (i + 1) (set d i v)
-end_more v h l e = fill_more v h (omega arith) e
+-- These sixteen, in a buffer of eighteen.
+pub end_copied : (y d ys : List ℕ) → length y ≡ 444 → length d ≡ 18 → ys ≡ take 16 (drop 428 y)
+    → Filling (λ k. get_or y (428 + k) 0) 18 16 (put_mid 0 16 d ys)
+end_copied y d ys l e p =
+    fill_part 16 ys (fill_none (λ k. get_or y (428 + k) 0) 18 d e) (omega arith)
+    (p ∙ part_tabulate 428 16 y (omega arith) ∙ tabulate_ext 16 _ (λ k. get_or y (428 + (0 + k)) 0) (λ k l. ap (λ n. get_or y (428 + n) 0) (omega arith)))
 
-pub end_done : {f : ℕ → ℕ} {i : ℕ} {d : List ℕ} → Filling f 18 i d → 16 ≤ i → Filling f 18 16 d
-end_done h l = fill_ext 16 h l (λ k lk. refl)
+-- Eight words whose last bits lie within the payload, and the last eight.
+pub group_of : (y : List ℕ) (g : ℕ) (ys : List ℕ) → ys ≡ tabulate 8 (λ n. fifteen_of y (8 * (383 + 15 * g) + 8 + 15 * n))
+    → ys ≡ tabulate 8 (λ n. last_number y (g * 8 + n))
+group_of y g ys e = e ∙ tabulate_ext 8 _ _ (λ n l. last_of y (g * 8 + n) _ _ refl (omega arith))
 
-pub ruleset endwise = (fill_none, end_more, end_done)
-
--- Word n of each of the four groups.
-pub lasts_more : (y s d : List ℕ) (n a b c e : ℕ) → FourFronts (last_number y) n d → n < 8 → Filling (λ k. get_or y (428 + k) 0) 18 16 s
-    → a ≡ fifteen_of y (8 * 383 + 8 + 15 * n) → b ≡ fifteen_of y (8 * 398 + 8 + 15 * n) → c ≡ fifteen_of y (8 * 413 + 8 + 15 * n)
-    → e ≡ fifteen_of s (8 * 0 + 8 + 15 * n)
-    → FourFronts (last_number y) (n + 1) (set (set (set (set d n a) (8 + n) b) (16 + n) c) (24 + n) e)
-lasts_more y s d n a b c e h l hs p q r z =
-    fronts_more h l a b c e (last_of y n _ a p (omega arith)) (last_of y (8 + n) _ b q (omega arith)) (last_of y (16 + n) _ c r (omega arith))
-    (last_of y (24 + n) _ e (end_of y s _ e hs (omega arith) z) (omega arith))
-
-pub ruleset lastwise = (fronts_none, lasts_more, fronts_done)
+pub last_group : (y s ys : List ℕ) (g : ℕ) → g ≡ 3 → Filling (λ k. get_or y (428 + k) 0) 18 16 s
+    → ys ≡ tabulate 8 (λ n. fifteen_of s (8 * 0 + 8 + 15 * n)) → ys ≡ tabulate 8 (λ n. last_number y (g * 8 + n))
+last_group y s ys g p h e =
+    e ∙ tabulate_ext 8 _ _ (λ n l. last_of y (g * 8 + n) _ _ (end_of y s _ _ h (omega arith) refl) (omega arith))
 
 -- ---- a row
 
@@ -195,18 +196,16 @@ lent_rest a l d ys fits ly k h =
     same : drop (a + l) (put_mid a l d ys) ≡ drop (a + l) d
     same = rw size at (drop_put a (a + l) d ys (omega arith) fits (ly ∙ sym size))
 
--- There is room behind six blocks.
-pub row_room : (y : List ℕ) (s : ℕ) (d ys : List ℕ) → d ≡ replicate 128 0 → ys ≡ tabulate 96 (row_number y s) → 112 ≤ length (put_mid 0 96 d ys)
-row_room y s d ys ed ey =
-    omega (arith, same_len_mid 0 96 d ys (ap length ey ∙ length_tabulate 96 (row_number y s) ∙ sym (ap (λ u. length (mid_of 0 96 u)) ed)), ap length ed)
-
 -- Six blocks, then block 6, then zeros.
 pub row_parts : (y last : List ℕ) (s : ℕ) (d ys zs : List ℕ) → d ≡ replicate 128 0 → ys ≡ tabulate 96 (row_number y s)
-    → zs ≡ tabulate 16 (λ i. get_or last (16 * s + i) 0) → last ≡ tabulate 32 (last_number y) → s < 2
+    → zs ≡ take 16 (drop (16 * s) last) → last ≡ tabulate 32 (last_number y) → s < 2
     → put_mid 96 16 (put_mid 0 96 d ys) zs ≡ tabulate 128 (row_number y s)
 unfolding row_number last_number
-row_parts y last s d ys zs ed ey ez el ls = is_tabulate 0 (put_mid 96 16 (put_mid 0 96 d ys) zs) 128 (row_number y s) two.long (λ k l. at k l (dec_lt k 112))
+row_parts y last s d ys zs ed ey et el ls = is_tabulate 0 (put_mid 96 16 (put_mid 0 96 d ys) zs) 128 (row_number y s) two.long (λ k l. at k l (dec_lt k 112))
   where
+    ez : zs ≡ tabulate 16 (λ i. get_or last (16 * s + i) 0)
+    ez = et ∙ part_tabulate (16 * s) 16 last (omega (arith, ap length el, length_tabulate 32 (last_number y)))
+
     long : length d ≡ 128
     long = ap length ed
 
@@ -230,16 +229,20 @@ row_parts y last s d ys zs ed ey ez el ls = is_tabulate 0 (put_mid 96 16 (put_mi
         ∙ lent_rest 0 96 d ys (omega (arith, long)) (ap length ey ∙ length_tabulate 96 (row_number y s)) k (omega arith)
         ∙ ap (λ u. get_or u k 0) ed ∙ get_or-replicate 128 k 0 0 l ∙ seventh y s k (omega arith) l
 
--- A number of a row by words.
-pub row_copied : (y : List ℕ) (s i v : ℕ) (x from : List ℕ) → i < 128 → v ≡ get_or from i 0 → from ≡ by_words x → x ≡ tabulate 128 (row_number y s)
-    → v ≡ open_number y (s * 128 + i)
+-- A row by words.
+by_words_length : (x : List ℕ) → length (by_words x) ≡ 128
+unfolding by_words riffled
+by_words_length x = length_tabulate 128 (riffled_number (riffled (riffled x)))
+
+pub row_copied : (y : List ℕ) (s : ℕ) (ys x : List ℕ) → ys ≡ by_words x → x ≡ tabulate 128 (row_number y s)
+    → ys ≡ tabulate 128 (λ i. open_number y (s * 128 + i))
 unfolding row_number
-row_copied y s i v x from l ev ef ex =
+row_copied y s ys x ef ex =
+    is_tabulate 0 ys 128 (λ i. open_number y (s * 128 + i)) (ap length ef ∙ by_words_length x)
+    (λ i l.
     let p : i ≡ 8 * (i / 8) + i % 8 = omega arith in
-    ev ∙ ap (λ u. get_or u i 0) (ef ∙ ap by_words ex)
+    ap (λ u. get_or u i 0) (ef ∙ ap by_words ex)
     ∙ ap (λ n. get_or (by_words (tabulate 128 (row_number y s))) n 0) p
     ∙ by_words_at (tabulate 128 (row_number y s)) (i / 8) (i % 8) (omega arith) (omega arith)
     ∙ get_d_tabulate 128 (row_number y s) (16 * (i % 8) + i / 8) 0 (omega arith)
-    ∙ ap (open_number y) (omega arith)
-
-pub ruleset rowwise = (row_room, row_parts, row_copied)
+    ∙ ap (open_number y) (omega arith))

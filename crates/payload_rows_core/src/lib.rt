@@ -3,22 +3,22 @@
 // `payload_core`.
 #![tactic(auto)]
 
-ghost use Rattle.std.specs.Prelude.{◌≡◌, ◌+◌, ◌*◌, ◌<◌, length, get_or};
+ghost use Rattle.std.specs.Prelude.{◌≡◌, ◌+◌, ◌*◌, ◌<◌, ◌≤◌, length, get_or};
 ghost use Rattle.bits.specs.Filling.{Filling};
 ghost use Rattle.bits.specs.Lists.{tabulate};
 ghost use Rattle.payload_rows_core.specs.PayloadRows.{open_number, row_number, fifteen_of, last_number};
 
+use bits::parts::fill_parts;
 use blocks::{read_word, turn};
 use riffle_core::by_words;
+use std::array;
 
 // Block C of row s: sixteen words, two bytes each, as they lie in memory.
-fn put_block(payload: &[u8], s: usize, block: usize, out: &mut [u16])
-    requires { (length payload.now ≡ 444) × (s < 2) × (block < 6) × (length out.old ≡ 16) }
-    ensures { out.new ≡ tabulate 16 (λ i. row_number payload.now s (block * 16 + i)) }
+fn block_words(payload: &[u8], s: usize, block: usize) -> [u16; 16]
+    requires { (length payload.now ≡ 444) × (s < 2) × (block < 6) }
+    ensures { result ≡ tabulate 16 (λ i. row_number payload.now s (block * 16 + i)) }
 {
-    for r in 0..16 {
-        out[r] = read_word(payload, 64 * block + 32 * s + 2 * r);
-    }
+    array::from_fn(|r| read_word(payload, 64 * block + 32 * s + 2 * r))
 }
 
 // Six blocks of row s, one after the other.
@@ -26,11 +26,9 @@ fn put_blocks(payload: &[u8], s: usize, out: &mut [u16])
     requires { (length payload.now ≡ 444) × (s < 2) × (length out.old ≡ 96) }
     ensures { out.new ≡ tabulate 96 (row_number payload.now s) }
 {
-    for c in 0..6 {
-        let a = c * 16;
-        let e = a + 16;
-        put_block(payload, s, c, &mut out[a..e]);
-    }
+    fill_parts(out, 16, |c, part| {
+        part.copy_from_slice(&block_words(payload, s, c))
+    });
 }
 
 // The last sixteen bytes of the payload, and two more that `fifteen` reads without using a bit of them.
@@ -39,9 +37,7 @@ fn end_of(payload: &[u8]) -> [u8; 18]
     ensures { Filling (λ i. get_or payload.now (428 + i) 0) 18 16 result }
 {
     let mut end = [0u8; 18];
-    for i in 0..16 {
-        end[i] = payload[428 + i];
-    }
+    end[0..16].copy_from_slice(&payload[428..444]);
     end
 }
 
@@ -56,30 +52,36 @@ fn fifteen(bytes: &[u8], at: usize, n: usize) -> u16
     turn((z >> 1) << 1, 8)
 }
 
-// Block 6 of all words, eight words a group. A turn makes word n of each of the four groups: so the compiler makes the eight turns one.
+// Eight words whose fifteen bytes begin behind byte `at`.
+fn eight(bytes: &[u8], at: usize) -> [u16; 8]
+    requires { at + 18 ≤ length bytes.now }
+    ensures { result ≡ tabulate 8 (λ n. fifteen_of bytes.now (8 * at + 8 + 15 * n)) }
+{
+    array::from_fn(|n| fifteen(bytes, at, n))
+}
+
+// Block 6 of eight words.
+fn group(payload: &[u8], g: usize) -> [u16; 8]
+    requires { (length payload.now ≡ 444) × (g < 4) }
+    ensures { result ≡ tabulate 8 (λ n. last_number payload.now (g * 8 + n)) }
+{
+    if g < 3 {
+        eight(payload, 383 + 15 * g)
+    } else {
+        eight(&end_of(payload), 0)
+    }
+}
+
+// Block 6 of all words.
 fn lasts(payload: &[u8]) -> [u16; 32]
     requires { length payload.now ≡ 444 }
     ensures { result ≡ tabulate 32 (last_number payload.now) }
 {
-    let end = end_of(payload);
     let mut out = [0u16; 32];
-    for n in 0..8 {
-        out[n] = fifteen(payload, 383, n);
-        out[8 + n] = fifteen(payload, 398, n);
-        out[16 + n] = fifteen(payload, 413, n);
-        out[24 + n] = fifteen(&end, 0, n);
-    }
+    fill_parts(&mut out, 8, |g, part| {
+        part.copy_from_slice(&group(payload, g))
+    });
     out
-}
-
-// Block 6 of row s.
-fn put_lasts(last: &[u16; 32], s: usize, out: &mut [u16])
-    requires { (s < 2) × (length out.old ≡ 16) }
-    ensures { out.new ≡ tabulate 16 (λ i. get_or last.now (16 * s + i) 0) }
-{
-    for i in 0..16 {
-        out[i] = last[16 * s + i];
-    }
 }
 
 // Row s by blocks: number 16C+r is of block C of the row's word r. Block 7 has zeros.
@@ -89,7 +91,7 @@ fn payload_row(payload: &[u8], last: &[u16; 32], s: usize) -> [u16; 128]
 {
     let mut x = [0u16; 128];
     put_blocks(payload, s, &mut x[0..96]);
-    put_lasts(last, s, &mut x[96..112]);
+    x[96..112].copy_from_slice(&last[16 * s..16 * s + 16]);
     x
 }
 
@@ -98,10 +100,7 @@ fn put_row(payload: &[u8], last: &[u16; 32], s: usize, out: &mut [u16])
     requires { (length payload.now ≡ 444) × (last.now ≡ tabulate 32 (last_number payload.now)) × (s < 2) × (length out.old ≡ 128) }
     ensures { out.new ≡ tabulate 128 (λ i. open_number payload.now (s * 128 + i)) }
 {
-    let from = by_words(payload_row(payload, last, s));
-    for i in 0..128 {
-        out[i] = from[i];
-    }
+    out.copy_from_slice(&by_words(payload_row(payload, last, s)));
 }
 
 // The back halves of the 32 words of a pair before their completion.
@@ -110,9 +109,5 @@ pub fn put_rows(payload: &[u8], halves: &mut [u16])
     ensures { halves.new ≡ tabulate 256 (open_number payload.now) }
 {
     let last = lasts(payload);
-    for s in 0..2 {
-        let a = s * 128;
-        let e = a + 128;
-        put_row(payload, &last, s, &mut halves[a..e]);
-    }
+    fill_parts(halves, 128, |s, row| put_row(payload, &last, s, row));
 }

@@ -1,19 +1,17 @@
 -- Laws of the stages: what code puts in each bit row, and where the bits go in four stages, computed at the 256 places of a block.
 -- Assumes nothing.
-use Rattle.std.specs.Prelude.{◌≡◌, refl, Bool, List, ℕ, zero, suc, ◌+◌, ◌-◌, ◌*◌, ◌/◌, ◌%◌, ◌^◌, ◌<◌, ◌≤◌, T, ltb, leb, eqb, length, set}
+use Rattle.std.specs.Prelude.{◌≡◌, refl, Bool, List, ℕ, zero, suc, ◌+◌, ◌-◌, ◌*◌, ◌/◌, ◌%◌, ◌^◌, ◌<◌, ◌≤◌, T, ltb, leb, eqb, length, map}
 use Rattle.std.proofs.Math.Path.{sym, ap}
-use Rattle.std.proofs.Common.{ap₂, ◌∙◌, one-mul, zero-mul, mul_assoc, mod-lt, ltb→lt, leb→le, eqb→eq, shr-shr, pow-add, pow_pos}
+use Rattle.std.proofs.Common.{ap₂, ◌∙◌, one-mul, zero-mul, mul_assoc, ltb→lt, leb→le, eqb→eq, shr-shr, pow-add}
+use Rattle.std.proofs.lemmas.List.{map-id, get_or-map}
 use native.Mathlib.Omega.{arith}
 use Rattle.std.proofs.Math.Decide.{dec_lt}
-use Rattle.std.specs.Int.Bits.{bit_and, bit_xor, and_zero_r, and_le_r, xor_zero_r, shifted_even}
-use Rattle.std.proofs.lemmas.Nat.{xor_comm, xor_lt, shl-shr}
+use Rattle.std.specs.Int.Bits.{bit_and, bit_xor, and_zero_r, xor_zero_r, shifted_even}
+use Rattle.std.proofs.lemmas.Nat.{xor_comm, shl-shr}
 use Rattle.std.proofs.Math.ListN.{get_or}
 use Rattle.std.proofs.Math.Pow.{field, mod-mod-pow}
 use Rattle.bits.specs.Bits.{bit_of, from_bits}
 use Rattle.bits.proofs.BitLaws.{bit_of_lt, from_bits_ext, from_bits_bit_of}
-use Rattle.bits.specs.Filling.{Filling, fill_none, fill_two, fill_done}
-use Rattle.bits.specs.Lists.{tabulate}
-use Rattle.bits.specs.ListLaws.{get_d_tabulate}
 use Rattle.bits.specs.Tests.{every, each, both, both_left, both_right}
 use Rattle.bits.specs.Xor.{◌⊕◌}
 use Rattle.blocks.specs.Block.{bit_at, row_word, block}
@@ -187,20 +185,31 @@ module _ (w m n x y : ℕ) (k : Mask w m n) where
       go (no h) = shl_zero w differing n c l (omega arith)
 
   -- As code has them.
-  pub crossed_first_lem : x < 2 ^ w → m < 2 ^ w → bit_xor x differing ≡ crossed_first w m n x y
+  crossed_first_lem : bit_xor x differing < 2 ^ w → bit_xor x differing ≡ crossed_first w m n x y
   unfolding crossed_first pick
-  crossed_first_lem lx lm =
-      let h = and_le_r (bit_xor x (y / 2 ^ n)) m in
-      sym (from_bits_bit_of w (bit_xor x differing) (xor_lt w x differing lx (omega arith)))
+  crossed_first_lem l =
+      sym (from_bits_bit_of w (bit_xor x differing) l)
       ∙ from_bits_ext w (bit_of w (bit_xor x differing)) (λ c. pick (bit_of w m c) (bit_of w y (c - n)) (bit_of w x c))
       (λ c l. ap (λ u. u % 2) (by_mask w m c (λ e. rw e (first_in c l e)) (λ e. rw e (first_out c e))))
 
-  pub crossed_second_lem : y < 2 ^ w → bit_xor y (differing * 2 ^ n % 2 ^ w) ≡ crossed_second w m n x y
+  crossed_second_lem : bit_xor y (differing * 2 ^ n % 2 ^ w) < 2 ^ w → bit_xor y (differing * 2 ^ n % 2 ^ w) ≡ crossed_second w m n x y
   unfolding crossed_second pick
-  crossed_second_lem ly =
-      sym (from_bits_bit_of w (bit_xor y (differing * 2 ^ n % 2 ^ w)) (xor_lt w y (differing * 2 ^ n % 2 ^ w) ly (mod-lt (differing * 2 ^ n) (pow_pos w))))
+  crossed_second_lem l =
+      sym (from_bits_bit_of w (bit_xor y (differing * 2 ^ n % 2 ^ w)) l)
       ∙ from_bits_ext w (bit_of w (bit_xor y (differing * 2 ^ n % 2 ^ w))) (λ c. pick (bit_of w m c) (bit_of w y c) (bit_of w x (c + n)))
       (λ c l. ap (λ u. u % 2) (by_mask w m c (λ e. rw e (second_in c l e)) (λ e. rw e (second_out c l e))))
+
+  module _ (s u d : ℕ) (es : s ≡ y / 2 ^ n) (eu : u ≡ bit_xor x s) (ed : d ≡ bit_and u m) where
+    d_is : d ≡ differing
+    d_is = ed ∙ ap (λ v. bit_and v m) (eu ∙ ap (bit_xor x) es)
+
+    pub made_first : (t : ℕ) → t ≡ bit_xor x d → t < 2 ^ w → t ≡ crossed_first w m n x y
+    made_first t e l = let h : t ≡ bit_xor x differing = e ∙ ap (bit_xor x) d_is in h ∙ crossed_first_lem (rw h at l)
+
+    pub made_second : (v t : ℕ) → v ≡ d * 2 ^ n % 2 ^ w → t ≡ bit_xor y v → t < 2 ^ w → t ≡ crossed_second w m n x y
+    made_second v t ev e l =
+        let h : t ≡ bit_xor y (differing * 2 ^ n % 2 ^ w) = e ∙ ap (bit_xor y) (ev ∙ ap (λ q. q * 2 ^ n % 2 ^ w) d_is) in
+        h ∙ crossed_second_lem (rw h at l)
 
 -- Numbers whose columns are chosen by a mask, by their bits.
 picked_bits : (w m : ℕ) (g h f : ℕ → ℕ) → ((c : ℕ) → c < w → bit_of w m c ≡ 1 → g c ≡ f c) → ((c : ℕ) → c < w → bit_of w m c ≡ 0 → h c ≡ f c)
@@ -216,129 +225,54 @@ chosen_bits m x y f yes-is no-is = picked_bits 16 m (bit_of 16 x) (bit_of 16 y) 
 
 -- ---- the bit rows of a stage
 
-module _ (b : List ℕ) (k x y t : ℕ) (p : x ≡ get_or b k 0) (q : y ≡ get_or b (8 + k) 0) where
-  rows_even : (m : ℕ) → t ≡ chosen m y x → t ≡ row_word (rows_stage m b) (2 * k)
+module _ (b : List ℕ) (m i x y t : ℕ) (p : x ≡ get_or b (i / 2) 0) (q : y ≡ get_or b (8 + i / 2) 0) where
+  pub rows_even : i % 2 ≡ 0 → t ≡ chosen m y x → t ≡ row_word (rows_stage m b) i
   unfolding row_word rows_stage bit_at own other pick
-  rows_even m e =
-      let d : 2 * k / 2 ≡ k = omega arith in
-      let h : 2 * k % 2 ≡ 0 = omega arith in
-      e ∙ chosen_bits m y x (rows_stage m b (2 * k)) (λ c l u. rw (u, h, d) (ap (λ v. bit_of 16 v c) q)) (λ c l u. rw (u, h, d) (ap (λ v. bit_of 16 v c) p))
+  rows_even h e =
+      e ∙ chosen_bits m y x (rows_stage m b i) (λ c l u. rw (u, h) (ap (λ v. bit_of 16 v c) q)) (λ c l u. rw (u, h) (ap (λ v. bit_of 16 v c) p))
 
-  rows_odd : (m : ℕ) → t ≡ chosen m x y → t ≡ row_word (rows_stage m b) (2 * k + 1)
+  pub rows_odd : i % 2 ≡ 1 → t ≡ chosen m x y → t ≡ row_word (rows_stage m b) i
   unfolding row_word rows_stage bit_at own other pick
-  rows_odd m e =
-      let d : (2 * k + 1) / 2 ≡ k = omega arith in
-      let h : (2 * k + 1) % 2 ≡ 1 = omega arith in
-      e ∙ chosen_bits m x y (rows_stage m b (2 * k + 1)) (λ c l u. rw (u, h, d) (ap (λ v. bit_of 16 v c) p)) (λ c l u. rw (u, h, d) (ap (λ v. bit_of 16 v c) q))
+  rows_odd h e =
+      e ∙ chosen_bits m x y (rows_stage m b i) (λ c l u. rw (u, h) (ap (λ v. bit_of 16 v c) p)) (λ c l u. rw (u, h) (ap (λ v. bit_of 16 v c) q))
 
-  module _ (m n : ℕ) (w : Mask 16 m n) where
-    pub columns_odd : t ≡ chosen m (y / 2 ^ n) (y * 2 ^ n % 2 ^ 16) → t ≡ row_word (columns_stage m n b) (2 * k + 1)
-    unfolding row_word columns_stage columns_column bit_at own pick
-    columns_odd e =
-        let d : (2 * k + 1) / 2 ≡ k = omega arith in
-        let h : (2 * k + 1) % 2 ≡ 1 = omega arith in
-        e ∙ chosen_bits m (y / 2 ^ n) (y * 2 ^ n % 2 ^ 16) (columns_stage m n b (2 * k + 1))
-        (λ c l u. shr_bit 16 y n c (w.right c l u) l ∙ rw (u, h, d) (ap (λ v. bit_of 16 v (c - n)) q))
-        (λ c l u. shl_bit 16 y n c (w.left c l u) ∙ rw (u, h, d) (ap (λ v. bit_of 16 v (c + n)) q))
-
-pub columns_even : (b : List ℕ) (m n k x : ℕ) → x ≡ get_or b k 0 → x < 2 ^ 16 → x ≡ row_word (columns_stage m n b) (2 * k)
+pub columns_even : (b : List ℕ) (m n i x : ℕ) → i % 2 ≡ 0 → x ≡ get_or b (i / 2) 0 → x < 2 ^ 16 → x ≡ row_word (columns_stage m n b) i
 unfolding row_word columns_stage columns_column bit_at own pick
-columns_even b m n k x p l =
-    let d : 2 * k / 2 ≡ k = omega arith in
-    let h : 2 * k % 2 ≡ 0 = omega arith in
+columns_even b m n i x h p l =
     sym (from_bits_bit_of 16 x l)
-    ∙ from_bits_ext 16 (bit_of 16 x) (columns_stage m n b (2 * k)) (λ c lc. ap (λ u. u % 2) (rw (h, d) (ap (λ v. bit_of 16 v c) p)))
+    ∙ from_bits_ext 16 (bit_of 16 x) (columns_stage m n b i) (λ c lc. ap (λ u. u % 2) (rw h (ap (λ v. bit_of 16 v c) p)))
 
--- Two of 2R numbers of w bits.
-module _ (R w : ℕ) (b : List ℕ) (k x y t : ℕ) (p : x ≡ get_or b k 0) (q : y ≡ get_or b (R + k) 0) (m n : ℕ) where
-  pub cross_even : t ≡ crossed_first w m n x y → t ≡ cross_word R w m n b (2 * k)
+pub columns_odd : (b : List ℕ) (m n i y t : ℕ) → Mask 16 m n → i % 2 ≡ 1 → y ≡ get_or b (8 + i / 2) 0
+    → t ≡ chosen m (y / 2 ^ n) (y * 2 ^ n % 2 ^ 16) → t ≡ row_word (columns_stage m n b) i
+unfolding row_word columns_stage columns_column bit_at own pick
+columns_odd b m n i y t k h q e =
+    e ∙ chosen_bits m (y / 2 ^ n) (y * 2 ^ n % 2 ^ 16) (columns_stage m n b i)
+    (λ c l u. shr_bit 16 y n c (k.right c l u) l ∙ rw (u, h) (ap (λ v. bit_of 16 v (c - n)) q))
+    (λ c l u. shl_bit 16 y n c (k.left c l u) ∙ rw (u, h) (ap (λ v. bit_of 16 v (c + n)) q))
+
+-- One of 2R numbers of w bits.
+module _ (R w : ℕ) (b : List ℕ) (i x y t : ℕ) (p : x ≡ get_or b (i / 2) 0) (q : y ≡ get_or b (R + i / 2) 0) (m n : ℕ) where
+  pub cross_even : i % 2 ≡ 0 → t ≡ crossed_first w m n x y → t ≡ cross_word R w m n b i
   unfolding cross_word moved_word cross_row cross_column crossed_first pick
-  cross_even e =
-      let d : 2 * k / 2 ≡ k = omega arith in
-      let h : 2 * k % 2 ≡ 0 = omega arith in
-      e ∙ picked_bits w m (λ c. bit_of w y (c - n)) (bit_of w x) (λ c. bit_of w (get_or b (cross_row R w m (2 * k) c) 0) (cross_column w m n (2 * k) c))
-      (λ c l u. rw (u, h, d) (ap (λ v. bit_of w v (c - n)) q)) (λ c l u. rw (u, h, d) (ap (λ v. bit_of w v c) p))
+  cross_even h e =
+      e ∙ picked_bits w m (λ c. bit_of w y (c - n)) (bit_of w x) (λ c. bit_of w (get_or b (cross_row R w m i c) 0) (cross_column w m n i c))
+      (λ c l u. rw (u, h) (ap (λ v. bit_of w v (c - n)) q)) (λ c l u. rw (u, h) (ap (λ v. bit_of w v c) p))
 
-  pub cross_odd : t ≡ crossed_second w m n x y → t ≡ cross_word R w m n b (2 * k + 1)
+  pub cross_odd : i % 2 ≡ 1 → t ≡ crossed_second w m n x y → t ≡ cross_word R w m n b i
   unfolding cross_word moved_word cross_row cross_column crossed_second pick
-  cross_odd e =
-      let d : (2 * k + 1) / 2 ≡ k = omega arith in
-      let h : (2 * k + 1) % 2 ≡ 1 = omega arith in
-      e ∙ picked_bits w m (bit_of w y) (λ c. bit_of w x (c + n)) (λ c. bit_of w (get_or b (cross_row R w m (2 * k + 1) c) 0) (cross_column w m n (2 * k + 1) c))
-      (λ c l u. rw (u, h, d) (ap (λ v. bit_of w v c) q)) (λ c l u. rw (u, h, d) (ap (λ v. bit_of w v (c + n)) p))
+  cross_odd h e =
+      e ∙ picked_bits w m (bit_of w y) (λ c. bit_of w x (c + n)) (λ c. bit_of w (get_or b (cross_row R w m i c) 0) (cross_column w m n i c))
+      (λ c l u. rw (u, h) (ap (λ v. bit_of w v c) q)) (λ c l u. rw (u, h) (ap (λ v. bit_of w v (c + n)) p))
 
-pub ruleset crossing = (crossed_first_lem, crossed_second_lem, cross_even, cross_odd)
+-- A value in a list, and the number that it is there.
+pub numbered : {A : Type 0} (f : A → ℕ) (xs : List A) (k : ℕ) (x : A) → x ≡ get_or xs k x → k < length xs → f x ≡ get_or (map f xs) k 0
+numbered f xs k x e l = ap f e ∙ sym (get_or-map f xs k x 0 l)
 
-pub ruleset stage_rows = (columns_even, columns_odd)
+-- A stage over a type parameter, at a type whose values are the numbers.
+pub as_numbers : (R w m n : ℕ) (b y : List ℕ) → map (λ x. x) y ≡ cross_stage R w m n (map (λ x. x) b) → y ≡ cross_stage R w m n b
+as_numbers R w m n b y e = simp map-id at e
 
 -- ---- stages one after the other
-
--- ---- two stages at once
-
--- Of sixteen bit rows the first 4k are f's: none / more / done.
-pub record Fours (f : ℕ → ℕ) (k : ℕ) (d : List ℕ) : Type 0 where
-  pub filled : Filling f 16 (4 * k) d
-
-pub fours_none : (f : ℕ → ℕ) (d : List ℕ) → length d ≡ 16 → Fours f 0 d
-fours_none f d e = record { filled = fill_none f 16 d e }
-
-pub fours_more : {f : ℕ → ℕ} {k : ℕ} {d : List ℕ} (a b c e : ℕ) → Fours f k d → k < 4 → a ≡ f (4 * k) → b ≡ f (4 * k + 1) → c ≡ f (4 * k + 2)
-    → e ≡ f (4 * k + 3) → Fours f (k + 1) (set (set (set (set d (4 * k) a) (4 * k + 1) b) (4 * k + 2) c) (4 * k + 3) e)
-fours_more {f} {k} {d} a b c e h l p q r s =
-    let two : Filling f 16 (4 * k + 2) (set (set d (4 * k) a) (4 * k + 1) b) = fill_two a b h.filled (omega arith) p q (omega arith) in
-    let i : 4 * k + 2 + 1 ≡ 4 * k + 3 = omega arith in
-    record {
-      filled = rw i at (fill_two {i = 4 * k + 2} {j = 4 * (k + 1)} c e two (omega arith) r (s ∙ ap f (sym i)) (omega arith));
-    }
-
-pub fours_done : {f : ℕ → ℕ} {k : ℕ} {d : List ℕ} → Fours f k d → 4 ≤ k → d ≡ tabulate 16 f
-fours_done h l = fill_done h.filled (omega arith)
-
--- What is chosen of what was chosen.
-pub chosen_of : (n u v s t r : ℕ) → r ≡ chosen n u v → u ≡ s → v ≡ t → r ≡ chosen n s t
-chosen_of n u v s t r e p q = e ∙ ap₂ (chosen n) p q
-
--- Four bit rows of a block give four of the block after two stages.
-module _ (b : List ℕ) (m n k w x y z : ℕ) (l : k < 4) (ew : w ≡ get_or b k 0) (ex : x ≡ get_or b (4 + k) 0) (ey : y ≡ get_or b (8 + k) 0) (ez : z ≡ get_or b (12 + k) 0) where
-  abbrev once : List ℕ
-  once = block (rows_stage m b)
-
-  at_once : (j i t : ℕ) → i < 16 → t ≡ row_word (rows_stage m b) i → i ≡ j → t ≡ get_or once j 0
-  unfolding block
-  at_once j i t li e p = e ∙ sym (get_d_tabulate 16 (row_word (rows_stage m b)) i 0 li) ∙ ap (λ i. get_or once i 0) p
-
-  first : chosen m y w ≡ get_or once (2 * k) 0
-  first = at_once (2 * k) (2 * k) (chosen m y w) (omega arith) (rows_even b k w y (chosen m y w) ew ey m refl) refl
-
-  second : chosen m w y ≡ get_or once (2 * k + 1) 0
-  second = at_once (2 * k + 1) (2 * k + 1) (chosen m w y) (omega arith) (rows_odd b k w y (chosen m w y) ew ey m refl) refl
-
-  ez' : z ≡ get_or b (8 + (4 + k)) 0
-  ez' = ez ∙ ap (λ i. get_or b i 0) (omega arith)
-
-  third : chosen m z x ≡ get_or once (8 + 2 * k) 0
-  third = at_once (8 + 2 * k) (2 * (4 + k)) (chosen m z x) (omega arith) (rows_even b (4 + k) x z (chosen m z x) ex ez' m refl) (omega arith)
-
-  fourth : chosen m x z ≡ get_or once (8 + (2 * k + 1)) 0
-  fourth = at_once (8 + (2 * k + 1)) (2 * (4 + k) + 1) (chosen m x z) (omega arith) (rows_odd b (4 + k) x z (chosen m x z) ex ez' m refl) (omega arith)
-
-  pub four_a : (t : ℕ) → t ≡ chosen n (chosen m z x) (chosen m y w) → t ≡ row_word (rows_stage n (block (rows_stage m b))) (4 * k)
-  four_a t e =
-      rows_even once (2 * k) (chosen m y w) (chosen m z x) t first third n e ∙ ap (row_word (rows_stage n once)) (omega arith)
-
-  pub four_b : (t : ℕ) → t ≡ chosen n (chosen m y w) (chosen m z x) → t ≡ row_word (rows_stage n (block (rows_stage m b))) (4 * k + 1)
-  four_b t e =
-      rows_odd once (2 * k) (chosen m y w) (chosen m z x) t first third n e ∙ ap (row_word (rows_stage n once)) (omega arith)
-
-  pub four_c : (t : ℕ) → t ≡ chosen n (chosen m x z) (chosen m w y) → t ≡ row_word (rows_stage n (block (rows_stage m b))) (4 * k + 2)
-  four_c t e =
-      rows_even once (2 * k + 1) (chosen m w y) (chosen m x z) t second fourth n e ∙ ap (row_word (rows_stage n once)) (omega arith)
-
-  pub four_d : (t : ℕ) → t ≡ chosen n (chosen m w y) (chosen m x z) → t ≡ row_word (rows_stage n (block (rows_stage m b))) (4 * k + 3)
-  four_d t e =
-      rows_odd once (2 * k + 1) (chosen m w y) (chosen m x z) t second fourth n e ∙ ap (row_word (rows_stage n once)) (omega arith)
-
-pub ruleset stage_fours = (fours_none, fours_more, fours_done, four_a, four_b, four_c, four_d)
 
 -- Places that are computed.
 within : (n w z : ℕ) (f : ℕ → ℕ → ℕ) → T (every n (λ i. every w (λ c. ltb (f i c) z))) → (i c : ℕ) → i < n → c < w → f i c < z
@@ -361,13 +295,12 @@ cross_moves : (R w m n : ℕ) (b y : List ℕ) → y ≡ cross_stage R w m n b �
 unfolding cross_stage
 cross_moves R w m n b y e = record { is = e }
 
-pub rows_exchanged_lem : (b u r : List ℕ) → u ≡ block (rows_stage 3855 (block (rows_stage 255 b))) → r ≡ block (rows_stage 21845 (block (rows_stage 13107 u)))
-    → r ≡ rows_exchanged b
+pub rows_exchanged_lem : (b t u v r : List ℕ) → t ≡ block (rows_stage 255 b) → u ≡ block (rows_stage 3855 t) → v ≡ block (rows_stage 13107 u)
+    → r ≡ block (rows_stage 21845 v) → r ≡ rows_exchanged b
 unfolding rows_exchanged own other pick bit_of ◌⊕◌
-rows_exchanged_lem b u r p q =
+rows_exchanged_lem b t u v r p q s w =
     moves_same (λ i c. i ⊕ c) (λ i c. c)
-    (stages_then (stages_then (stages_then (rows_moves 255 b (block (rows_stage 255 b)) refl) (rows_moves 3855 (block (rows_stage 255 b)) u p) tt tt)
-    (rows_moves 13107 u (block (rows_stage 13107 u)) refl) tt tt) (rows_moves 21845 (block (rows_stage 13107 u)) r q) tt tt) tt tt
+    (stages_then (stages_then (stages_then (rows_moves 255 b t p) (rows_moves 3855 t u q) tt tt) (rows_moves 13107 u v s) tt tt) (rows_moves 21845 v r w) tt tt) tt tt
     ∙ block_moved (λ i c. i ⊕ c) (λ i c. c) b
 
 pub columns_exchanged_lem : (b t u v r : List ℕ) → t ≡ block (columns_stage 255 8 b) → u ≡ block (columns_stage 3855 4 t)
@@ -400,4 +333,9 @@ two_transposed_lem b t u v r p q s w =
     moves_same (λ i c. c % 16) (λ i c. c / 16 * 16 + i)
     (stages_then (stages_then (stages_then (cross_moves 8 32 16711935 8 b t p) (cross_moves 8 32 252645135 4 t u q) tt tt) (cross_moves 8 32 858993459 2 u v s) tt tt) (cross_moves 8 32 1431655765 1 v r w) tt tt) tt tt
 
-pub ruleset permuting = (mask8, mask4, mask2, mask1, eight4, eight2, eight1, two8, two4, two2, two1, rows_exchanged_lem, columns_exchanged_lem, block_transposed, eight_transposed_lem, two_transposed_lem)
+pub ruleset the_masks = (mask8, mask4, mask2, mask1, eight4, eight2, eight1, two8, two4, two2, two1)
+
+pub ruleset rows = (rows_even, rows_odd, columns_even, columns_odd, numbered, cross_even, cross_odd)
+
+-- What the crate's functions rest on.
+pub ruleset permuting = (the_masks, rows, as_numbers, rows_exchanged_lem, columns_exchanged_lem, block_transposed, eight_transposed_lem, two_transposed_lem)

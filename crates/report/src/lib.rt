@@ -48,20 +48,15 @@ pub fn print_refusal<R: Print + Eprint>(rt: &R, number: u32) {
 // Prints the numbers of a header, or its refusal.
 pub fn print_header<R: Print + Eprint>(rt: &R, header: Result<Header, Refusal>) {
     match header {
-        Ok(h) => {
-            let (superframes, overhead, frames, total) = (
-                h.superframes,
-                h.overhead,
-                h.frames,
-                h.total,
-            );
-            end(
-                rt,
-                println!(rt;
-                    "superframes {superframes} overhead {overhead} frames {frames} total {total}"
-                ),
-            );
-        }
+        Ok(Header {
+            superframes,
+            overhead,
+            frames,
+            total,
+        }) => end(
+            rt,
+            println!(rt; "superframes {superframes} overhead {overhead} frames {frames} total {total}"),
+        ),
         Err(refusal) => print_refusal(rt, refusal.number()),
     }
 }

@@ -1,31 +1,22 @@
 -- Laws of riffles: as code makes them, and where each number comes from.
 -- Assumes nothing.
-use Rattle.std.specs.Prelude.{◌≡◌, refl, List, ℕ, ◌+◌, ◌*◌, ◌/◌, ◌%◌, ◌<◌, get_or}
-use Rattle.std.proofs.Common.{ap, ◌∙◌, arith}
+use Rattle.std.specs.Prelude.{◌≡◌, refl, List, ℕ, ◌+◌, ◌*◌, ◌/◌, ◌%◌, ◌<◌, get_or, take, drop}
+use Rattle.std.proofs.Common.{ap, ◌∙◌, arith, get_or-take, get_or-drop}
 use Rattle.bits.specs.ListLaws.{get_d_tabulate}
 use Rattle.riffle_core.specs.Riffles.{riffled_number, riffled, by_blocks, by_words}
 
 -- ---- what code makes
 
--- Two numbers of a riffle,
-pub riffle_even : (x : List ℕ) (n v : ℕ) → v ≡ get_or x n 0 → v ≡ riffled_number x (2 * n)
+-- Two numbers of a riffle, of the halves of a row.
+pub riffle_even : (x : List ℕ) (n v : ℕ) → n < 64 → v ≡ get_or (take 64 x) n 0 → v ≡ riffled_number x (2 * n)
 unfolding riffled_number
-riffle_even x n v e = e ∙ ap (λ k. get_or x k 0) (omega arith)
+riffle_even x n v l e = e ∙ get_or-take 64 x n 0 l ∙ ap (λ k. get_or x k 0) (omega arith)
 
-pub riffle_odd : (x : List ℕ) (n v : ℕ) → v ≡ get_or x (64 + n) 0 → v ≡ riffled_number x (2 * n + 1)
+pub riffle_odd : (x : List ℕ) (n v : ℕ) → v ≡ get_or (drop 64 x) n 0 → v ≡ riffled_number x (2 * n + 1)
 unfolding riffled_number
-riffle_odd x n v e = e ∙ ap (λ k. get_or x k 0) (omega arith)
+riffle_odd x n v e = e ∙ get_or-drop 64 x n 0 ∙ ap (λ k. get_or x k 0) (omega arith)
 
--- three riffles, and four.
-pub three_riffles : (x a b c : List ℕ) → c ≡ riffled b → b ≡ riffled a → a ≡ riffled x → c ≡ by_words x
-unfolding by_words
-three_riffles x a b c ec eb ea = ec ∙ ap riffled (eb ∙ ap riffled ea)
-
-pub four_riffles : (x a b c d : List ℕ) → d ≡ riffled c → c ≡ riffled b → b ≡ riffled a → a ≡ riffled x → d ≡ by_blocks x
-unfolding by_blocks
-four_riffles x a b c d ed ec eb ea = ed ∙ ap riffled (ec ∙ ap riffled (eb ∙ ap riffled ea))
-
-pub ruleset riffling = (riffle_even, riffle_odd, three_riffles, four_riffles)
+pub ruleset riffling = (riffle_even, riffle_odd)
 
 -- ---- where a number comes from
 

@@ -5,21 +5,22 @@
 ghost use Rattle.std.specs.Prelude.{◌≡◌};
 ghost use Rattle.riffle_core.specs.Riffles.{riffled, by_blocks, by_words};
 
-// Number after number, one of each half.
+// Number after number, one of each half: so the compiler moves eight at a time, which it does not in a closure that gives number m of the
+// shuffled row.
 fn riffle(x: [u16; 128]) -> [u16; 128]
     ensures { result ≡ riffled x }
 {
     let mut y = [0u16; 128];
-    for n in 0..64 {
-        let i = 2 * n;
-        let j = i + 1;
-        y[i] = x[n];
-        y[j] = x[64 + n];
+    let (first, second) = x.split_at(64);
+    for (n, number) in first.iter().enumerate() {
+        y[2 * n] = *number;
+        y[2 * n + 1] = second[n];
     }
     y
 }
 
 // Number 8r+C comes to place 16C+r.
+#[tactic(auto, unfolding(crate::specs::Riffles::by_blocks))]
 pub fn by_blocks(x: [u16; 128]) -> [u16; 128]
     ensures { result ≡ by_blocks x }
 {
@@ -27,6 +28,7 @@ pub fn by_blocks(x: [u16; 128]) -> [u16; 128]
 }
 
 // Number 16C+r comes to place 8r+C.
+#[tactic(auto, unfolding(crate::specs::Riffles::by_words))]
 pub fn by_words(x: [u16; 128]) -> [u16; 128]
     ensures { result ≡ by_words x }
 {

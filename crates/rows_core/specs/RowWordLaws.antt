@@ -1,18 +1,18 @@
 -- Laws of rows as words: as code reads them, and where each bit stands.
 -- Assumes nothing.
-use Rattle.std.specs.Prelude.{◌≡◌, List, ℕ, ◌+◌, ◌-◌, ◌*◌, ◌/◌, ◌%◌, ◌<◌, ◌≤◌, length, get_or}
-use Rattle.std.proofs.Common.{sym, ap, ◌∙◌, arith}
+use Rattle.std.specs.Prelude.{◌≡◌, List, ℕ, ◌+◌, ◌*◌, ◌/◌, ◌%◌, ◌<◌, get_or}
+use Rattle.std.proofs.Common.{ap, ◌∙◌, arith}
 use Rattle.bits.specs.Bits.{bit, bit_of, from_bits}
-use Rattle.bits.proofs.BitLaws.{bit_lt, bit_of_from_bits, from_bits_ext}
+use Rattle.bits.proofs.BitLaws.{bit_lt, from_bits_ext}
 use Rattle.bits.specs.Lists.{tabulate}
-use Rattle.bits.specs.ListLaws.{length_tabulate, get_d_tabulate, tabulate_ext}
+use Rattle.bits.specs.ListLaws.{get_d_tabulate, tabulate_ext}
 use Rattle.bits.specs.Xor.{◌⊕◌}
 use Rattle.bits.proofs.XorLaws.{⊕_lt}
 use Rattle.bits.specs.Tests.{grid}
 use Rattle.blocks.specs.Block.{bit_at, row_word, block}
 use Rattle.blocks.specs.BlockLaws.{bit_at_lt, bit_at_block_of}
 use Rattle.blocks.specs.Exchanges.{rows_exchanged, columns_exchanged}
-use Rattle.blocks.specs.Laying.{Laid, laid_bit, words_block_lem}
+use Rattle.blocks.specs.Laying.{laid_bit, words_block_lem}
 use Rattle.blocks.specs.Moves.{moved, transposed}
 use Rattle.blocks.specs.MoveLaws.{transposed_bit}
 use Rattle.blocks.specs.SideBySide.{laid_word, laid, read_word, row_block, words_block}
@@ -20,19 +20,7 @@ use Rattle.pair_words_core.specs.Halves.{halves_bit}
 use Rattle.rows_core.specs.RowWords.{row_words, front_block, front_words, fronts_block, fronts_in, backs_block, backs_in, exchanged_number}
 use Rattle.rows_core.specs.RowWords.{coded_half, half_block, turned_rows, columns_block, columns_of}
 
--- ---- as code reads them
-
--- The words of the oldest pair, of which block 0 is the front halves'.
-pub first_block : (h : List ℕ) (from : ℕ) (words : List ℕ) → words ≡ row_words h from → Laid (front_block h from) 1 words
-unfolding row_words front_block laid_word
-first_block h from words e =
-    record { upto = omega arith; long = ap length e ∙ length_tabulate 128 (λ x. read_word h (from + 2 * x)); at = here }
-  where
-    here : (x : ℕ) → x < 128 → x % 8 < 1 → get_or words x 0 ≡ laid_word (front_block h from) x
-    here x l p =
-        let i : from + 2 * x ≡ 514 * (x % 8) + 16 * (x / 8) + from = omega arith in
-        ap (λ u. get_or u x 0) e ∙ get_d_tabulate 128 (λ x. read_word h (from + 2 * x)) x 0 l ∙ ap (read_word h) i
-        ∙ sym (get_d_tabulate 16 (λ i. read_word h (514 * (x % 8) + 16 * i + from)) (x / 8) 0 (omega arith))
+-- ---- block by block
 
 pub fronts_block_lem : (words : List ℕ) (C : ℕ) (b r : List ℕ) → b ≡ words_block words C → r ≡ rows_exchanged b → r ≡ fronts_block words C
 unfolding fronts_block
@@ -119,10 +107,6 @@ halves_row p s words row e q =
         ∙ rw (d, m) (from_bits_ext 16 (λ c. bit p (8 * (256 * s + 2 * (8 * (i / 8) + i % 8)) + ((c ⊕ (i / 8)) + 8) % 16))
         (λ c. bit p (16 * (s * 128 + i) + (((c + 8) % 16) ⊕ (i / 8))))
         (λ c lc. ap (λ k. bit p k % 2) (omega (arith, turned_exchanged (i / 8) c (omega arith) lc))))
-
-pub half_copied : (p : List ℕ) (s i : ℕ) (from : List ℕ) → from ≡ tabulate 128 (λ i. coded_half p (s * 128 + i)) → i < 128
-    → get_or from i 0 ≡ coded_half p (s * 128 + i)
-half_copied p s i from e l = ap (λ u. get_or u i 0) e ∙ get_d_tabulate 128 (λ i. coded_half p (s * 128 + i)) i 0 l
 
 -- Number by number.
 pub exchanged_at : (words : List ℕ) (x : ℕ) → x < 128 → get_or (backs_in words) x 0 ≡ exchanged_number words x

@@ -27,8 +27,5 @@ pub fn gather_row(history: &[u8], halves: &[u16; 256], pair: u32, s: usize) -> R
     let odd = lanes::row_parities(&x, &y);
     y[127] = 0;
     let sums = lanes::by_eight(&x, &y);
-    RowChecks {
-        sums: sums,
-        odd: odd,
-    }
+    RowChecks { sums, odd }
 }

@@ -1,7 +1,7 @@
 -- A fold by exclusive or over the places 0 to n - 1.
 -- Assumes nothing.
-use Rattle.std.specs.Prelude.{◌≡◌, refl, List, [], ◌∷◌, ◌++◌, fold, ℕ, zero, suc, ◌+◌, ◌-◌}
-use Rattle.std.proofs.Common.{ap, sym, ◌∙◌, arith}
+use Rattle.std.specs.Prelude.{◌≡◌, refl, List, fold, ℕ, ◌-◌, get_or}
+use Rattle.std.proofs.Common.{ap, sym, ◌∙◌, arith, zero-add}
 use Rattle.std.specs.Fn.{Called}
 use Rattle.std.specs.Iterator.{Drains}
 use Rattle.std.specs.List.{range_with_len, FoldsTo}
@@ -9,21 +9,15 @@ use Rattle.std.proofs.iter.Yields.{nat_range_steps, Range-gives}
 use Rattle.std.proofs.lemmas.Fn.{fold_over}
 use Rattle.std.proofs.lemmas.List.Sums.{fold_push}
 use denote.Param.Members.{Mut}
+use Rattle.std.proofs.lemmas.List.FromFn.{length-range_with_len, get_or-range_with_len}
 use Rattle.bits.specs.Xor.{◌⊕◌, xor_sum}
-
-one_more : (a n : ℕ) → range_with_len a (suc n) ≡ range_with_len a n ++ ((a + n) ∷ [])
-one_more a zero = let e : a ≡ a + 0 = omega arith in ap (λ (k : ℕ). k ∷ []) e
-one_more a (suc n) =
-    let e : a + 1 + n ≡ a + suc n = omega arith in
-    ap (λ l. a ∷ l) (one_more (a + 1) n ∙ ap (λ (k : ℕ). range_with_len (a + 1) n ++ (k ∷ [])) e)
+use Rattle.bits.proofs.XorLaws.{xor_sum_ext}
+use Rattle.bits.proofs.Folding.{sum_from_fold}
 
 xor_fold : (h : ℕ → ℕ) (n : ℕ) → fold (λ a k. a ⊕ h k) 0 (range_with_len 0 n) ≡ xor_sum n h
-unfolding xor_sum
-xor_fold h zero = refl
-xor_fold h (suc n) =
-    let e : 0 + n ≡ n = omega arith in
-    ap (fold (λ a k. a ⊕ h k) 0) (one_more 0 n ∙ ap (λ (k : ℕ). range_with_len 0 n ++ (k ∷ [])) e)
-    ∙ fold_push (λ a k. a ⊕ h k) 0 (range_with_len 0 n) n ∙ ap (λ a. a ⊕ h n) (xor_fold h n)
+xor_fold h n =
+    sum_from_fold h (range_with_len 0 n) 0 ∙ ap (λ m. xor_sum m (λ i. h (get_or (range_with_len 0 n) i 0))) (length-range_with_len 0 n)
+    ∙ xor_sum_ext n (λ i. h (get_or (range_with_len 0 n) i 0)) h (λ i l. ap h (get_or-range_with_len 0 n i 0 l ∙ zero-add i))
 
 -- Where each call of the closure adds what h gives for the place.
 pub folded_xor : {F : Type 0} {g : Mut F (ℕ × (ℕ × Unit {0})) ℕ} {f : F} {r : ℕ} (n : ℕ) (h : ℕ → ℕ)

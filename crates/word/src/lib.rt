@@ -48,6 +48,7 @@ fn repair_in_place(w: &mut [u8], v: u32, front: bool) -> Repair
 }
 
 // The number of a repair: its flips, or 3 for lost. (A `From` would have to stand in `word_spec`, whose two types have no functions.)
+#[tactic(auto, using(word_spec::proofs::CallLaws::marking))]
 pub fn mark_of(r: Repair) -> u8
     ensures { (result ≡ mark r) × (result < 4) }
 {
@@ -60,6 +61,7 @@ pub fn mark_of(r: Repair) -> u8
 }
 
 // Repairs a lent word in place: the number of flips, 0 to 2; or 3, and the word is lost and unaltered.
+#[tactic(auto, using(calls::proofs::CallLaws::cases, word_spec::proofs::CallLaws::repair_done))]
 pub fn repair_word(word: &mut [u8], front: bool) -> Answer
     ensures { after result word.new ≡ repair_call word.old front }
 {

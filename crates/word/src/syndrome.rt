@@ -6,6 +6,7 @@ ghost use Rattle.word_spec.specs.Checks.{tail};
 use word_spec::Syndromes;
 
 // The element of GF(256) that stands for a place.
+#[tactic(auto, using(word_spec::proofs::SyndromeLaws::locator_entry, word_spec::proofs::SyndromeLaws::locator_end))]
 fn locator(k: usize) -> u8
     requires { k < 256 }
     ensures { result ≡ locator k }

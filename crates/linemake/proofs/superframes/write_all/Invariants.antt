@@ -1,8 +1,6 @@
--- The histories are those of both encoders before the super-frame.
-use Rattle.pair_spec.specs.Front.{BothBefore}
-use Rattle.cells_spec.specs.Modulation.{pairs_in}
-use Rattle.profiles_spec.specs.Profiles.{modulation}
+-- Each super-frame has at most 168 pairs of each encoder.
+use Rattle.std.proofs.Common.{◌*◌, ◌≤◌}
 use Rattle.linemake.proofs.superframes.write_all.Given as goal
 
 abbrev pub invariant-loop-q : goal.invariant-loop-q
-invariant-loop-q g l = BothBefore (pairs_in (modulation l.profile) l.q) l.history0 l.history1
+invariant-loop-q g l = (l.encoders.first.next ≤ l.q * 168) × (l.encoders.second.next ≤ l.q * 168)

@@ -1,0 +1,3 @@
+-- Laws for the code.
+pub mod Bytes
+pub mod Joined
