@@ -60,7 +60,29 @@ fn transmit(
     superframe::take_apart(profile, &frames, list, coded0, coded1).unwrap_or(0)
 }
 
-// The pairs of an encoder that come off the line in super-frame q, and the number of overhead cells that differ.
+// The pairs of an encoder that come off the line in super-frame q, and the number of overhead cells that differ; the other encoder's pairs
+// are lent room.
+fn carry_both(
+    profile: Profile,
+    encoder: Encoder,
+    q: usize,
+    list: &OverheadList,
+    own: &mut [u8],
+    other: &mut [u8],
+) -> u32
+    requires { (q < superframes_of (modulation profile)) × Legal overhead_rule list.now × (length own.old ≡ (modulation profile).bits * 10752) × (length other.old ≡ (modulation profile).bits * 10752) }
+    ensures { (result ≡ differing_all (line_in profile list.now q) list.now) × (own.new ≡ pairs_off profile (line_in profile list.now q) encoder.number) }
+{
+    encode_part(profile, encoder, q, own);
+    encode_part(profile, encoder.other(), q, other);
+    if encoder.number == 0 {
+        transmit(profile, q, list, own, other)
+    } else {
+        transmit(profile, q, list, other, own)
+    }
+}
+
+// The same with the room: all of it in 16-QAM, half of it in QPSK.
 fn carry_next(
     profile: Profile,
     encoder: Encoder,
@@ -71,17 +93,9 @@ fn carry_next(
     requires { (q < superframes_of (modulation profile)) × Legal overhead_rule list.now × (length pairs.old ≡ (modulation profile).bits * 10752) }
     ensures { (result ≡ differing_all (line_in profile list.now q) list.now) × (pairs.new ≡ pairs_off profile (line_in profile list.now q) encoder.number) }
 {
-    // Room for the other encoder's pairs in a super-frame: they need all of it in 16-QAM, half of it in QPSK.
     let mut room = [0; 86016];
     let n = pairs.len();
-    let other = &mut room[..n];
-    encode_part(profile, encoder, q, pairs);
-    encode_part(profile, encoder.other(), q, other);
-    if encoder.number == 0 {
-        transmit(profile, q, list, pairs, other)
-    } else {
-        transmit(profile, q, list, other, pairs)
-    }
+    carry_both(profile, encoder, q, list, pairs, &mut room[0..n])
 }
 
 // Carries the super-frames of a run.

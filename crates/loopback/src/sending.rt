@@ -80,7 +80,8 @@ pub fn encode_again(encoder: Encoder, coded: &mut Coded)
     encode_both(encoder, coded, &mut [0; 41]);
 }
 
-// those of super-frame q alone;
+// those of super-frame q alone, not compiled into its caller, which would then hold its array all along;
+#[inline(never)]
 pub fn encode_part(profile: Profile, encoder: Encoder, q: usize, pairs: &mut [u8])
     requires { (q < superframes_of (modulation profile)) × (length pairs.old ≡ (modulation profile).bits * 10752) }
     ensures { pairs.new ≡ sent_part profile encoder.number q }

@@ -10,7 +10,7 @@ pub overflow_add-a : goal.overflow_add-a
 overflow_add-a c = part_end_fits _ _ _ c.requires.0 c.requires.1
 
 pub slice_bounds-copy_from_slice-end : goal.slice_bounds-copy_from_slice-end
-slice_bounds-copy_from_slice-end c = ?
+slice_bounds-copy_from_slice-end c = part_inside _ _ _ c.requires.0 c.requires.1 (length c.encode_again.new.coded) c.encode_again.array_long
 
 pub copy_from_slice-requires : goal.copy_from_slice-requires
 copy_from_slice-requires c = part_whole _ _ _ c.requires.0 c.requires.1 _ _ _ c.encode_again.array_long refl refl
