@@ -10,7 +10,7 @@ use crate::rows::{block_row_of, pairs_byte};
 use bits::parts::fill_parts;
 use block_core::block::reorder;
 use blocks::laying::laid_by;
-use blocks::{block_in, read_word};
+use blocks::{block_in, lay, read_word};
 use interleaver_spec::{BitRow, BlockRow, SubsetBitRow};
 use std::array;
 
@@ -28,20 +28,22 @@ fn sent_words(pairs0: &[u8], pairs1: &[u8], k: BlockRow) -> [u16; 128]
     requires { (length pairs0.now ≡ 10752) × (length pairs1.now ≡ 10752) × (k.0 < 84) }
     ensures { result ≡ sent_words pairs0.now pairs1.now k }
 {
-    let pairs = if k.0 % 2 == 0 { pairs0 } else { pairs1 };
-    pairs_words(pairs, k)
+    if k.0 % 2 == 0 {
+        return pairs_words(pairs0, k);
+    }
+    pairs_words(pairs1, k)
 }
 
-// The reordered blocks of a block row, by columns.
+// The reordered blocks of a block row, by columns. (By `laid_by`, with the four below by `array::from_fn` and copies, `reordered_rows`
+// takes three times as long.)
 fn reordered_row(words: &[u16; 128]) -> [u16; 128]
     ensures { result ≡ laid (reordered_in words.now) }
 {
-    laid_by(
-        |block| -> [u16; 16]
-            requires { block < 8 }
-            ensures { result ≡ reordered_in words.entry.now block }
-        { reorder(block_in(words, block)) },
-    )
+    let mut row = [0u16; 128];
+    for block in 0..8 {
+        lay(&mut row, block, reorder(block_in(words, block)));
+    }
+    row
 }
 
 // The block rows in which bit rows 16x to 16x+15 of the four subsets stand, reordered.
@@ -49,15 +51,13 @@ fn subset_rows(pairs0: &[u8], pairs1: &[u8], x: usize) -> [[u16; 128]; 4]
     requires { (length pairs0.now ≡ 10752) × (length pairs1.now ≡ 10752) × (x < 21) }
     ensures { result ≡ tabulate 4 (subset_row_at pairs0.now pairs1.now x) }
 {
-    array::from_fn(
-        |subset| -> [u16; 128]
-            requires { (length pairs0.now ≡ 10752) × (length pairs1.now ≡ 10752) × (x < 21) × (subset < 4) }
-            ensures { result ≡ subset_row_at pairs0.entry.now pairs1.entry.now x subset }
-        {
-            let k = block_row_of(subset, SubsetBitRow(16 * x));
-            reordered_row(&sent_words(pairs0, pairs1, k))
-        },
-    )
+    let none = [0u16; 128];
+    let mut rows = [none; 4];
+    for subset in 0..4 {
+        let words = sent_words(pairs0, pairs1, block_row_of(subset, SubsetBitRow(16 * x)));
+        rows[subset] = reordered_row(&words);
+    }
+    rows
 }
 
 // Puts all block rows, reordered, those of the four subsets side by side. Not compiled into its callers: its own arrays would then need
@@ -67,8 +67,9 @@ fn put_rows(pairs0: &[u8], pairs1: &[u8], rows: &mut [[u16; 512]; 21])
     requires { (length pairs0.now ≡ 10752) × (length pairs1.now ≡ 10752) }
     ensures { rows.new ≡ tabulate 21 (joined_row pairs0.now pairs1.now) }
 {
-    for (x, row) in rows.iter_mut().enumerate() {
-        *row = side_by_side(&subset_rows(pairs0, pairs1, x));
+    for x in 0..21 {
+        let four = subset_rows(pairs0, pairs1, x);
+        rows[x] = side_by_side(&four);
     }
 }
 

@@ -2,6 +2,9 @@
 // `interleaver_core`, the calls in `interleaver`. Each block row has 16 bit rows, and a number of one never serves as the other.
 #![tactic(auto)]
 
+// The three bounds stand in the contracts and not in the types: the definitions of specs/ make a row of any number, and a ghost field
+// would change what they mean.
+
 // A block row of the buffer, 0 to 83.
 #[derive(Clone, Copy)]
 pub struct BlockRow(pub usize);

@@ -18,17 +18,14 @@ pub fn level(a: u8, b: u8) -> i8
     requires { (a < 2) × (b < 2) }
     ensures { (result ≡ level a b) × Level result }
 {
-    LEVELS[(a * 2 + b) as usize]
+    LEVELS[usize::from(a * 2 + b)]
 }
 
 // The level of a bit.
 pub fn bit_level(b: u8) -> i8
     ensures { (result ≡ bit_level b) × Level result }
 {
-    if b == 0 {
-        return -1;
-    }
-    1
+    if b == 0 { -1 } else { 1 }
 }
 
 // (l + 3) / 2 of a level l.
@@ -52,5 +49,5 @@ pub fn bit_pair(k: u8) -> u8
     requires { k < 4 }
     ensures { (result / 2 ≡ first_bit (level_at k)) × (result % 2 ≡ second_bit (level_at k)) × (result < 4) }
 {
-    PAIRS[k as usize]
+    PAIRS[usize::from(k)]
 }
