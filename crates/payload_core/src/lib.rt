@@ -31,14 +31,17 @@ fn row_by_blocks(halves: &[u16; 256], s: usize) -> [u16; 128]
     by_blocks(row_of_halves(halves, s))
 }
 
-// Block C of a row by blocks, two bytes a number, the lower byte first, as they lie in memory. (`blocks::write_words` writes a whole row.)
+// Block C of a row by blocks, two bytes a number, the lower byte first, as they lie in memory. (`blocks::write_words` writes a whole row; two
+// bytes a part of `fill_parts` take a seventh longer for the whole payload.)
 fn put_half(row: &[u16; 128], block: usize, out: &mut [u8])
     requires { (length out.old ≡ 32) × (block < 6) }
     ensures { out.new ≡ tabulate 32 (half_byte row.now block) }
 {
-    fill_parts(out, 2, |r, bytes| {
-        bytes.copy_from_slice(&row[16 * block + r].to_le_bytes())
-    });
+    for r in 0..16 {
+        let x = row[16 * block + r];
+        out[2 * r] = (x % 256) as u8;
+        out[2 * r + 1] = (x / 256) as u8;
+    }
 }
 
 // Block C of both rows.

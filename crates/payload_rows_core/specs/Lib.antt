@@ -1,2 +1,3 @@
 pub mod PayloadRows
+pub mod FourFronts
 pub mod PayloadRowLaws

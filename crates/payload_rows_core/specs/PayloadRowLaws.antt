@@ -1,6 +1,6 @@
 -- The numbers of a row as code makes them of the payload: six blocks, block 6 and zeros, and then all by words.
 -- Assumes nothing.
-use Rattle.std.specs.Prelude.{◌≡◌, refl, List, ℕ, ◌+◌, ◌-◌, ◌*◌, ◌/◌, ◌%◌, ◌^◌, ◌<◌, ◌≤◌, length, get_or, take, drop, replicate}
+use Rattle.std.specs.Prelude.{◌≡◌, refl, List, ℕ, ◌+◌, ◌-◌, ◌*◌, ◌/◌, ◌%◌, ◌^◌, ◌<◌, ◌≤◌, length, get_or, set, take, drop, replicate}
 use Rattle.std.proofs.Common.{sym, ap, ap₂, ◌∙◌, arith, get_or-drop}
 use Rattle.std.proofs.Math.Nat.{mul-mod_left}
 use Rattle.std.proofs.Math.Decide.{dec_lt}
@@ -22,6 +22,7 @@ use Rattle.payload_core.specs.NumberBits.{behind, behind_split}
 use Rattle.riffle_core.specs.Riffles.{by_words, riffled, riffled_number}
 use Rattle.riffle_core.specs.RiffleLaws.{by_words_at}
 use Rattle.payload_rows_core.specs.PayloadRows.{open_number, row_number, fifteen_of, last_number}
+use Rattle.payload_rows_core.specs.FourFronts.{FourFronts, fronts_none, fronts_more, fronts_done}
 
 -- A part of a buffer, number by number.
 part_tabulate : (a n : ℕ) (s : List ℕ) → a + n ≤ length s → take n (drop a s) ≡ tabulate n (λ k. get_or s (a + k) 0)
@@ -159,15 +160,16 @@ end_copied y d ys l e p =
     fill_part 16 ys (fill_none (λ k. get_or y (428 + k) 0) 18 d e) (omega arith)
     (p ∙ part_tabulate 428 16 y (omega arith) ∙ tabulate_ext 16 _ (λ k. get_or y (428 + (0 + k)) 0) (λ k l. ap (λ n. get_or y (428 + n) 0) (omega arith)))
 
--- Eight words whose last bits lie within the payload, and the last eight.
-pub group_of : (y : List ℕ) (g : ℕ) (ys : List ℕ) → ys ≡ tabulate 8 (λ n. fifteen_of y (8 * (383 + 15 * g) + 8 + 15 * n))
-    → ys ≡ tabulate 8 (λ n. last_number y (g * 8 + n))
-group_of y g ys e = e ∙ tabulate_ext 8 _ _ (λ n l. last_of y (g * 8 + n) _ _ refl (omega arith))
+-- Word n of each of the four groups.
+pub lasts_more : (y s d : List ℕ) (n a b c e : ℕ) → FourFronts (last_number y) n d → n < 8 → Filling (λ k. get_or y (428 + k) 0) 18 16 s
+    → a ≡ fifteen_of y (8 * 383 + 8 + 15 * n) → b ≡ fifteen_of y (8 * 398 + 8 + 15 * n) → c ≡ fifteen_of y (8 * 413 + 8 + 15 * n)
+    → e ≡ fifteen_of s (8 * 0 + 8 + 15 * n)
+    → FourFronts (last_number y) (n + 1) (set (set (set (set d n a) (8 + n) b) (16 + n) c) (24 + n) e)
+lasts_more y s d n a b c e h l hs p q r z =
+    fronts_more h l a b c e (last_of y n _ a p (omega arith)) (last_of y (8 + n) _ b q (omega arith)) (last_of y (16 + n) _ c r (omega arith))
+    (last_of y (24 + n) _ e (end_of y s _ e hs (omega arith) z) (omega arith))
 
-pub last_group : (y s ys : List ℕ) (g : ℕ) → g ≡ 3 → Filling (λ k. get_or y (428 + k) 0) 18 16 s
-    → ys ≡ tabulate 8 (λ n. fifteen_of s (8 * 0 + 8 + 15 * n)) → ys ≡ tabulate 8 (λ n. last_number y (g * 8 + n))
-last_group y s ys g p h e =
-    e ∙ tabulate_ext 8 _ _ (λ n l. last_of y (g * 8 + n) _ _ (end_of y s _ _ h (omega arith) refl) (omega arith))
+pub ruleset lastwise = (fronts_none, lasts_more, fronts_done)
 
 -- ---- a row
 

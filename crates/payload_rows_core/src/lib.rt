@@ -52,35 +52,20 @@ fn fifteen(bytes: &[u8], at: usize, n: usize) -> u16
     turn((z >> 1) << 1, 8)
 }
 
-// Eight words whose fifteen bytes begin behind byte `at`.
-fn eight(bytes: &[u8], at: usize) -> [u16; 8]
-    requires { at + 18 ≤ length bytes.now }
-    ensures { result ≡ tabulate 8 (λ n. fifteen_of bytes.now (8 * at + 8 + 15 * n)) }
-{
-    array::from_fn(|n| fifteen(bytes, at, n))
-}
-
-// Block 6 of eight words.
-fn group(payload: &[u8], g: usize) -> [u16; 8]
-    requires { (length payload.now ≡ 444) × (g < 4) }
-    ensures { result ≡ tabulate 8 (λ n. last_number payload.now (g * 8 + n)) }
-{
-    if g < 3 {
-        eight(payload, 383 + 15 * g)
-    } else {
-        eight(&end_of(payload), 0)
-    }
-}
-
-// Block 6 of all words.
+// Block 6 of all words, eight words a group. A turn makes word n of each of the four groups: so the compiler makes the eight turns
+// one. (A group at a time by `array::from_fn` takes half as long again for the whole payload.)
 fn lasts(payload: &[u8]) -> [u16; 32]
     requires { length payload.now ≡ 444 }
     ensures { result ≡ tabulate 32 (last_number payload.now) }
 {
+    let end = end_of(payload);
     let mut out = [0u16; 32];
-    fill_parts(&mut out, 8, |g, part| {
-        part.copy_from_slice(&group(payload, g))
-    });
+    for n in 0..8 {
+        out[n] = fifteen(payload, 383, n);
+        out[8 + n] = fifteen(payload, 398, n);
+        out[16 + n] = fifteen(payload, 413, n);
+        out[24 + n] = fifteen(&end, 0, n);
+    }
     out
 }
 
