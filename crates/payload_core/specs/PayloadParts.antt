@@ -1,10 +1,9 @@
 -- The payload in parts as the code makes it from numbers of sixteen bits: 16 bits of each word for each of six blocks, then 15 bits of each
 -- word.
 -- Assumes nothing.
-use Rattle.std.specs.Prelude.{◌≡◌, List, ◌∷◌, ℕ, zero, suc, ◌+◌, ◌-◌, ◌*◌, ◌/◌, ◌%◌, ◌^◌, ◌<◌, length, get_or}
+use Rattle.std.specs.Prelude.{◌≡◌, List, ℕ, zero, suc, ◌+◌, ◌-◌, ◌*◌, ◌/◌, ◌%◌, ◌^◌, ◌<◌, length, get_or}
 use Rattle.std.proofs.Math.Path.{refl, ap}
 use Rattle.std.proofs.Common.{sym, ap₂, ◌∙◌, arith, shr-shr}
-use Rattle.std.specs.Int.{w64, to_be_bytes}
 use borrow.Rule.Slice.PartMut.{put_mid}
 use Rattle.bits.specs.Bits.{bit_of, byte_of, from_bits, pack}
 use Rattle.bits.proofs.BitLaws.{from_bits_lt, from_bits_ext, from_bits_bit_of}
@@ -98,15 +97,9 @@ fifteen_is s w v x r h t e l =
 pub fifteen_of_lem : (f : ℕ → ℕ) (w i x : ℕ) → x ≡ from_bits 15 (behind ((w + i) * 15) f) → x ≡ from_bits 15 (behind (i * 15) (behind (w * 15) f))
 fifteen_of_lem f w i x e = behind_both 15 (i * 15) (w * 15) ((w + i) * 15) x f (omega arith) e
 
--- The eight bytes of a number.
-pub be_bytes_pack : (v : ℕ) (ys : List ℕ) → v < 2 ^ 64 → ys ≡ to_be_bytes w64 v → ys ≡ pack 8 (bit_of 64 v)
-unfolding pack tabulate
-be_bytes_pack v ys l e =
-    e ∙ ap₂ ◌∷◌ (at 0 56 refl) (ap₂ ◌∷◌ (at 1 48 refl) (ap₂ ◌∷◌ (at 2 40 refl) (ap₂ ◌∷◌ (at 3 32 refl)
-    (ap₂ ◌∷◌ (at 4 24 refl) (ap₂ ◌∷◌ (at 5 16 refl) (ap₂ ◌∷◌ (at 6 8 refl) (ap₂ ◌∷◌ (omega (arith, at 7 0 refl)) refl)))))))
-  where
-    at : (j r : ℕ) → j * 8 + 8 + r ≡ 64 → v / 2 ^ r % 256 ≡ byte_of (bit_of 64 v) j
-    at j r e = byte_of_number 64 v j r l e
+-- Byte j of eight.
+pub byte_of_64 : (v j : ℕ) → v < 2 ^ 64 → j < 8 → v / 2 ^ (56 - 8 * j) % 256 ≡ byte_of (bit_of 64 v) j
+byte_of_64 v j l lj = byte_of_number 64 v j (56 - 8 * j) l (omega arith)
 
 -- Two numbers of 60 bits as two of 64 that share eight.
 module _ (f : ℕ → ℕ) (a b : ℕ) (p : a ≡ from_bits 60 f) (q : b ≡ from_bits 60 (behind 60 f)) where

@@ -1,9 +1,10 @@
 -- The numbers of a row of halves in order by blocks, and the bytes that they give.
 -- Assumes nothing.
-use Rattle.std.specs.Prelude.{◌≡◌, refl, List, ℕ, zero, suc, ◌+◌, ◌*◌, ◌/◌, ◌%◌, ◌^◌, ◌<◌, length, get_or}
-use Rattle.std.proofs.Common.{ap, ◌∙◌}
+use Rattle.std.specs.Prelude.{◌≡◌, refl, List, [], ◌∷◌, ℕ, zero, suc, ◌+◌, ◌*◌, ◌/◌, ◌%◌, ◌^◌, ◌<◌, length, get_or}
+use Rattle.std.proofs.Common.{ap, ap₂, ◌∙◌}
 use native.Mathlib.Omega.{arith}
 use borrow.Rule.Slice.PartMut.{put_mid}
+use Rattle.std.specs.Int.{w16, to_le_bytes}
 use Rattle.bits.specs.Lists.{tabulate}
 use Rattle.bits.specs.ListLaws.{get_d_tabulate, tabulate_ext}
 use Rattle.riffle_core.specs.Riffles.{by_blocks}
@@ -43,20 +44,15 @@ unfolding row_by_blocks
 by_blocks_made halves s x r e p = e ∙ ap by_blocks p
 
 -- the two bytes of a number,
-module _ (row : List ℕ) (c r x : ℕ) (e : x ≡ get_or row (16 * c + r) 0) where
-  pub half_lower : x % 256 ≡ half_byte row c (2 * r)
-  unfolding half_byte
-  half_lower =
-      let d : 2 * r / 2 ≡ r = omega arith in
-      let m : 2 * r % 2 ≡ 0 = omega arith in
-      rw (d, m, e) (omega arith)
-
-  pub half_upper : x < 2 ^ 16 → x / 256 ≡ half_byte row c (2 * r + 1)
-  unfolding half_byte
-  half_upper l =
-      let d : (2 * r + 1) / 2 ≡ r = omega arith in
-      let m : (2 * r + 1) % 2 ≡ 1 = omega arith in
-      rw (d, m) (omega arith)
+pub half_part : (row : List ℕ) (c r : ℕ) (ys : List ℕ) → ys ≡ to_le_bytes w16 (get_or row (16 * c + r) 0)
+    → ys ≡ tabulate 2 (λ i. half_byte row c (r * 2 + i))
+unfolding half_byte tabulate
+half_part row c r ys e =
+    let a : (r * 2 + 0) / 2 ≡ r = omega arith in
+    let b : (r * 2 + 0) % 2 ≡ 0 = omega arith in
+    let d : (r * 2 + 1) / 2 ≡ r = omega arith in
+    let f : (r * 2 + 1) % 2 ≡ 1 = omega arith in
+    e ∙ rw (a, b, d, f) (ap₂ (λ x y. x ∷ y ∷ []) (omega arith) (omega arith))
 
 -- the bytes of two rows,
 pub both_halves : (first second : List ℕ) (c : ℕ) (d ys zs : List ℕ) → length d ≡ 64 → ys ≡ tabulate 32 (half_byte first c)

@@ -3,7 +3,7 @@
 #![tactic(auto)]
 
 ghost use Rattle.std.specs.Prelude.{◌≡◌, ◌+◌, ◌*◌, ◌^◌, ◌<◌, ◌≤◌, length};
-ghost use Rattle.bits.specs.Bits.{from_bits, pack};
+ghost use Rattle.bits.specs.Bits.{bit_of, from_bits, pack};
 ghost use Rattle.bits.specs.Lists.{tabulate};
 ghost use Rattle.pair_words_core.specs.Halves.{payload_in};
 ghost use Rattle.payload_core.specs.NumberBits.{behind};
@@ -31,17 +31,14 @@ fn row_by_blocks(halves: &[u16; 256], s: usize) -> [u16; 128]
     by_blocks(row_of_halves(halves, s))
 }
 
-// Block C of a row by blocks, two bytes a number, the lower byte first, as they lie in memory. (`blocks::write_words` writes a whole row; two
-// bytes a part of `fill_parts` take a seventh longer for the whole payload.)
+// Block C of a row by blocks, two bytes a number, the lower byte first, as they lie in memory. (`blocks::write_words` writes a whole row.)
 fn put_half(row: &[u16; 128], block: usize, out: &mut [u8])
     requires { (length out.old ≡ 32) × (block < 6) }
     ensures { out.new ≡ tabulate 32 (half_byte row.now block) }
 {
-    for r in 0..16 {
-        let x = row[16 * block + r];
-        out[2 * r] = (x % 256) as u8;
-        out[2 * r + 1] = (x / 256) as u8;
-    }
+    fill_parts(out, 2, |r, bytes| {
+        bytes.copy_from_slice(&row[16 * block + r].to_le_bytes())
+    });
 }
 
 // Block C of both rows.
@@ -81,6 +78,13 @@ fn last_sixty(halves: &[u16; 256], w: usize) -> u64
     v
 }
 
+// The eight bytes of a number. (`to_be_bytes` takes an eighth longer for the whole payload.)
+fn number_bytes(v: u64) -> [u8; 8]
+    ensures { result ≡ pack 8 (bit_of 64 v) }
+{
+    array::from_fn(|j| ((v >> (56 - 8 * j)) % 256) as u8)
+}
+
 // The last payload bits of eight words, fifteen bytes, as two numbers of eight bytes that share the byte in the middle.
 fn put_fifteen(halves: &[u16; 256], group: usize, out: &mut [u8])
     requires { (length out.old ≡ 15) × (group < 4) }
@@ -88,8 +92,8 @@ fn put_fifteen(halves: &[u16; 256], group: usize, out: &mut [u8])
 {
     let first = last_sixty(halves, group * 8);
     let second = last_sixty(halves, group * 8 + 4);
-    out[0..8].copy_from_slice(&(first * 16 + (second >> 56)).to_be_bytes());
-    out[7..15].copy_from_slice(&(first % 16 * (1 << 60) + second).to_be_bytes());
+    out[0..8].copy_from_slice(&number_bytes(first * 16 + (second >> 56)));
+    out[7..15].copy_from_slice(&number_bytes(first % 16 * (1 << 60) + second));
 }
 
 // The last payload bits of all words.
