@@ -1,6 +1,6 @@
 -- Laws of the line: frames of coded pairs are legal, damaged too, so that they are taken apart; super-frame by super-frame.
 -- Assumes nothing.
-use Rattle.std.specs.Prelude.{◌≡◌, ◌≢◌}
+use Rattle.std.specs.Prelude.{◌≡◌}
 use Rattle.std.proofs.Math.Path.{refl, ap, ap₂}
 use Rattle.std.proofs.Common.{sym, subst, ◌∙◌, Fits}
 use mathlib.Core.List.{List}

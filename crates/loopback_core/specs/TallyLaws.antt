@@ -1,14 +1,14 @@
 -- Laws of counters, and of the kinds.
 -- Assumes nothing.
-use Rattle.std.specs.Prelude.{◌≡◌, ℕ, zero, suc, ◌+◌, ◌*◌, ◌%◌, ◌^◌, ◌<◌, ◌≤◌, Bool, cond, not, true, false, min, ◌≢◌, List, length, set, ◌==◌, nat_lt, slice_index, slice_index_or, slice_set, refl}
-use Rattle.std.proofs.Common.{sym, ap₂, add-one, ◌∙◌, add-zero, arith, eq-eqb, ne_eqb, lt-ltb, le-ltb, length-set, get_or-set_same, get_or-set_other, Fits}
+use Rattle.std.specs.Prelude.{◌≡◌, ℕ, zero, suc, ◌+◌, ◌*◌, ◌%◌, ◌^◌, ◌<◌, ◌≤◌, Bool, cond, not, true, false, min, List, length, set, ◌==◌, nat_lt, slice_index, slice_index_or, slice_set, refl}
+use Rattle.std.proofs.Common.{sym, ◌∙◌, add-zero, arith, eq-eqb, ne_eqb, length-set, get_or-set_same, get_or-set_other, Fits}
 use Rattle.std.proofs.Math.Path.{ap}
 use Rattle.std.proofs.Math.Decide.{ℕ_discrete}
 use Rattle.std.specs.Int.{from_bool, w64}
 use Rattle.std.proofs.lemmas.Bool.Decides.{nat_tests}
 use Rattle.bits.specs.Bits.{bit}
 use Rattle.bits.specs.Count.{count, differs, distance}
-use Rattle.bits.proofs.CountLaws.{count_le, differs_le, differs_same, differs_other}
+use Rattle.bits.proofs.CountLaws.{count_le, differs_le}
 use Rattle.bits.proofs.Folding.{Counting, count_done}
 use Rattle.calls.specs.Answers.{Answer}
 use Rattle.std.specs.Prelude.{Err}

@@ -30,7 +30,7 @@ fn distance(a: &Word, b: &Word) -> usize
     n
 }
 
-// 1 for the mark of a lost word.
+// 1 for the mark of a lost word: a number, as `lost_in` is, since the kinds are counted on by it.
 pub fn lost(mark: u8) -> usize
     ensures { (result ≡ lost_in mark) × (result < 2) }
 {

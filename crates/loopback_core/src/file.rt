@@ -35,6 +35,7 @@ fn read_frame(file: &[u8], s: u32, frame: &mut [u8])
     requires { length frame.old ≡ 7424 }
     ensures { frame.new ≡ taken_when (read_refusal_in (open_call file.now) 0 s) (read_part_in (open_call file.now) 0 s) frame.old }
 {
+    // By the companion's number, 0 for none: `read_refusal_in`, by which it is defined, is that of the C interface.
     if line_file::refusal_of_frame(file, 0, s) == 0 {
         frame.copy_from_slice(line_file::frame_of(file, 0, s));
     }

@@ -8,7 +8,6 @@ use Rattle.std.proofs.Math.ListN.{length}
 use Rattle.std.specs.Int.{w64}
 use Rattle.bits.proofs.DigitLaws.{digit_lt}
 use Rattle.bits.specs.Count.{count}
-use Rattle.bits.specs.Filling.{Blocks, blocks_none, blocks_next, blocks_done}
 use Rattle.bits.specs.Lists.{tabulate}
 use Rattle.bits.specs.Parts.{part, part_of, byte_of_each, end_to_end}
 use Rattle.bits.proofs.PartLaws.{part_length, part_at, part_long, end_to_end_length, end_to_end_at, each_block}

@@ -1,6 +1,5 @@
 -- `loopback_refused_core::refuse_encodings` meets its contract: the calls of one pair a turn.
 use Rattle.std.proofs.Common.{rules}
-use Rattle.std.proofs.Common.{◌∙◌}
 use Rattle.loopback_core.specs.StepLaws.{step_none, step_done}
 use Rattle.loopback_core.specs.TallyLaws.{refused_more, number_known}
 use Rattle.loopback_refused_core.proofs.refuse_encodings.Goals as goal

@@ -3,7 +3,6 @@ use Rattle.std.proofs.Common.{rules}
 use Rattle.bits.specs.Parts.{byte_of_each}
 use Rattle.superframe_spec.specs.Superframe.{sub_frame}
 use Rattle.superframe_spec.proofs.SuperframeLaws.{frame_block, frames_are}
-use Rattle.superframe_spec.proofs.LentLaws.{frames_lent}
 use Rattle.superframe_core.proofs.frame_all.Goals as goal
 
 pub returns : goal.returns

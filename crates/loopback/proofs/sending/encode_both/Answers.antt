@@ -15,7 +15,7 @@ pub loop-q-init : goal.loop-q-init
 loop-q-init c =
     record {
       before = before_fresh _ _ c.fresh-history.ensures;
-      blocks = search (rules, by_blocks);
+      filled = search (rules, by_blocks);
       history_is = before_none _ _ _ _ _ c.fresh-history.ensures;
       counted = search (rules, step_none);
     }
@@ -28,7 +28,7 @@ loop-q-preserved c =
     let next = before_more _ _ _ _ _ _ _ _ _ (left.0 ∙ l.invariant.history_is) refl (search rules) made.1 in
     record {
       before = before_is _ _ _ _ (search rules) next;
-      blocks = blocks_next {d = l.coded} (l.q * 86016) (l.q * 86016 + 86016) _ l.invariant.blocks (search rules) refl refl
+      filled = blocks_next {d = l.coded} (l.q * 86016) (l.q * 86016 + 86016) _ l.invariant.filled (search rules) refl refl
           (half_block_lem _ _ _ _ _ l.invariant.history_is left.0 made.0);
       history_is = next;
       counted = step_more _ l.invariant.counted (search rules) left.1;

@@ -13,7 +13,7 @@ abbrev pub invariant-loop-q : goal.invariant-loop-q
 invariant-loop-q l =
     record {
       before : BeforePair l.encoder.number (168 * l.q) l.history;
-      blocks : Blocks (byte_of_each 86016 (sent_in l.encoder.number)) 86016 2 l.q l.coded;
+      filled : Blocks (byte_of_each 86016 (sent_in l.encoder.number)) 86016 2 l.q l.coded;
       history_is : l.history ≡ history_of l.encoder.number (168 * l.q) (history_before pair_encoder 168 (payload_in l.encoder.number) l.q);
       counted : Stepping (λ i. half_sent) 2 l.fn.counts l.q l.counts;
     }
