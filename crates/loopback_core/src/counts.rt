@@ -1,6 +1,6 @@
 // Counters: first the pair number, and calls by the refusal's number, 0 done, 1 to 5 refused; then words, coded bits and payload bits by
 // their kinds. No call of a run is refused with 6 or more.
-ghost use Rattle.std.specs.Prelude.{◌≡◌, ◌<◌};
+ghost use Rattle.std.specs.Prelude.{◌≡◌, ◌<◌, length};
 ghost use Rattle.calls.specs.Answers.{refusal_of};
 ghost use Rattle.loopback_core.specs.Tally.{tally_sum, answered};
 
@@ -10,8 +10,8 @@ use calls::Answer;
 pub type Counts = [u32; 41];
 
 // Adds to the counter at a place.
-pub fn add(counts: &mut Counts, at: usize, n: u32)
-    requires { at < 41 }
+pub fn add(counts: &mut [u32], at: usize, n: u32)
+    requires { at < length counts.old }
     ensures { counts.new ≡ tally_sum at n counts.old }
 {
     counts[at] = counts[at].wrapping_add(n);
