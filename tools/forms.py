@@ -83,7 +83,7 @@ def places(commit):
                 continue
             if re.search(r"enum Answer|Answer::(Done|Refused)|answer: Answer|refusal: u32|const (MISFIT|OFF_GRID|UNEQUAL)|if \w+ != 0 \{|\.refusal != 0", line):
                 found[1].append(at)
-            if re.search(r"\bfor \w+ in [^{]*\.\.|\bwhile\b", line):
+            if re.search(r"\bfor (?!_ )\w+ in [^{]*\.\.|\bwhile\b", line):
                 found[3].append(at)
             if re.search(r"\bas (u8|u16|u32|u64|usize)\b|[^<]>> \(?\d|% 256\b", line):
                 found[4].append(at)
