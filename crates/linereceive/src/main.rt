@@ -36,7 +36,7 @@ fn receive<R: Env + Eprint, F: Read + Seek + OpenFile + Drop, W: Write>(
     let mut list = [0u8; 12288];
     inputs::read_list(rt, line, &mut list)?;
     if let Some(index) = cells_core::legal::first_illegal(&list) {
-        say::illegal(rt, line.header.overhead as usize + index);
+        say::illegal(rt, (line.header.overhead as usize).saturating_add(index));
         return Err(Refusal::OffGrid(index));
     }
     inputs::seek_frames(capture);
