@@ -34,8 +34,8 @@ fn sent_words(pairs0: &[u8], pairs1: &[u8], k: BlockRow) -> [u16; 128]
     pairs_words(pairs1, k)
 }
 
-// The reordered blocks of a block row, by columns. (By `laid_by`, with the four below by `array::from_fn` and copies, `reordered_rows`
-// takes three times as long.)
+// The reordered blocks of a block row, by columns. (With this function, `sent_words`, `subset_rows`, `put_rows` and those of `buffer` by
+// `laid_by`, `array::from_fn`, `iter_mut` and copies, `reordered_rows` took three to four times as long.)
 fn reordered_row(words: &[u16; 128]) -> [u16; 128]
     ensures { result ≡ laid (reordered_in words.now) }
 {
