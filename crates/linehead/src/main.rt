@@ -30,7 +30,9 @@ fn read_first<I: Read>(input: &mut I, first: &mut [u8; 16]) -> usize
     ensures { result ≤ 16 }
 {
     let mut done = 0;
-    while done < 16 && let Some(n) = read_some(input, &mut first[done..]) {
+    while done < 16
+        && let Some(n) = read_some(input, &mut first[done..])
+    {
         done += n;
     }
     done
@@ -40,7 +42,9 @@ fn read_first<I: Read>(input: &mut I, first: &mut [u8; 16]) -> usize
 // whatever follows.
 fn count_on<I: Read>(input: &mut I, from: usize) -> usize {
     let mut count = from;
-    while count < 4294967296 && let Some(n) = block(input) {
+    while count < 4294967296
+        && let Some(n) = block(input)
+    {
         count += n;
     }
     count
