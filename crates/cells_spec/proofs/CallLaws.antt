@@ -1,6 +1,6 @@
 -- Laws of the calls: what an accepted one gives, what a refused one leaves, and each undoing the other.
 -- Assumes nothing.
-use Rattle.std.specs.Prelude.{◌≡◌, refl, Bool, List, ◌∷◌, ℕ, ◌*◌, ◌<◌, ◌≤◌, length, get_or}
+use Rattle.std.specs.Prelude.{◌≡◌, refl, Bool, None, List, ◌∷◌, ℕ, ◌*◌, ◌<◌, ◌≤◌, length, get_or}
 use Rattle.std.proofs.Common.{ap, sym, ◌∙◌}
 use Rattle.calls.specs.Answers.{Answer}
 use Rattle.std.specs.Prelude.{Ok, Err}
@@ -9,7 +9,8 @@ use Rattle.calls.specs.Answers.{TurnedBack}
 use Rattle.calls.specs.Calls.{after, Test, verdict}
 use Rattle.calls.proofs.CallLaws.{cases, is_off_grid, on_grid, call_keeps}
 use Rattle.cells_spec.specs.Modulation.{Modulation, cells_per_buffer}
-use Rattle.cells_spec.specs.Cells.{payload_rule, first_illegal, Legal, to_cells, to_bits}
+use Rattle.cells_spec.specs.Cells.{payload_rule, first_illegal, found, Legal, to_cells, to_bits}
+use Rattle.cells_spec.proofs.FoundLaws.{found_none}
 use Rattle.cells_spec.proofs.CellLaws.{all_legal, none_illegal, to_cells_legal, buffer_cells_lem, buffer_bits, buffer_back}
 use Rattle.cells_spec.proofs.CellLaws.{buffer_cells_back}
 use Rattle.cells_spec.specs.Calls.{illegal_in, map_call, demap_call}
@@ -30,6 +31,10 @@ module _ (rule : ℕ → ℕ → Bool) (cells : List ℕ) (at : ℕ) (e : at ≡
   demap_legal h = all_legal rule cells (rw e at h)
 
 pub ruleset legality = (is_illegal, is_legal)
+
+-- The same of the index as the code has it: there is none.
+pub legal_unfound : (rule : ℕ → ℕ → Bool) (cells : List ℕ) → None ≡ found (length cells) (first_illegal rule cells) → Legal rule cells
+legal_unfound rule cells e = demap_legal rule cells _ refl (found_none _ _ e)
 
 -- ---- calls that no test refuses
 

@@ -18,7 +18,7 @@ fn cell_differs(a: &[u8], i: usize, b: &[u8], k: usize) -> u32
     }
 }
 
-// How many of the cells below the edge differ.
+// How many of the cells below the edge differ. The number of a cell is its place in both buffers.
 fn differing_below(number: u32, frame: &[u8], own: &[u8]) -> u32
     requires { (length frame.now ≡ 7424) × (length own.now ≡ overhead_cells number * 2) }
     ensures { result ≡ count (edge number) (overhead_differs number frame.now own.now) }
@@ -30,7 +30,7 @@ fn differing_below(number: u32, frame: &[u8], own: &[u8]) -> u32
     n
 }
 
-// How many overhead cells differ: of those below the edge, and of the pilots past it.
+// How many overhead cells differ: of those below the edge, and of the pilots past it, each of which has another place in either buffer.
 pub fn differing(number: u32, frame: &[u8], own: &[u8]) -> u32
     requires { (length frame.now ≡ 7424) × (length own.now ≡ overhead_cells number * 2) }
     ensures { result ≡ differing number frame.now own.now }

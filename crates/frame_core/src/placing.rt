@@ -40,7 +40,7 @@ fn place_group(number: u32, payload: &[u8], own: &[u8], i: usize, group: &mut [u
     group[1] = own[pilot + 1];
 }
 
-// Places payload and overhead, group by group.
+// Places payload and overhead, group by group. (`fill_parts` starts at part 0, and the whole groups after the rest.)
 pub fn place(number: u32, payload: &[u8], own: &[u8], frame: &mut [u8])
     requires { (length payload.now ≡ payload_cells number * 2) × (length own.now ≡ overhead_cells number * 2) × (length frame.old ≡ 7424) }
     ensures { frame.new ≡ framed number payload.now own.now }
@@ -65,7 +65,7 @@ fn extract_rest(number: u32, frame: &[u8], payload: &mut [u8]) -> usize
     w
 }
 
-// Takes the payload out, run by run.
+// Takes the payload out, run by run, which begin behind the rest.
 pub fn extract(number: u32, frame: &[u8], payload: &mut [u8])
     requires { (length frame.now ≡ 7424) × (length payload.old ≡ payload_cells number * 2) }
     ensures { payload.new ≡ unframed number frame.now }

@@ -67,7 +67,7 @@ pub fn unframe_all(profile: Profile, line: &[u8], overhead: &[u8], cells: &mut [
     n
 }
 
-// The index of the first illegal byte of all frames.
+// The index of the first illegal byte of all frames. (By the number of the sub-frame, by which each has its own rule.)
 pub fn first_illegal(profile: Profile, line: &[u8]) -> Option<usize>
     requires { length line.now ≡ 356352 }
     ensures { result ≡ found (length line.now) (first_illegal (line_rule (modulation profile)) line.now) }

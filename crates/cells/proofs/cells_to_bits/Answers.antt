@@ -1,7 +1,7 @@
 -- `cells::cells_to_bits` meets its contract: the tests in their order, and what it does.
-use Rattle.std.proofs.Common.{rules, refl}
+use Rattle.std.proofs.Common.{rules}
 use Rattle.calls.proofs.CallLaws.{cases, misfit_of, fits_of}
-use Rattle.cells_spec.proofs.CallLaws.{legality, demap_legal, demap_done}
+use Rattle.cells_spec.proofs.CallLaws.{legality, legal_unfound, demap_done}
 use Rattle.cells_spec.proofs.FoundLaws.{found_at, found_within, found_none}
 use Rattle.cells.proofs.cells_to_bits.Goals as goal
 
@@ -18,7 +18,7 @@ returns-in-Some c = search (kit, legality, found_at _ _ _ c.in-Some.ensures, fou
 
 pub demap-requires : goal.demap-requires
 demap-requires c =
-    (search rules, search (rules, fits_of), demap_legal _ _ _ refl (found_none _ _ c.in_default.ensures))
+    (search rules, search (rules, fits_of), legal_unfound _ _ c.in_default.ensures)
 
 pub returns : goal.returns
 returns c = search (rules, demap_done, found_none _ _ c.in_default.ensures)
