@@ -61,11 +61,8 @@ pub fn map(bits: &[u8], cells: &mut [u8])
     ensures { cells.new ≡ to_cells qam16 bits.now }
 {
     let table = symbol_cells();
-    // The cells by index: a loop over std's chunk iterator leaves a proof with nothing about the buffer.
     for (i, b) in bits.iter().enumerate() {
-        let [x, y] = table[usize::from(*b)].to_le_bytes();
-        cells[i * 2] = x;
-        cells[i * 2 + 1] = y;
+        cells[i * 2..i * 2 + 2].copy_from_slice(&table[usize::from(*b)].to_le_bytes());
     }
 }
 

@@ -2,7 +2,8 @@
 // by the definitions of `cells_spec`; `mapping_core` has 16-QAM and either profile.
 #![tactic(auto)]
 
-ghost use Rattle.std.specs.Prelude.{◌≡◌, [], ◌∷◌, ◌*◌, ◌<◌, length};
+ghost use Rattle.std.specs.Prelude.{◌≡◌, ◌*◌, ◌<◌, length};
+ghost use Rattle.bits.specs.Lists.{tabulate};
 ghost use Rattle.cells_spec.specs.Cells.{payload_rule, Legal, to_cells, to_bits};
 ghost use Rattle.cells_spec.specs.Qpsk.{cell_byte};
 ghost use Rattle.cells_spec.specs.QpskLaws.{symbol_of_cell};
@@ -27,7 +28,7 @@ fn y_byte(s: u8) -> u8
 
 // The four bytes of a byte's cells: its upper half is its first symbol, its lower half the second.
 fn quarters(b: u8) -> [u8; 4]
-    ensures { result ≡ quarter b 0 ∷ quarter b 1 ∷ quarter b 2 ∷ quarter b 3 ∷ [] }
+    ensures { result ≡ tabulate 4 (quarter b) }
 {
     let (upper, lower) = (b / 16, b % 16);
     [x_byte(upper), y_byte(upper), x_byte(lower), y_byte(lower)]
@@ -38,13 +39,8 @@ pub fn map(bits: &[u8], cells: &mut [u8])
     requires { length cells.old ≡ length bits.now * 4 }
     ensures { cells.new ≡ to_cells qpsk bits.now }
 {
-    // The cells by index: a loop over std's chunk iterator leaves a proof with nothing about the buffer.
     for (i, b) in bits.iter().enumerate() {
-        let [upper_x, upper_y, lower_x, lower_y] = quarters(*b);
-        cells[i * 4] = upper_x;
-        cells[i * 4 + 1] = upper_y;
-        cells[i * 4 + 2] = lower_x;
-        cells[i * 4 + 3] = lower_y;
+        cells[i * 4..i * 4 + 4].copy_from_slice(&quarters(*b));
     }
 }
 
