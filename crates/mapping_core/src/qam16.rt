@@ -7,14 +7,19 @@ ghost use Rattle.cells_spec.specs.Qam16Tables.{cell_bytes, symbol_cells, cell_sy
 ghost use Rattle.profiles_spec.specs.Profiles.{qam16};
 
 use levels_core::{bit_pair, level, rails};
+use std::array;
 
-// The X byte (h is 0) or the Y byte of a symbol's cell.
-fn cell_byte(b: u8, h: usize) -> u8
-    ensures { result ≡ cell_byte b h }
+// The X byte of a symbol's cell.
+fn x_byte(b: u8) -> u8
+    ensures { result ≡ cell_byte b 0 }
 {
-    if h == 0 {
-        return rails(level(b / 128 % 2, b / 32 % 2), level(b / 8 % 2, b / 2 % 2));
-    }
+    rails(level(b / 128 % 2, b / 32 % 2), level(b / 8 % 2, b / 2 % 2))
+}
+
+// The Y byte.
+fn y_byte(b: u8) -> u8
+    ensures { result ≡ cell_byte b 1 }
+{
     rails(level(b / 64 % 2, b / 16 % 2), level(b / 4 % 2, b % 2))
 }
 
@@ -40,28 +45,14 @@ fn byte_of(x: u8, y: u8) -> u8
 fn cell_bytes(b: u8) -> u16
     ensures { result ≡ cell_bytes b }
 {
-    let x = cell_byte(b, 0);
-    let y = cell_byte(b, 1);
-    x as u16 + y as u16 * 256
+    u16::from_le_bytes([x_byte(b), y_byte(b)])
 }
 
 // The cell of every symbol.
 fn symbol_cells() -> [u16; 256]
     ensures { result ≡ symbol_cells }
 {
-    let mut table = [0u16; 256];
-    for b in 0..256 {
-        table[b] = cell_bytes(b as u8);
-    }
-    table
-}
-
-// A symbol's cell, from the table.
-fn cell_in(table: &[u16; 256], b: u8) -> u16
-    requires { table.now ≡ symbol_cells }
-    ensures { (result ≡ cell_bytes b) × (result < 4096) }
-{
-    table[b as usize]
+    array::from_fn(|b| cell_bytes(b as u8))
 }
 
 // The cells of a buffer of symbols.
@@ -70,10 +61,8 @@ pub fn map(bits: &[u8], cells: &mut [u8])
     ensures { cells.new ≡ to_cells qam16 bits.now }
 {
     let table = symbol_cells();
-    for i in 0..bits.len() {
-        let v = cell_in(&table, bits[i]);
-        cells[i * 2] = (v % 256) as u8;
-        cells[i * 2 + 1] = (v / 256) as u8;
+    for (i, b) in bits.iter().enumerate() {
+        cells[i * 2..i * 2 + 2].copy_from_slice(&table[usize::from(*b)].to_le_bytes());
     }
 }
 
@@ -81,19 +70,7 @@ pub fn map(bits: &[u8], cells: &mut [u8])
 fn cell_symbols() -> [u8; 256]
     ensures { result ≡ cell_symbols }
 {
-    let mut table = [0u8; 256];
-    for k in 0..256 {
-        table[k] = byte_of((k / 16) as u8, (k % 16) as u8);
-    }
-    table
-}
-
-// The symbol of a legal cell, from the table.
-fn symbol_in(table: &[u8; 256], x: u8, y: u8) -> u8
-    requires { (table.now ≡ cell_symbols) × (x < 16) × (y < 16) }
-    ensures { result ≡ byte_of_cell x y }
-{
-    table[(x * 16 + y) as usize]
+    array::from_fn(|k| byte_of((k / 16) as u8, (k % 16) as u8))
 }
 
 // The symbols of a buffer of legal cells.
@@ -102,7 +79,8 @@ pub fn demap(cells: &[u8], bits: &mut [u8])
     ensures { bits.new ≡ to_bits qam16 cells.now }
 {
     let table = cell_symbols();
-    for i in 0..bits.len() {
-        bits[i] = symbol_in(&table, cells[i * 2], cells[i * 2 + 1]);
+    for (i, b) in bits.iter_mut().enumerate() {
+        let (x, y) = (cells[i * 2], cells[i * 2 + 1]);
+        *b = table[usize::from(x * 16 + y)];
     }
 }
