@@ -21,6 +21,9 @@ type Payload = [u8; 444];
 
 type Marks = [u8; 32];
 
+// Three functions make a word: this one from pairs, `kept_word` from a history, `payload_word` from a payload. Each is one call, of its own
+// buffers, and states a definition of its own, so that one form for all would hold no more than the call.
+//
 // Word w of pair k, with the ten pairs before it. A word of the first ten pairs has zeros in front, whatever stands there.
 fn word(pairs: &Coded, k: usize, w: usize) -> Word
     requires { (k < 336) × (w < 32) }
@@ -148,6 +151,7 @@ fn receive_all(encoder: Encoder, sent: &Coded, got: &Coded, counts: &mut Counts)
     ensures { counts.new ≡ each_step 336 (next_received encoder.number sent.now got.now) counts.old }
 {
     let mut history = history_core::fresh(encoder.number);
+    // By number, and not by parts of a list: the history changes from pair to pair, and a word is read from eleven pairs.
     for k in 0..336 {
         refuse_receiving(&mut history, counts);
         receive_next(k, encoder, sent, got, &mut history, counts);

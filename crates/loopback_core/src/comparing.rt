@@ -44,7 +44,8 @@ pub fn word_kind(sent: &Word, got: &Word, mark: u8) -> usize
     7 + distance(sent, got).min(4) * 4 + usize::from(mark % 4)
 }
 
-// The kind of bit i of a back half.
+// The kind of bit i of a back half. Word as sent, as received and as kept: `bit_kind`, the definition, takes the three lists apart, and a
+// struct of them would be built for each of the two calls of `count_bits` and taken apart again here.
 fn bit_kind(from: usize, sent: &Word, got: &Word, kept: &Word, i: usize) -> usize
     requires { (from < 38) × (i < 128) }
     ensures { (result ≡ bit_kind from sent.now got.now kept.now i) × (result < 41) }
@@ -59,6 +60,7 @@ pub fn count_bits(n: usize, from: usize, sent: &Word, got: &Word, kept: &Word, c
     requires { (n ≤ 128) × (from < 38) }
     ensures { counts.new ≡ tallied n (bit_kind from sent.now got.now kept.now) counts.old }
 {
+    // By number: a bit's number is what the turn is about. It is read from three words, at 128 + i, and bit by bit no list has it.
     for i in 0..n {
         add(counts, bit_kind(from, sent, got, kept, i), 1);
     }

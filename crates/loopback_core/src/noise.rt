@@ -90,6 +90,7 @@ fn strike(profile: Profile, q: usize, line: &mut Frames)
     ensures { line.new ≡ each_step ((modulation profile).bits * 10) (strike profile q) line.old }
 {
     let n = buffers(profile) * 10;
+    // By number: the number of a struck cell says where it lies, and no list is read by it.
     for v in 0..n {
         strike_one(profile, q * n + v, line);
     }
@@ -100,6 +101,7 @@ fn strike_cell(profile: Profile, cell: usize, n: usize, line: &mut Frames)
     requires { (cell < 3712) × (n ≤ 48) }
     ensures { line.new ≡ each_step n (strike_cell profile cell) line.old }
 {
+    // By number: the number of the sub-frame gives the place and the byte put there; n of the 48 have one.
     for s in 0..n {
         replace(profile, line, s * 3712 + cell, s);
     }

@@ -13,7 +13,8 @@ use history_core::SPENT;
 use loopback_core::counts::{Counts, answered};
 use profile::Profile;
 
-// A call of encoding with a byte too few.
+// A call of encoding with a byte too few. `receive_short` is its like, and `receive_spent` that of `encode_spent`: each is one call, of another
+// function, with other buffers and another number of them, so that one form for both would hold no more than the call.
 fn encode_short(history: &mut [u8]) -> Answer
     ensures { (result ≡ Err Misfit) × (history.new ≡ history.old) }
 {
