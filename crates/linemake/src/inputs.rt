@@ -1,6 +1,6 @@
 // The files that are read. They stay open to the end, so that the line file's descriptor is none of the standard ones, even where
 // the program was started without these.
-ghost use Rattle.std.specs.Prelude.{◌<◌};
+ghost use Rattle.std.specs.Prelude.{◌<◌, ◌≤◌, IfOk};
 
 use cells_core::sizes::pairs;
 use files::{Input, Name, Said, message};
@@ -63,7 +63,9 @@ pub fn superframes<R: Env + Eprint, F: Read + Seek + OpenFile + Drop>(
     rt: &R,
     profile: Profile,
     inputs: &mut Inputs<F>,
-) -> Result<u8, Said> {
+) -> Result<u8, Said>
+    ensures { IfOk result (λ n. n ≤ 65) }
+{
     let Inputs {
         payload0,
         payload1,

@@ -74,7 +74,9 @@ pub fn read_list<R: Env + Eprint, F: Read + Seek + OpenFile + Drop>(
 }
 
 // Goes to the frames of the capture.
-pub fn seek_frames<F: Seek>(capture: &mut Headed<F>) {
+pub fn seek_frames<F: Seek>(capture: &mut Headed<F>)
+    ensures { capture.new.header.superframes ≡ capture.old.header.superframes }
+{
     seek(&mut capture.input.file, capture.header.frames);
 }
 
