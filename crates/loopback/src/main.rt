@@ -13,6 +13,7 @@ mod receiving;
 mod sending;
 
 use profile::Profile;
+use receiving::Run;
 use sending::{Coded, Encoder};
 
 // Runs an encoder. Not compiled into its caller, which would then hold its array beside the line's.
@@ -25,7 +26,12 @@ fn run_encoder<R: Print + Eprint>(rt: &R, encoder: Encoder) {
 fn compare_with_sent<R: Print + Eprint>(rt: &R, encoder: Encoder, got: &Coded) {
     let mut sent = [0; 172032];
     sending::encode_again(encoder, &mut sent);
-    receiving::receive(rt, encoder, &sent, got);
+    let run = Run {
+        encoder,
+        sent: &sent,
+        got,
+    };
+    receiving::receive(rt, run);
 }
 
 // Runs the line and the receiver of an encoder. The line is the same for both receivers, and what it did is printed once.

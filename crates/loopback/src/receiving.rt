@@ -16,6 +16,14 @@ use loopback_core::random;
 use loopback_refused_core::refuse_receiving;
 use pair_words_core::words::{held_word, open_word};
 
+// The coded pairs of an encoder, as sent and as received.
+#[derive(Clone, Copy)]
+pub struct Run<'a> {
+    pub encoder: Encoder,
+    pub sent: &'a Coded,
+    pub got: &'a Coded,
+}
+
 // The payload of a pair, and the marks of its words.
 type Payload = [u8; 444];
 
@@ -51,20 +59,19 @@ fn payload_word(payload: &Payload, k: usize, w: usize) -> Word
 }
 
 // Compares word w of pair k: as received with the ten pairs before it, and as the receiver's history keeps it.
-fn compare_coded(
+fn compare_coded<'a>(
+    run: Run<'a>,
     k: usize,
     w: usize,
-    sent: &Coded,
-    got: &Coded,
     history: &[u8],
     mark: u8,
     counts: &mut Counts,
 )
     requires { (k < 336) × (w < 32) × (length history.now ≡ 5120) }
-    ensures { counts.new ≡ coded_counted k w sent.now got.now history.now mark counts.old }
+    ensures { counts.new ≡ coded_counted k w run.entry.sent.now run.entry.got.now history.now mark counts.old }
 {
-    let s = word(sent, k, w);
-    let g = word(got, k, w);
+    let s = word(run.sent, k, w);
+    let g = word(run.got, k, w);
     let h = kept_word(history, k, w);
     add(counts, word_kind(&s, &g, mark), 1);
     count_bits(128, 27 + lost(mark) * 4, &s, &g, &h, counts);
@@ -90,37 +97,29 @@ fn compare_payload(
 }
 
 // Compares the words of pair k.
-fn compare(
+fn compare<'a>(
+    run: Run<'a>,
     k: usize,
-    encoder: Encoder,
-    sent: &Coded,
-    got: &Coded,
     history: &[u8],
     out: &Payload,
     marks: &Marks,
     counts: &mut Counts,
 )
     requires { (k < 336) × (length history.now ≡ 5120) }
-    ensures { counts.new ≡ pair_compared encoder.number k sent.now got.now history.now out.now marks.now counts.old }
+    ensures { counts.new ≡ pair_compared run.entry.encoder.number k run.entry.sent.now run.entry.got.now history.now out.now marks.now counts.old }
 {
     for (w, mark) in marks.iter().enumerate() {
-        compare_coded(k, w, sent, got, history, *mark, counts);
-        compare_payload(k, w, encoder, out, *mark, counts);
+        compare_coded(run, k, w, history, *mark, counts);
+        compare_payload(k, w, run.encoder, out, *mark, counts);
     }
 }
 
 // Receives pair k; the ten pairs of the history then stand behind its front.
-fn receive_next(
-    k: usize,
-    encoder: Encoder,
-    sent: &Coded,
-    got: &Coded,
-    history: &mut [u8],
-    counts: &mut Counts,
-)
-    requires { (k < 336) × BeforePair encoder.number k history.old }
-    ensures { (history.new ≡ history_of encoder.number (k + 1) (history_over pair_receiver 1 (held_pairs history.old) k (part_of 512 got.now k))) × (counts.new ≡ pair_taken encoder.number sent.now got.now (held_pairs history.old) k counts.old) }
+fn receive_next<'a>(run: Run<'a>, k: usize, history: &mut [u8], counts: &mut Counts)
+    requires { (k < 336) × BeforePair run.encoder.number k history.old }
+    ensures { (history.new ≡ history_of run.entry.encoder.number (k + 1) (history_over pair_receiver 1 (held_pairs history.old) k (part_of 512 run.entry.got.now k))) × (counts.new ≡ pair_taken run.entry.encoder.number run.entry.sent.now run.entry.got.now (held_pairs history.old) k counts.old) }
 {
+    let got = run.got;
     let a = k * 512;
     let own = &got[a..a + 512];
     let mut out = [0; 444];
@@ -128,40 +127,31 @@ fn receive_next(
     pair_stream::receive(
         1,
         own,
-        encoder.number,
+        run.encoder.number,
         k as u32,
         history,
         &mut out,
         &mut marks,
     );
-    compare(
-        k,
-        encoder,
-        sent,
-        got,
-        &history[8..5128],
-        &out,
-        &marks,
-        counts,
-    );
+    compare(run, k, &history[8..5128], &out, &marks, counts);
 }
 
 // Receives the pairs of an encoder, each after refused calls.
-fn receive_all(encoder: Encoder, sent: &Coded, got: &Coded, counts: &mut Counts)
-    ensures { counts.new ≡ each_step 336 (next_received encoder.number sent.now got.now) counts.old }
+fn receive_all<'a>(run: Run<'a>, counts: &mut Counts)
+    ensures { counts.new ≡ each_step 336 (next_received run.entry.encoder.number run.entry.sent.now run.entry.got.now) counts.old }
 {
-    let mut history = history_core::fresh(encoder.number);
+    let mut history = history_core::fresh(run.encoder.number);
     // By number, and not by parts of a list: the history changes from pair to pair, and a word is read from eleven pairs.
     for k in 0..336 {
         refuse_receiving(&mut history, counts);
-        receive_next(k, encoder, sent, got, &mut history, counts);
+        receive_next(run, k, &mut history, counts);
     }
 }
 
 // The same, and a print of what came of it.
-pub fn receive<R: Print + Eprint>(rt: &R, encoder: Encoder, sent: &Coded, got: &Coded) {
+pub fn receive<'a, R: Print + Eprint>(rt: &R, run: Run<'a>) {
     let mut counts = [0; 41];
-    receive_all(encoder, sent, got, &mut counts);
+    receive_all(run, &mut counts);
     // The step refuses none of its calls, as its contract says.
     add(&mut counts, 0, 336);
     add(&mut counts, 1, 336);

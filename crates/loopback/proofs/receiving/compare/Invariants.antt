@@ -5,4 +5,4 @@ use Rattle.loopback.proofs.receiving.compare.Given as goal
 
 abbrev pub invariant-loop-w : goal.invariant-loop-w
 invariant-loop-w l =
-    Stepping (word_compared l.encoder.number l.k l.sent l.got l.history l.out l.marks) 32 l.fn.counts l.w l.counts
+    Stepping (word_compared l.run.encoder.number l.k l.run.sent.now l.run.got.now l.history l.out l.marks) 32 l.fn.counts l.w l.counts

@@ -10,7 +10,7 @@ use Rattle.loopback.proofs.receiving.receive_all.Given as goal
 abbrev pub invariant-loop-k : goal.invariant-loop-k
 invariant-loop-k l =
     record {
-      before : BeforePair l.encoder.number l.k l.history;
-      history_is : l.history ≡ history_of l.encoder.number l.k (history_before pair_receiver 1 (part_of 512 l.got) l.k);
-      counted : Stepping (next_received l.encoder.number l.sent l.got) 336 l.fn.counts l.k l.counts;
+      before : BeforePair l.run.encoder.number l.k l.history;
+      history_is : l.history ≡ history_of l.run.encoder.number l.k (history_before pair_receiver 1 (part_of 512 l.run.got.now) l.k);
+      counted : Stepping (next_received l.run.encoder.number l.run.sent.now l.run.got.now) 336 l.fn.counts l.k l.counts;
     }
