@@ -95,6 +95,14 @@ impl Name {
         &self.bytes[..self.length]
     }
 
+    // The bytes, to be written over: the name keeps its length.
+    pub fn as_bytes_mut(&mut self) -> &mut [u8]
+        ensures value { result.now ≡ self.old }
+        ensures fits { length result.now ≤ 4096 }
+    {
+        &mut self.bytes[..self.length]
+    }
+
     // Adds text at the end, where it fits.
     pub fn push(&mut self, text: &[u8]) -> Option<()>
         ensures ok { IfSome result (λ _. self.new ≡ self.old ++ text.now) }
@@ -158,4 +166,17 @@ impl Name {
         path.push(letters)?;
         Some(path)
     }
+}
+
+// Puts a name beside this one, ended by X's, at the start of path, and answers its length; 0 where it does not fit.
+pub fn name_beside(name: &[u8], path: &mut [u8]) -> usize
+    ensures { (result ≤ length path.new) × (result ≡ length (take result path.new)) }
+{
+    let n = name.len();
+    if path.len() < n + 12 {
+        return 0;
+    }
+    path[..n].copy_from_slice(name);
+    path[n..n + 12].copy_from_slice(b".part-XXXXXX");
+    n + 12
 }

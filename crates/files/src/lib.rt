@@ -11,14 +11,14 @@ mod naming;
 mod places;
 mod reading;
 
-pub use filenames::Name;
+pub use filenames::{Name, name_beside};
 pub use filestatus::{is_regular, same};
 pub use making::{close, create, discard, finish, leads_to, remove, take_name};
 pub use message::Said;
 pub use naming::target;
 pub use places::collide;
 use profile::Profile;
-pub use reading::{Input, open};
+pub use reading::{Input, length, open, size};
 use std::env::FillError;
 use std::os::fd::AsRawFd;
 use std::rt::{Env, Files};
@@ -29,9 +29,10 @@ pub fn has_argument<R: Env>(rt: &R, argument: usize) -> bool {
     !matches!(rt.arg(argument, &mut [0]), Err(FillError::NotPresent))
 }
 
-// Whether an argument is this word.
-pub fn is_word<R: Env>(rt: &R, argument: usize, word: &str) -> bool {
-    Name::of_argument(rt, argument).is_some_and(|name| name.as_bytes() == word.as_bytes())
+// Whether an argument is this word. One that is none, or longer than 4,096 bytes, is judged as an empty one.
+pub fn is_word<R: Env>(rt: &R, argument: usize, word: &[u8]) -> bool {
+    let text = Name::of_argument(rt, argument).unwrap_or(Name::new());
+    text.as_bytes() == word
 }
 
 // The profile that the arguments name, where there are as many as there must be: 16-QAM, or where there is one more, `qpsk`, at this place,
@@ -45,7 +46,7 @@ pub fn profile_at<R: Env>(rt: &R, argument: usize) -> Option<Profile>
     if has_argument(rt, argument + 1) {
         return None;
     }
-    is_word(rt, argument, "qpsk").then_some(Profile::Qpsk)
+    is_word(rt, argument, b"qpsk").then_some(Profile::Qpsk)
 }
 
 // The standard descriptors that were closed, taken up as long as this lasts.

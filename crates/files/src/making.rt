@@ -3,7 +3,7 @@
 use crate::message;
 use crate::message::Said;
 use crate::places::open_update;
-use filenames::{Name, path as path_of};
+use filenames::path as path_of;
 use filestatus::{is_regular, mode, same};
 use std::fs::{OpenFile, OpenOptions, Permissions};
 use std::io::ErrorKind;
@@ -12,7 +12,7 @@ use std::random::RandomSource;
 use std::rt::Files;
 use std::{fs, io};
 
-// What a path beside a name ends in.
+// What the last six bytes of a path become.
 const LETTERS: [u8; 62] = *b"abcdefghijklmnopqrstuvwxyzABCDEFGHIJKLMNOPQRSTUVWXYZ0123456789";
 
 // The system's number for a path that is there already.
@@ -21,7 +21,7 @@ const EXISTS: i32 = 17;
 // How many paths are tried, as in the C library: a number of turns, and no index.
 const TRIES: usize = 238328;
 
-// The system's number for what no path has, as one that is too long.
+// The system's number for what no path has, as one of fewer than six bytes.
 const INVALID: i32 = 22;
 
 // Whether the name leads to the open file.
@@ -29,11 +29,15 @@ pub fn leads_to<R: Files>(rt: &R, name: &[u8], file: &R::File) -> bool {
     open_update(rt, name).is_ok_and(|old| same(&old, file))
 }
 
-// Six letters and digits.
-fn draw<R: RandomSource>(rt: &R) -> io::Result<[u8; 6]> {
+// Puts letters and digits in the place of the last six bytes of a path.
+fn draw<R: RandomSource>(rt: &R, path: &mut [u8]) -> io::Result<()> {
+    let Some(end) = path.last_chunk_mut::<6>() else {
+        return Err(io::Error::from_raw_os_error(INVALID));
+    };
     let mut drawn = [0u8; 6];
     rt.fill_bytes(&mut drawn)?;
-    Ok(drawn.map(|byte| LETTERS[usize::from(byte % 62)]))
+    *end = drawn.map(|byte| LETTERS[usize::from(byte % 62)]);
+    Ok(())
 }
 
 // Makes a new file at a path that is free.
@@ -43,67 +47,53 @@ fn create_free<R: Files>(rt: &R, path: &[u8]) -> io::Result<R::File> {
     options.open(rt, path_of(path)?)
 }
 
-// Makes a new file at a path beside this name, and puts the path where it is lent. Where it fails, what is lent stays as it was.
-fn create_beside<R: Files + RandomSource>(
-    rt: &R,
-    name: &Name,
-    path: &mut Name,
-) -> io::Result<R::File> {
+// Makes a new file at path, whose last six bytes are replaced.
+fn create_at<R: Files + RandomSource>(rt: &R, path: &mut [u8]) -> io::Result<R::File> {
     for _ in 0..TRIES {
-        let letters = draw(rt)?;
-        let Some(beside) = name.beside(&letters) else {
-            return Err(io::Error::from_raw_os_error(INVALID));
-        };
-        match create_free(rt, beside.as_bytes()) {
-            Ok(file) => {
-                *path = beside;
-                return Ok(file);
-            }
+        draw(rt, path)?;
+        match create_free(rt, path) {
             Err(error) if error.kind() == ErrorKind::AlreadyExists => {}
-            Err(error) => return Err(error),
+            made => return made,
         }
     }
     Err(io::Error::from_raw_os_error(EXISTS))
 }
 
-// The same; or says why it cannot.
+// The same for this name; or says why it cannot.
 fn create_new<R: Files + RandomSource + Eprint>(
     rt: &R,
-    name: &Name,
-    path: &mut Name,
+    name: &[u8],
+    path: &mut [u8],
 ) -> Result<R::File, Said> {
-    create_beside(rt, name, path).map_err(|error| message::fail(rt, name.as_bytes(), error))
+    create_at(rt, path).map_err(|error| message::fail(rt, name, error))
 }
 
-// The same with the mode of the file that has the name, which is open; a pipe or a device is not replaced. One of which the system does not
-// say its mode has none.
+// The same with the mode of the file that has the name, which is open; a pipe or a device is not replaced.
 fn create_like<R: Files + RandomSource + Eprint>(
     rt: &R,
     old: &R::File,
-    name: &Name,
-    path: &mut Name,
+    name: &[u8],
+    path: &mut [u8],
 ) -> Result<R::File, Said> {
     if !is_regular(old) {
-        return Err(message::of(rt, name.as_bytes(), "not a regular file"));
+        return Err(message::of(rt, name, b"not a regular file"));
     }
     let file = create_new(rt, name, path)?;
-    let mode = mode(old).unwrap_or(0);
-    let _ = file.set_permissions(Permissions::from_mode(mode));
+    let _ = file.set_permissions(Permissions::from_mode(mode(old)));
     Ok(file)
 }
 
-// Makes a new file for this name, and puts the path at which it lies where that is lent; or says why it cannot, and what is lent stays as it
-// was. The name is free, or a regular file has it that can be written. It is not inlined, so that its names are off the stack afterwards.
-#[inline(never)]
+// Makes a new file at path, whose last six bytes are replaced by letters and digits, for this name; or says why it cannot. The name is
+// free, or a regular file has it that can be written.
 pub fn create<R: Files + RandomSource + Eprint>(
     rt: &R,
-    name: &Name,
-    path: &mut Name,
+    name: &[u8],
+    path: &mut [u8],
 ) -> Result<R::File, Said> {
-    match open_update(rt, name.as_bytes()) {
+    match open_update(rt, name) {
         Ok(old) => create_like(rt, &old, name, path),
         Err(error) if error.kind() == ErrorKind::NotFound => create_new(rt, name, path),
-        Err(error) => Err(message::fail(rt, name.as_bytes(), error)),
+        Err(error) => Err(message::fail(rt, name, error)),
     }
 }
 
@@ -125,21 +115,21 @@ pub fn close<R: Eprint, F: OpenFile + Drop>(rt: &R, file: F, name: &[u8]) -> Res
 }
 
 // Removes the file at path.
-pub fn remove<R: Files>(rt: &R, path: &Name) {
-    if let Ok(text) = path_of(path.as_bytes()) {
+pub fn remove<R: Files>(rt: &R, path: &[u8]) {
+    if let Ok(text) = path_of(path) {
         let _ = fs::remove_file(rt, text);
     }
 }
 
 // Gives the file at path its name.
-fn rename<R: Files>(rt: &R, path: &Name, name: &Name) -> io::Result<()> {
-    fs::rename(rt, path_of(path.as_bytes())?, path_of(name.as_bytes())?)
+fn rename<R: Files>(rt: &R, path: &[u8], name: &[u8]) -> io::Result<()> {
+    fs::rename(rt, path_of(path)?, path_of(name)?)
 }
 
 // Gives the file at path its name; or says why not, and removes the file.
-pub fn take_name<R: Files + Eprint>(rt: &R, path: &Name, name: &Name) -> Result<(), Said> {
+pub fn take_name<R: Files + Eprint>(rt: &R, path: &[u8], name: &[u8]) -> Result<(), Said> {
     if let Err(error) = rename(rt, path, name) {
-        let said = message::fail(rt, name.as_bytes(), error);
+        let said = message::fail(rt, name, error);
         remove(rt, path);
         return Err(said);
     }
@@ -150,10 +140,10 @@ pub fn take_name<R: Files + Eprint>(rt: &R, path: &Name, name: &Name) -> Result<
 pub fn finish<R: Files + Eprint>(
     rt: &R,
     file: R::File,
-    path: &Name,
-    name: &Name,
+    path: &[u8],
+    name: &[u8],
 ) -> Result<(), Said> {
-    if let Err(said) = close(rt, file, name.as_bytes()) {
+    if let Err(said) = close(rt, file, name) {
         remove(rt, path);
         return Err(said);
     }
@@ -161,7 +151,7 @@ pub fn finish<R: Files + Eprint>(
 }
 
 // Closes the file at path, which is not whole, and removes it.
-pub fn discard<R: Files>(rt: &R, file: R::File, path: &Name) {
+pub fn discard<R: Files>(rt: &R, file: R::File, path: &[u8]) {
     drop(file);
     remove(rt, path);
 }

@@ -2,7 +2,9 @@
 // take is lost.
 use calls::Refusal;
 use filenames::Name;
+use filestatus::is_regular;
 use std::fmt::Display;
+use std::fs::OpenFile;
 use std::io;
 use std::rt::Env;
 
@@ -17,11 +19,26 @@ impl From<Said> for Refusal {
     }
 }
 
-// A whole line that begins with this name.
-pub fn of<R: Eprint>(rt: &R, name: &[u8], words: &str) -> Said {
-    report::words(rt, name);
-    let _ = eprintln!(rt; ": {words}");
+pub fn text<R: Eprint>(rt: &R, words: &[u8]) {
+    report::words(rt, words);
+}
+
+pub fn number<R: Eprint>(rt: &R, n: usize) {
+    let _ = rt.eprint(n);
+}
+
+// Ends a line.
+pub fn end<R: Eprint>(rt: &R) -> Said {
+    text(rt, b"\n");
     Said(())
+}
+
+// A whole line that begins with this name.
+pub fn of<R: Eprint>(rt: &R, name: &[u8], words: &[u8]) -> Said {
+    text(rt, name);
+    text(rt, b": ");
+    text(rt, words);
+    end(rt)
 }
 
 // Why the system refused a call on the file of this name.
@@ -34,23 +51,58 @@ pub fn fail<R: Eprint>(rt: &R, name: &[u8], error: io::Error) -> Said {
 // is off the stack of what calls it.
 #[inline(never)]
 pub fn begin<R: Env + Eprint>(rt: &R, argument: usize) {
-    match Name::of_argument(rt, argument) {
-        Some(name) if !name.as_bytes().is_empty() => report::words(rt, name.as_bytes()),
-        _ => {
-            let _ = eprint!(rt; "argument {argument}");
-        }
+    let name = Name::of_argument(rt, argument).unwrap_or(Name::new());
+    if name.as_bytes().is_empty() {
+        text(rt, b"argument ");
+        number(rt, argument);
     }
-    let _ = eprint!(rt; ": ");
+    text(rt, name.as_bytes());
+    text(rt, b": ");
 }
 
 // A whole line.
-pub fn line<R: Env + Eprint, D: Display + Drop>(rt: &R, argument: usize, words: D) -> Said {
+pub fn line<R: Env + Eprint>(rt: &R, argument: usize, words: &[u8]) -> Said {
     begin(rt, argument);
-    let _ = eprintln!(rt; "{words}");
-    Said(())
+    text(rt, words);
+    end(rt)
+}
+
+// A whole line of what can be shown as text.
+pub fn line_of<R: Env + Eprint, D: Display + Drop>(rt: &R, argument: usize, words: D) -> Said {
+    begin(rt, argument);
+    let _ = rt.eprint(words);
+    end(rt)
+}
+
+// A whole line that ends with a number.
+pub fn line_with<R: Env + Eprint>(rt: &R, argument: usize, words: &[u8], n: usize) -> Said {
+    begin(rt, argument);
+    text(rt, words);
+    number(rt, n);
+    end(rt)
 }
 
 // How many super-frames are done, of how many.
 pub fn progress<R: Eprint>(rt: &R, done: u32, of: u32) {
     let _ = eprintln!(rt; "super-frame {done} of {of}");
+}
+
+// A file has the wrong size, or is none that has a size.
+pub fn size<R: Env + Eprint, F: OpenFile>(
+    rt: &R,
+    argument: usize,
+    file: &F,
+    bytes: usize,
+    expected: &[u8],
+    n: usize,
+) -> Said {
+    if !is_regular(file) {
+        return line(rt, argument, b"not a regular file");
+    }
+    begin(rt, argument);
+    number(rt, bytes);
+    text(rt, b" bytes, expected ");
+    text(rt, expected);
+    number(rt, n);
+    end(rt)
 }

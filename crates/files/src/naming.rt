@@ -21,10 +21,10 @@ fn flaw(name: &[u8]) -> Option<&'static str> {
 // The name that an argument gives; or says why it gives none.
 pub fn name_of<R: Env + Eprint>(rt: &R, argument: usize) -> Result<Name, Said> {
     let Some(name) = Name::of_argument(rt, argument) else {
-        return Err(message::line(rt, argument, "the name is too long"));
+        return Err(message::line(rt, argument, b"the name is too long"));
     };
     match flaw(name.as_bytes()) {
-        Some(words) => Err(message::line(rt, argument, words)),
+        Some(words) => Err(message::line_of(rt, argument, words)),
         None => Ok(name),
     }
 }
@@ -36,7 +36,7 @@ fn writable<R: Files + Env + Eprint>(rt: &R, argument: usize, name: &[u8]) -> Re
         Err(error) if error.kind() == ErrorKind::NotFound => Err(message::line(
             rt,
             argument,
-            "a symbolic link to a file that is not there",
+            b"a symbolic link to a file that is not there",
         )),
         Err(error) => Err(message::fail(rt, name, error)),
     }
@@ -59,7 +59,7 @@ pub fn target<R: Files + Alloc + Env + Eprint>(rt: &R, argument: usize) -> Resul
         Ok(true) => writable(rt, argument, name.as_bytes())?,
         Ok(false) => {}
         Err(_) => {
-            return Err(message::line(rt, argument, "a symbolic link that cannot be followed"));
+            return Err(message::line(rt, argument, b"a symbolic link that cannot be followed"));
         }
     }
     Ok(name)

@@ -3,10 +3,7 @@ use crate::message;
 use crate::message::Said;
 use crate::naming::name_of;
 use crate::places::open_read;
-use filestatus::is_regular;
-use std::fmt::Display;
 use std::fs::OpenFile;
-use std::io;
 use std::io::{Read, Seek, SeekFrom};
 use std::rt::{Env, Files};
 
@@ -26,45 +23,50 @@ pub fn open<R: Files + Env + Eprint>(rt: &R, argument: usize) -> Result<Input<R:
     }
 }
 
-// The length of an open file that can be read, and the next read begins at its front.
-fn readable<F: Read + Seek>(file: &mut F) -> io::Result<usize> {
-    let length = file.seek(SeekFrom::End(0))?;
-    file.seek(SeekFrom::Start(0))?;
-    file.read_exact(&mut [0])?;
-    file.seek(SeekFrom::Start(0))?;
-    Ok(length as usize)
+// The length of an open file. One that has none is judged as an empty one.
+pub fn length<F: Seek>(file: &mut F) -> usize {
+    file.seek(SeekFrom::End(0)).map_or(0, |end| end as usize)
 }
 
-impl<F: Read + Seek + OpenFile + Drop> Input<F> {
-    // The length of the file. One that has none is judged as an empty one.
+// Goes to the front of an open file, and answers whether it could.
+fn to_front<F: Seek>(file: &mut F) -> bool {
+    file.seek(SeekFrom::Start(0)).is_ok_and(|at| at == 0)
+}
+
+// Whether a byte can be read from an open file.
+fn has_byte<F: Read>(file: &mut F) -> bool {
+    file.read(&mut [0]).is_ok_and(|got| got == 1)
+}
+
+// The length of an open file that can be read, and the next read begins at its front. One that cannot be read is judged as an empty one.
+pub fn size<F: Read + Seek>(file: &mut F) -> usize {
+    let bytes = length(file);
+    if to_front(file) && has_byte(file) && to_front(file) {
+        return bytes;
+    }
+    0
+}
+
+impl<F: Seek> Input<F> {
     pub fn length(&mut self) -> usize {
-        self.file
-            .seek(SeekFrom::End(0))
-            .map_or(0, |end| end as usize)
+        length(&mut self.file)
     }
+}
 
-    // The bytes of the file that can be read, from its front, where the next read begins. One that cannot be read is judged as an empty one.
+impl<F: Read + Seek> Input<F> {
     pub fn size(&mut self) -> usize {
-        readable(&mut self.file).unwrap_or(0)
+        size(&mut self.file)
     }
+}
 
+impl<F: OpenFile> Input<F> {
     // Says that the file has the wrong size, or is none that has a size.
-    pub fn misfit<R: Env + Eprint, D: Display + Drop>(
-        &self,
-        rt: &R,
-        bytes: usize,
-        expected: D,
-    ) -> Said {
-        if !is_regular(&self.file) {
-            return message::line(rt, self.argument, "not a regular file");
-        }
-        message::line(
-            rt,
-            self.argument,
-            format_args!("{bytes} bytes, expected {expected}"),
-        )
+    pub fn misfit<R: Env + Eprint>(&self, rt: &R, bytes: usize, expected: &[u8], n: usize) -> Said {
+        message::size(rt, self.argument, &self.file, bytes, expected, n)
     }
+}
 
+impl<F: Read> Input<F> {
     // Reads as many bytes as the buffer has; or says in these words that the file ended before.
     pub fn read<R: Env + Eprint>(
         &mut self,
@@ -74,6 +76,6 @@ impl<F: Read + Seek + OpenFile + Drop> Input<F> {
     ) -> Result<(), Said> {
         self.file
             .read_exact(bytes)
-            .map_err(|_| message::line(rt, self.argument, words))
+            .map_err(|_| message::line_of(rt, self.argument, words))
     }
 }

@@ -10,9 +10,9 @@ pub fn is_regular<F: OpenFile>(file: &F) -> bool {
     file.metadata().is_ok_and(|said| said.is_file())
 }
 
-// The mode of an open file, without its kind.
-pub fn mode<F: OpenFile>(file: &F) -> io::Result<u32> {
-    Ok(file.metadata()?.mode() % 4096)
+// The mode of an open file, without its kind; 0 where the system says nothing.
+pub fn mode<F: OpenFile>(file: &F) -> u32 {
+    file.metadata().map_or(0, |said| said.mode() % 4096)
 }
 
 // What tells an open file from any other: its device and its number there.

@@ -24,7 +24,7 @@ impl Encoder {
     // From fresh.
     pub fn fresh(number: u32) -> Encoder
         requires { number ≤ 1 }
-        ensures { result.next ≡ 0 }
+        ensures { (result.number ≡ number) × (result.next ≡ 0) }
     {
         Encoder {
             number,
@@ -36,7 +36,7 @@ impl Encoder {
     // The coded pairs of the payload of so many.
     fn encode(&mut self, pairs: usize, payload: &[u8], coded: &mut [u8])
         requires { (pairs ≤ 168) × (length payload.now ≡ pairs * 444) × (self.old.next < 65536) × (length coded.old ≡ pairs * 512) }
-        ensures { self.new.next ≡ self.old.next + pairs }
+        ensures { (self.new.number ≡ self.old.number) × (self.new.next ≡ self.old.next + pairs) }
     {
         pair_stream::encode(
             pairs,
@@ -60,7 +60,7 @@ impl Encoder {
         coded: &mut [u8; 86016],
     ) -> Result<(), Said>
         requires { self.old.next < 65536 }
-        ensures { OnOk result ((self.new.next ≡ self.old.next + (modulation profile).bits * 21) × (self.new.next ≤ self.old.next + 168)) }
+        ensures { (self.new.number ≡ self.old.number) × OnOk result ((self.new.next ≡ self.old.next + (modulation profile).bits * 21) × (self.new.next ≤ self.old.next + 168)) }
     {
         let n = pairs(profile);
         let payload = &mut space[..n * 444];
@@ -70,9 +70,10 @@ impl Encoder {
     }
 }
 
-// Both.
+// Both: encoder 0 and encoder 1.
 #[derive(Drop)]
 pub struct Encoders {
     pub first: Encoder,
     pub second: Encoder,
+    ghost numbered: { (first.number ≡ 0) × (second.number ≡ 1) },
 }

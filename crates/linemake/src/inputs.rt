@@ -59,7 +59,7 @@ pub fn open<R: Files + Env + Eprint>(rt: &R) -> Result<Inputs<R::File>, Said> {
 }
 
 // How many super-frames the payload files hold, with one above the most for any more; or says which file's size does not fit the others'.
-pub fn superframes<R: Env + Eprint, F: Read + Seek + OpenFile + Drop>(
+pub fn superframes<R: Env + Eprint, F: Read + Seek + OpenFile>(
     rt: &R,
     profile: Profile,
     inputs: &mut Inputs<F>,
@@ -74,35 +74,34 @@ pub fn superframes<R: Env + Eprint, F: Read + Seek + OpenFile + Drop>(
     let unit = payload_bytes(profile);
     let bytes = payload0.size();
     if bytes < unit {
-        return Err(payload0.misfit(rt, bytes, format_args!("at least {unit}")));
+        return Err(payload0.misfit(rt, bytes, b"at least ", unit));
     }
     if bytes % unit != 0 {
-        return Err(payload0.misfit(rt, bytes, format_args!("a multiple of {unit}")));
+        return Err(payload0.misfit(rt, bytes, b"a multiple of ", unit));
     }
     let others = payload1.size();
     if others != bytes {
-        let expected = format_args!("as many as the other payload file has, {bytes}");
-        return Err(payload1.misfit(rt, others, expected));
+        let expected = b"as many as the other payload file has, ";
+        return Err(payload1.misfit(rt, others, expected, bytes));
     }
     let list = overhead.size();
     if list != LIST {
-        return Err(overhead.misfit(rt, list, LIST));
+        return Err(overhead.misfit(rt, list, b"", LIST));
     }
     Ok((bytes / unit).min(MOST + 1) as u8)
 }
 
 // Says how many super-frames the payload files hold, more than a line file has.
-pub fn say_too_many<R: Env + Eprint, F: Read + Seek + OpenFile + Drop>(
+pub fn say_too_many<R: Env + Eprint, F: Read + Seek>(
     rt: &R,
     profile: Profile,
     inputs: &mut Inputs<F>,
 ) -> Said {
-    let superframes = inputs.payload0.size() / payload_bytes(profile);
-    message::line(
-        rt,
-        PAYLOAD0,
-        format_args!("{superframes} super-frames, expected at most {MOST}"),
-    )
+    message::begin(rt, PAYLOAD0);
+    message::number(rt, inputs.payload0.size() / payload_bytes(profile));
+    message::text(rt, b" super-frames, expected at most ");
+    message::number(rt, MOST);
+    message::end(rt)
 }
 
 // Says which of these the line file's name leads to, where it leads to one.
@@ -116,13 +115,13 @@ pub fn spare<R: Files + Env + Eprint>(
         payload1,
         overhead,
     } = inputs;
-    for (input, what) in [
-        (payload0, "PAYLOAD0"),
-        (payload1, "PAYLOAD1"),
-        (overhead, "OVERHEAD"),
+    for (input, words) in [
+        (payload0, "the same file as PAYLOAD0"),
+        (payload1, "the same file as PAYLOAD1"),
+        (overhead, "the same file as OVERHEAD"),
     ] {
         if files::leads_to(rt, name.as_bytes(), &input.file) {
-            return Err(message::line(rt, LINE, format_args!("the same file as {what}")));
+            return Err(message::line_of(rt, LINE, words));
         }
     }
     Ok(())

@@ -37,11 +37,11 @@ pub fn put<R: Eprint, W: Write>(rt: &R, out: &mut W, bytes: &[u8]) -> Result<(),
 // The list of these cells; or says where they have an illegal byte.
 fn legal<'a, R: Env + Eprint>(rt: &R, cells: &'a [u8; 12288]) -> Result<List<'a>, Refusal> {
     List::of(cells).map_err(|refusal| {
-        let index = refusal.index();
-        message::line(
+        message::line_with(
             rt,
             OVERHEAD,
-            format_args!("a byte of 16 or more at index {index}"),
+            b"a byte of 16 or more at index ",
+            refusal.index(),
         );
         refusal
     })

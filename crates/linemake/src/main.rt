@@ -16,6 +16,13 @@ use std::io::Read;
 use std::random::RandomSource;
 use std::rt::{Env, Files};
 
+// The path beside a name, whose X's are still to be drawn; empty where it would be too long. Not compiled into its caller, which would then
+// hold the names of both cases all along.
+#[inline(never)]
+fn beside(name: &Name) -> Name {
+    name.beside(b"XXXXXX").unwrap_or(Name::new())
+}
+
 // Makes the line file, at a path beside its name, which it takes when it is whole.
 fn make<R: Files + Env + RandomSource + Alloc + Eprint>(
     rt: &R,
@@ -25,12 +32,12 @@ fn make<R: Files + Env + RandomSource + Alloc + Eprint>(
     let superframes = inputs::superframes(rt, profile, inputs)?;
     let name = files::target(rt, LINE)?;
     inputs::spare(rt, inputs, &name)?;
-    let mut path = Name::new();
-    let mut out = files::create(rt, &name, &mut path)?;
+    let mut path = beside(&name);
+    let mut out = files::create(rt, name.as_bytes(), path.as_bytes_mut())?;
     match line::write(rt, profile, inputs, superframes, &mut out) {
-        Ok(()) => Ok(files::finish(rt, out, &path, &name)?),
+        Ok(()) => Ok(files::finish(rt, out, path.as_bytes(), name.as_bytes())?),
         Err(refusal) => {
-            files::discard(rt, out, &path);
+            files::discard(rt, out, path.as_bytes());
             Err(refusal)
         }
     }

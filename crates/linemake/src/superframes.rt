@@ -1,5 +1,7 @@
 // Super-frame after super-frame, both encoders from fresh.
-ghost use Rattle.std.specs.Prelude.{◌+◌, ◌≤◌, ◌<◌, OnOk};
+ghost use Rattle.std.specs.Prelude.{◌≡◌, ◌+◌, ◌*◌, ◌≤◌, ◌<◌, OnOk};
+ghost use Rattle.pair_spec.specs.Front.{BothBefore};
+ghost use Rattle.profiles_spec.specs.Profiles.{modulation};
 
 use crate::encoders::{Encoder, Encoders};
 use crate::inputs::Inputs;
@@ -26,7 +28,8 @@ fn write_frames<R: Eprint, W: Write>(
     put(rt, out, line)
 }
 
-// Encodes the pairs of the next super-frame of both encoders, makes its frames and writes them.
+// Encodes the pairs of the next super-frame of both encoders, which are at the same pair, makes its frames and writes them. Unless that fails,
+// the histories are then those of both encoders before the pairs of the super-frame after it.
 fn write_next<R: Env + Eprint, F: Read + Seek + OpenFile + Drop, W: Write>(
     rt: &R,
     profile: Profile,
@@ -36,8 +39,8 @@ fn write_next<R: Env + Eprint, F: Read + Seek + OpenFile + Drop, W: Write>(
     line: &mut [u8; 356352],
     out: &mut W,
 ) -> Result<(), Said>
-    requires { (encoders.old.first.next < 65536) × (encoders.old.second.next < 65536) }
-    ensures { OnOk result ((encoders.new.first.next ≤ encoders.old.first.next + 168) × (encoders.new.second.next ≤ encoders.old.second.next + 168)) }
+    requires { (encoders.old.first.next < 65536) × (encoders.old.second.next ≡ encoders.old.first.next) }
+    ensures { OnOk result ((encoders.new.first.next ≡ encoders.old.first.next + (modulation profile).bits * 21) × (encoders.new.first.next ≤ encoders.old.first.next + 168) × (encoders.new.second.next ≡ encoders.new.first.next) × BothBefore encoders.new.first.next encoders.new.first.history encoders.new.second.history) }
 {
     let mut coded = [[0u8; 86016]; 2];
     let Encoders { first, second } = encoders;

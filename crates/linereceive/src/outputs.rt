@@ -46,9 +46,12 @@ fn spare_inputs<R: Files + Env + Eprint>(
     inputs: &Inputs<R::File>,
 ) -> Result<(), Said> {
     let Inputs { line, capture } = inputs;
-    for (headed, what) in [(line, "LINE"), (capture, "CAPTURE")] {
+    for (headed, words) in [
+        (line, "the same file as LINE"),
+        (capture, "the same file as CAPTURE"),
+    ] {
         if files::leads_to(rt, name.as_bytes(), &headed.input.file) {
-            return Err(message::line(rt, argument, format_args!("the same file as {what}")));
+            return Err(message::line_of(rt, argument, words));
         }
     }
     Ok(())
@@ -67,11 +70,7 @@ fn spare_outputs<R: Files + Env + Alloc + Eprint>(
     name: &Name,
 ) -> Result<(), Said> {
     match (FIRST..argument).find(|other| is_name_of(rt, *other, name)) {
-        Some(other) => Err(message::line(
-            rt,
-            argument,
-            format_args!("the same file as argument {other}"),
-        )),
+        Some(other) => Err(message::line_with(rt, argument, b"the same file as argument ", other)),
         None => Ok(()),
     }
 }
@@ -88,7 +87,9 @@ fn make<R: Files + Env + RandomSource + Alloc + Eprint>(
     let name = files::target(rt, argument)?;
     spare_inputs(rt, argument, &name, inputs)?;
     spare_outputs(rt, argument, &name)?;
-    let file = files::create(rt, &name, path)?;
+    let mut beside = name.beside(b"XXXXXX").unwrap_or(Name::new());
+    let file = files::create(rt, name.as_bytes(), beside.as_bytes_mut())?;
+    *path = beside;
     Ok(Output { file, what })
 }
 
@@ -122,10 +123,12 @@ pub fn make_all<R: Files + Env + RandomSource + Alloc + Eprint>(
     })
 }
 
-// Removes what lies at these paths.
+// Removes what lies at these paths: nothing does at an empty one.
 pub fn remove_all<R: Files>(rt: &R, paths: &[Name; 4]) {
     for path in paths {
-        files::remove(rt, path);
+        if !path.as_bytes().is_empty() {
+            files::remove(rt, path.as_bytes());
+        }
     }
 }
 
@@ -156,19 +159,22 @@ fn take_name<R: Files + Env + Alloc + Eprint>(
     path: &Name,
 ) -> Result<(), Said> {
     let name = files::target(rt, argument).unwrap_or(Name::new());
-    files::take_name(rt, path, &name)
+    files::take_name(rt, path.as_bytes(), name.as_bytes())
 }
 
 // Gives all four files their names where they are whole; or says why not, and those behind the first that cannot take its name have none.
+// The path of each that took its name, or was removed since it could not, is empty afterwards.
 #[inline(never)]
 pub fn finish<R: Files + Env + Alloc + Eprint>(
     rt: &R,
     outputs: Outputs<R::File>,
-    paths: &[Name; 4],
+    paths: &mut [Name; 4],
 ) -> Result<(), Said> {
     close_all(rt, outputs)?;
-    for (k, path) in paths.iter().enumerate() {
-        take_name(rt, FIRST + k, path)?;
+    for (k, path) in paths.iter_mut().enumerate() {
+        let taken = take_name(rt, FIRST + k, path);
+        *path = Name::new();
+        taken?;
     }
     Ok(())
 }

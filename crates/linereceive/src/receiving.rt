@@ -1,6 +1,6 @@
 // Super-frame after super-frame, both receivers from fresh.
 ghost use Rattle.std.specs.Prelude.{◌≡◌, ◌+◌, ◌*◌, ◌≤◌, ◌<◌, length, OnOk};
-ghost use Rattle.pair_spec.specs.Front.{BeforePair};
+ghost use Rattle.pair_spec.specs.Front.{BeforePair, BothBefore};
 ghost use Rattle.profiles_spec.specs.Profiles.{modulation};
 
 use crate::inputs::Headed;
@@ -26,18 +26,19 @@ pub struct Receiver {
     ghost before: { BeforePair number next history },
 }
 
-// Both.
+// Both: the receiver of encoder 0 and that of encoder 1.
 #[derive(Drop)]
 pub struct Receivers {
     pub first: Receiver,
     pub second: Receiver,
+    ghost numbered: { (first.number ≡ 0) × (second.number ≡ 1) },
 }
 
 impl Receiver {
     // From fresh.
     pub fn fresh(number: u32) -> Receiver
         requires { number ≤ 1 }
-        ensures { result.next ≡ 0 }
+        ensures { (result.number ≡ number) × (result.next ≡ 0) }
     {
         Receiver {
             number,
@@ -49,7 +50,7 @@ impl Receiver {
     // Payload and marks of so many coded pairs.
     fn receive(&mut self, pairs: usize, coded: &[u8], payload: &mut [u8], marks: &mut [u8])
         requires { (pairs ≤ 168) × (length coded.now ≡ pairs * 512) × (self.old.next < 65536) × (length payload.old ≡ pairs * 444) × (length marks.old ≡ pairs * 32) }
-        ensures { self.new.next ≡ self.old.next + pairs }
+        ensures { (self.new.number ≡ self.old.number) × (self.new.next ≡ self.old.next + pairs) }
     {
         pair_stream::receive(
             pairs,
@@ -74,7 +75,7 @@ impl Receiver {
         side: &mut Side<W>,
     ) -> Result<Sums, Said>
         requires { self.old.next < 65536 }
-        ensures { OnOk result ((self.new.next ≡ self.old.next + (modulation profile).bits * 21) × (self.new.next ≤ self.old.next + 168)) }
+        ensures { (self.new.number ≡ self.old.number) × OnOk result ((self.new.next ≡ self.old.next + (modulation profile).bits * 21) × (self.new.next ≤ self.old.next + 168)) }
     {
         let n = pairs(profile);
         let payload = &mut space[..n * 444];
@@ -111,7 +112,8 @@ fn take<R: Env + Eprint, F: Read + Seek + OpenFile + Drop>(
     taken
 }
 
-// Receives super-frame q: how many overhead cells differ, and what the marks of both receivers add up to.
+// Receives super-frame q, both receivers being at the same pair: how many overhead cells differ, and what the marks of both receivers add
+// up to. Unless that fails, the histories are then those of both receivers before the pairs of the super-frame after it.
 fn receive_next<R: Env + Eprint, F: Read + Seek + OpenFile + Drop, W: Write>(
     rt: &R,
     profile: Profile,
@@ -122,8 +124,8 @@ fn receive_next<R: Env + Eprint, F: Read + Seek + OpenFile + Drop, W: Write>(
     space: &mut [u8; 356352],
     outputs: &mut Outputs<W>,
 ) -> Result<(u32, Sums, Sums), Refusal>
-    requires { (q < 64) × (receivers.old.first.next < 65536) × (receivers.old.second.next < 65536) }
-    ensures { OnOk result ((receivers.new.first.next ≤ receivers.old.first.next + 168) × (receivers.new.second.next ≤ receivers.old.second.next + 168)) }
+    requires { (q < 64) × (receivers.old.first.next < 65536) × (receivers.old.second.next ≡ receivers.old.first.next) }
+    ensures { OnOk result ((receivers.new.first.next ≡ receivers.old.first.next + (modulation profile).bits * 21) × (receivers.new.first.next ≤ receivers.old.first.next + 168) × (receivers.new.second.next ≡ receivers.new.first.next) × BothBefore receivers.new.first.next receivers.new.first.history receivers.new.second.history) }
 {
     let mut pairs0 = [0u8; 86016];
     let mut pairs1 = [0u8; 86016];

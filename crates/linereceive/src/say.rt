@@ -8,26 +8,23 @@ use std::rt::Env;
 // Two files whose numbers of super-frames differ.
 pub fn unequal<R: Env + Eprint>(rt: &R, line: u32, capture: u32) {
     message::begin(rt, LINE);
-    let _ = eprint!(rt; "{line} super-frames, ");
-    message::line(rt, CAPTURE, capture);
+    message::number(rt, line as usize);
+    message::text(rt, b" super-frames, ");
+    message::line_of(rt, CAPTURE, capture);
 }
 
 // The illegal byte of the list, by its index in the line file.
 pub fn illegal<R: Env + Eprint>(rt: &R, index: usize) {
-    message::line(
-        rt,
-        LINE,
-        format_args!("a byte of 16 or more at index {index}"),
-    );
+    message::line_with(rt, LINE, b"a byte of 16 or more at index ", index);
 }
 
 // The illegal byte of the capture's frames: of 16 or more, or, in QPSK, a payload cell's that the profile has not.
 pub fn illegal_cell<R: Env + Eprint>(rt: &R, profile: Profile, index: usize) {
     let what = match profile {
-        Profile::Qam16 => "a byte of 16 or more",
-        Profile::Qpsk => "not a cell of the profile",
+        Profile::Qam16 => "a byte of 16 or more at index ",
+        Profile::Qpsk => "not a cell of the profile at index ",
     };
-    message::line(rt, CAPTURE, format_args!("{what} at index {index}"));
+    message::line_with(rt, CAPTURE, what.as_bytes(), index);
 }
 
 // Why the header of an open file is refused.
@@ -38,7 +35,7 @@ pub fn header<R: Env + Eprint, F: OpenFile>(
     size: usize,
 ) {
     if !files::is_regular(&input.file) {
-        message::line(rt, input.argument, "not a regular file");
+        message::line(rt, input.argument, b"not a regular file");
         return;
     }
     let name = Name::of_argument(rt, input.argument).unwrap_or(Name::new());

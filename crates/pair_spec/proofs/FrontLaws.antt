@@ -111,6 +111,15 @@ both_fresh P {h₀} {h₁} z e₀ e₁ = rw z (record { first = before_fresh 0 h
 pub both_at : (P P' : ℕ) {h₀ h₁ : List ℕ} → BothBefore P h₀ h₁ → P ≡ P' → BothBefore P' h₀ h₁
 both_at P P' {h₀} {h₁} b is = subst (λ k. BothBefore k h₀ h₁) is b
 
+-- The same of two histories whose encoders are known by their numbers, and which are before the same pair.
+pub both_numbered : {e₀ e₁ P₀ P₁ : ℕ} (P : ℕ) {h₀ h₁ : List ℕ} → BeforePair e₀ P₀ h₀ → BeforePair e₁ P₁ h₁ → e₀ ≡ 0 → e₁ ≡ 1 → P₀ ≡ P → P₁ ≡ P
+    → BothBefore P h₀ h₁
+both_numbered {e₀} {e₁} P {h₀} {h₁} b₀ b₁ n₀ n₁ p₀ p₁ =
+    record {
+      first = subst (λ e. BeforePair e P h₀) n₀ (subst (λ k. BeforePair e₀ k h₀) p₀ b₀);
+      second = subst (λ e. BeforePair e P h₁) n₁ (subst (λ k. BeforePair e₁ k h₁) p₁ b₁);
+    }
+
 -- The same where they are known if r is 0, as where a program is not refused.
 module _ {r : ℕ} where
   pub before_same : {e : ℕ} (P n m : ℕ) {h : List ℕ} → (r ≡ 0 → BeforePair e (P + n) h) → n ≡ m → r ≡ 0 → BeforePair e (P + m) h
