@@ -1,9 +1,26 @@
-// The print of the counters of `loopback_core`.
+// The print of the counters of `loopback_core`: byte by byte and count by count, each tried whatever became of those before it, and not by
+// lines (`println!`), so that where standard output fails in between, what it has room for comes out.
 use loopback_core::counts::Counts;
 use std::io;
 
-// Says why a text could not be printed, where it could not.
-fn end<R: Eprint>(rt: &R, printed: io::Result<()>) {
+// Prints a text, with the counts in their order for its number signs; or says why it cannot, by the last error. A number sign for which no
+// count is left prints nothing.
+fn print<R: Print + Eprint>(rt: &R, text: &[u8], counts: &[u32]) {
+    let mut rest = counts.iter();
+    let mut printed: io::Result<()> = Ok(());
+    for byte in text {
+        let put = if *byte == b'#' {
+            match rest.next() {
+                Some(count) => rt.print(*count),
+                None => Ok(()),
+            }
+        } else {
+            rt.write_all(&[*byte])
+        };
+        if let Err(error) = put {
+            printed = Err(error);
+        }
+    }
     if let Err(error) = printed {
         report::fail(rt, b"standard output", error);
     }
@@ -11,84 +28,48 @@ fn end<R: Eprint>(rt: &R, printed: io::Result<()>) {
 
 // Prints that the counts of QPSK follow.
 pub fn print_qpsk<R: Print + Eprint>(rt: &R) {
-    end(rt, println!(rt; "qpsk"));
-}
-
-// Prints the pairs, and the calls by their refusals.
-fn print_calls<R: Print>(rt: &R, who: &str, counts: &Counts) -> io::Result<()> {
-    println!(rt;
-        "{who}: pairs {}, calls done {}, refused by number {} {} {} {} {}",
-        counts[0], counts[1], counts[2], counts[3], counts[4], counts[5], counts[6]
-    )
+    print(rt, b"qpsk\n", &[]);
 }
 
 // Prints what an encoder did.
 #[inline(never)]
 pub fn print_encoder<R: Print + Eprint>(rt: &R, counts: &Counts) {
-    end(rt, print_calls(rt, "encoder", counts));
+    print(
+        rt,
+        b"encoder: pairs #, calls done #, refused by number # # # # #\n",
+        counts,
+    );
 }
 
 // Prints what the line did.
 #[inline(never)]
 pub fn print_line<R: Print + Eprint>(rt: &R, counts: &Counts) {
-    end(
+    print(
         rt,
-        println!(rt;
-            "line: refused by number {} {} {} {} {}\noverhead cells that differ {}",
-            counts[2], counts[3], counts[4], counts[5], counts[6], counts[7]
-        ),
+        b"\
+line: refused by number # # # # #
+overhead cells that differ #
+",
+        &counts[2..],
     );
-}
-
-// Prints the words by their marks, from those with no wrong bit on.
-fn print_words<R: Print>(rt: &R, counts: &Counts) -> io::Result<()> {
-    println!(rt;
-        "words with 0 wrong bits: marked 0 {}, 1 {}, 2 {}, lost {}",
-        counts[7], counts[8], counts[9], counts[10]
-    )?;
-    println!(rt;
-        "words with 1: {} {} {} {}",
-        counts[11], counts[12], counts[13], counts[14]
-    )?;
-    println!(rt;
-        "words with 2: {} {} {} {}",
-        counts[15], counts[16], counts[17], counts[18]
-    )?;
-    println!(rt;
-        "words with 3: {} {} {} {}",
-        counts[19], counts[20], counts[21], counts[22]
-    )?;
-    println!(rt;
-        "words with more: {} {} {} {}",
-        counts[23], counts[24], counts[25], counts[26]
-    )
-}
-
-// Prints the bits, coded and of the payload.
-fn print_bits<R: Print>(rt: &R, counts: &Counts) -> io::Result<()> {
-    println!(rt;
-        "bits in words not lost: right {}, mended {}, spoilt {}, wrong {}",
-        counts[27], counts[28], counts[29], counts[30]
-    )?;
-    println!(rt;
-        "bits in lost words: right {}, mended {}, spoilt {}, wrong {}",
-        counts[31], counts[32], counts[33], counts[34]
-    )?;
-    println!(rt;
-        "payload bits: right {}, wrong {}; in lost words: right {}, wrong {}",
-        counts[35], counts[36], counts[37], counts[38]
-    )
-}
-
-// Prints what a receiver made of the pairs.
-fn print_received<R: Print>(rt: &R, counts: &Counts) -> io::Result<()> {
-    print_calls(rt, "receiver", counts)?;
-    print_words(rt, counts)?;
-    print_bits(rt, counts)
 }
 
 // Prints what a receiver did, and what came of it.
 #[inline(never)]
 pub fn print_receiver<R: Print + Eprint>(rt: &R, counts: &Counts) {
-    end(rt, print_received(rt, counts));
+    print(
+        rt,
+        b"\
+receiver: pairs #, calls done #, refused by number # # # # #
+words with 0 wrong bits: marked 0 #, 1 #, 2 #, lost #
+words with 1: # # # #
+words with 2: # # # #
+words with 3: # # # #
+words with more: # # # #
+bits in words not lost: right #, mended #, spoilt #, wrong #
+bits in lost words: right #, mended #, spoilt #, wrong #
+payload bits: right #, wrong #; in lost words: right #, wrong #
+",
+        counts,
+    );
 }

@@ -95,7 +95,8 @@ fn frame_off_grid(profile: Profile) -> Answer
     frame::frame(profile, 0, &list[..6980], &list, &mut [0; 7424])
 }
 
-// Both.
+// Both. Not compiled into its caller, which would then hold a frame beside the line's arrays.
+#[inline(never)]
 pub fn refuse_framing(profile: Profile, counts: &mut Counts)
     ensures { counts.new ≡ answered (Err (OffGrid 0)) (answered (Err NoSuchFrame) counts.old) }
 {
