@@ -8,7 +8,7 @@ ghost use Rattle.cells_spec.specs.Calls.{map_call, demap_call};
 ghost use Rattle.profiles_spec.specs.Profiles.{modulation};
 
 use calls::{Answer, Refusal};
-use cells_core::legal::first_illegal_payload;
+use cells_core::legal::first_illegal_in_buffer;
 use cells_core::sizes::cell_bytes;
 use profile::Profile;
 
@@ -39,7 +39,7 @@ pub fn cells_to_bits(profile: Profile, cells: &[u8], bits: &mut [u8]) -> Answer
     if bits.len() != BITS {
         return Err(Refusal::Misfit);
     }
-    if let Some(at) = first_illegal_payload(profile, cells) {
+    if let Some(at) = first_illegal_in_buffer(profile, cells) {
         return Err(Refusal::OffGrid(at));
     }
     mapping_core::demap(profile, cells, bits);

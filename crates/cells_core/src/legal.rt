@@ -1,5 +1,6 @@
 // Legal cells (01: "A byte of 16 or more is illegal"; 02, E1: "A payload cell with a level of −3 or 3 is illegal in this profile").
 ghost use Rattle.std.specs.Prelude.{◌≡◌, ◌*◌, ℕ, leb, length};
+ghost use Rattle.cells_spec.specs.Modulation.{cells_per_buffer};
 ghost use Rattle.cells_spec.specs.Cells.{overhead_rule, payload_rule, first_illegal, found};
 ghost use Rattle.profiles_spec.specs.Profiles.{qpsk, modulation};
 
@@ -15,7 +16,12 @@ fn first_reaching<F: Fn(u8) -> u8>(cells: &[u8], limit: u8, height: F) -> Option
     if highest < limit {
         return None;
     }
-    cells.iter().position(|v| limit <= height(*v))
+    for i in 0..cells.len() {
+        if limit <= height(cells[i]) {
+            return Some(i);
+        }
+    }
+    None
 }
 
 // The index of the first byte that is illegal in overhead cells.
@@ -46,5 +52,16 @@ pub fn first_illegal_payload(profile: Profile, cells: &[u8]) -> Option<usize>
     match profile {
         Profile::Qam16 => first_illegal(cells),
         Profile::Qpsk => first_outer(cells),
+    }
+}
+
+// The same of a buffer's cells, whose number the compiler then knows.
+pub fn first_illegal_in_buffer(profile: Profile, cells: &[u8]) -> Option<usize>
+    requires { length cells.now ≡ cells_per_buffer (modulation profile) * 2 }
+    ensures { result ≡ found (length cells.now) (first_illegal (payload_rule (modulation profile)) cells.now) }
+{
+    match profile {
+        Profile::Qam16 => first_illegal(&cells[0..43008]),
+        Profile::Qpsk => first_outer(&cells[0..86016]),
     }
 }

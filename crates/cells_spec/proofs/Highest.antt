@@ -1,7 +1,7 @@
 -- Laws of specs/Highest.antt.
 -- Assumes nothing.
-use Rattle.std.specs.Prelude.{◌≡◌, refl, Bool, true, false, cond, List, [], ◌∷◌, ◌++◌, ℕ, ◌<◌, ◌≤◌, leb, length, get_or, max, None}
-use Rattle.std.proofs.Common.{arith, below_none}
+use Rattle.std.specs.Prelude.{◌≡◌, refl, Bool, true, false, cond, List, [], ◌∷◌, ◌++◌, ℕ, ◌+◌, ◌<◌, ◌≤◌, leb, length, get_or, max, None}
+use Rattle.std.proofs.Common.{arith, below_none, below_more}
 use Rattle.std.proofs.lemmas.Bool.{lt-leb}
 use Rattle.std.proofs.lemmas.Grind.{common_steps}
 use Rattle.bits.specs.LeastLaws.{least_ext}
@@ -11,13 +11,19 @@ use Rattle.cells_spec.specs.Modulation.{Modulation}
 use Rattle.cells_spec.specs.Highest.{Highest, flaw}
 use Rattle.cells_spec.proofs.FoundLaws.{not_found}
 
--- The bytes are passed one after the other.
-pub highest_none : (f : ℕ → ℕ) (top : ℕ) → Highest f [] 0 top
-highest_none f top = record { upto = omega arith; within = below_none (λ k. f (get_or [] k 0) ≤ top) }
+-- The bytes are passed one after the other: by their index in a list,
+pub highest_none : (f : ℕ → ℕ) (s : List ℕ) (top : ℕ) → Highest f s 0 top
+highest_none f s top = record { upto = omega arith; within = below_none (λ k. f (get_or s k 0) ≤ top) }
 
-pub highest_more : {f : ℕ → ℕ} {s : List ℕ} {top : ℕ} (v next : ℕ) → Highest f s (length s) top → next ≡ max (f v) top
+pub highest_more : {f : ℕ → ℕ} {s : List ℕ} {i top : ℕ} (v next : ℕ) → Highest f s i top → i < length s → v ≡ f (get_or s i 0) → top ≤ next → v ≤ next
+    → Highest f s (i + 1) next
+highest_more {f} {s} {i} {top} v next h l e a b =
+    record { upto = omega arith; within = below_more (λ k. f (get_or s k 0) ≤ next) i (λ k lk. omega (arith, h.within k lk)) (omega arith) }
+
+-- and as a list that each is put to.
+pub highest_put : {f : ℕ → ℕ} {s : List ℕ} {top : ℕ} (v next : ℕ) → Highest f s (length s) top → next ≡ max (f v) top
     → Highest f (s ++ (v ∷ [])) (length (s ++ (v ∷ []))) next
-highest_more {f} {s} {top} v next h m = record { upto = omega arith; within = more f s top v next h.within (omega arith) (omega arith) }
+highest_put {f} {s} {top} v next h m = record { upto = omega arith; within = more f s top v next h.within (omega arith) (omega arith) }
   where
     more : (f : ℕ → ℕ) (s : List ℕ) (top v next : ℕ) → ((k : ℕ) → k < length s → f (get_or s k 0) ≤ top) → top ≤ next → f v ≤ next
         → (k : ℕ) → k < length (s ++ (v ∷ [])) → f (get_or (s ++ (v ∷ [])) k 0) ≤ next

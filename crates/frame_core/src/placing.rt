@@ -15,6 +15,16 @@ fn copy(from: &[u8], at: usize, n: usize, to: &mut [u8])
     to.copy_from_slice(&from[at..at + n]);
 }
 
+// Copies N bytes, from a byte on; by way of an array, since the compiler cannot know that the two buffers are apart.
+fn copy_run<const N: usize>(from: &[u8], at: usize, to: &mut [u8])
+    requires { (at + N ≤ length from.now) × (length to.old ≡ N) }
+    ensures { to.new ≡ tabulate N (λ k. get_or from.now (at + k) 0) }
+{
+    let mut run = [0; N];
+    run.copy_from_slice(&from[at..at + N]);
+    to.copy_from_slice(&run);
+}
+
 // Places what stands before the first whole group, overhead up to the edge and payload from there on, and gives that group.
 fn place_rest(number: u32, payload: &[u8], own: &[u8], frame: &mut [u8]) -> usize
     requires { (length payload.now ≡ payload_cells number * 2) × (length own.now ≡ overhead_cells number * 2) × (length frame.old ≡ 7424) }
@@ -35,7 +45,7 @@ fn place_group(number: u32, payload: &[u8], own: &[u8], i: usize, group: &mut [u
 {
     let g = gap(number);
     let pilot = (i + g) * 2;
-    copy(payload, i * 62 - (g + 1) * 2, 64, group);
+    copy_run::<64>(payload, i * 62 - (g + 1) * 2, group);
     group[0] = own[pilot];
     group[1] = own[pilot + 1];
 }
@@ -75,6 +85,6 @@ pub fn extract(number: u32, frame: &[u8], payload: &mut [u8])
     for i in w..116 {
         let a = i * 62 - g * 2;
         let e = a + 62;
-        copy(frame, i * 64 + 2, 62, &mut payload[a..e]);
+        copy_run::<62>(frame, i * 64 + 2, &mut payload[a..e]);
     }
 }

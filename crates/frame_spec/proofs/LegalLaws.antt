@@ -28,10 +28,14 @@ frame_flat s cells =
     least_ext (length cells) (λ j. leb 16 (get_or cells j 0)) (λ j. frame_rule qam16 s j (get_or cells j 0))
     (λ j l. either (λ b. leb 16 (get_or cells j 0) ≡ b) (is_overhead s (j / 2)) _ _ refl refl)
 
-pub flat : (f : Profile) → f ≡ Qam16 → (s : ℕ) (cells : List ℕ) (r : Option ℕ) → r ≡ found (length cells) (first_illegal overhead_rule cells)
+pub flat : (f : Profile) → f ≡ Qam16 → (s : ℕ) (cells : List ℕ) (at : ℕ) → at ≡ first_illegal overhead_rule cells
+    → at ≡ first_illegal (frame_rule (modulation f) s) cells
+flat f e s cells at ea = ea ∙ frame_flat s cells ∙ ap (λ p. first_illegal (frame_rule p s) cells) (sym (is_qam16 f e))
+
+-- The same as the code gives it.
+pub flat_found : (f : Profile) → f ≡ Qam16 → (s : ℕ) (cells : List ℕ) (r : Option ℕ) → r ≡ found (length cells) (first_illegal overhead_rule cells)
     → r ≡ found (length cells) (first_illegal (frame_rule (modulation f) s) cells)
-flat f e s cells r er =
-    er ∙ ap (found (length cells)) (frame_flat s cells ∙ ap (λ p. first_illegal (frame_rule p s) cells) (sym (is_qam16 f e)))
+flat_found f e s cells r er = er ∙ ap (found (length cells)) (flat f e s cells (first_illegal overhead_rule cells) refl)
 
 -- ---- the frame and its payload, whole
 

@@ -16,9 +16,13 @@ use Rattle.frame_spec.proofs.LayoutLaws.{First, zeroth, other, which, edge_le, c
 use Rattle.frame_spec.proofs.ByteLaws.{byte_low, byte_pilot, byte_rest, payload_read}
 use Rattle.frame_spec.specs.RunLaws.{group_at, Groups, Runs}
 
--- What was copied is what stands there, number by number.
-pub copied : (from : List ℕ) (at n : ℕ) → at + n ≤ length from → take n (drop at from) ≡ tabulate n (λ k. get_or from (at + k) 0)
-copied from at n l =
+-- What was copied number by number is what was there.
+pub copied : (n : ℕ) (f : ℕ → ℕ) (t d : List ℕ) → d ≡ tabulate n (λ k. get_or t k 0) → t ≡ tabulate n f → d ≡ tabulate n f
+copied n f t d e p = e ∙ tabulate_ext n (λ k. get_or t k 0) f (λ k l. ap (λ z. get_or z k 0) p ∙ get_d_tabulate n f k 0 l)
+
+-- The same of a part that was copied whole.
+pub part_copied : (from : List ℕ) (at n : ℕ) → at + n ≤ length from → take n (drop at from) ≡ tabulate n (λ k. get_or from (at + k) 0)
+part_copied from at n l =
     is_tabulate 0 (take n (drop at from)) n (λ k. get_or from (at + k) 0) (simp (length-take, length-drop) (omega arith))
     (λ k lk. get_or-take n (drop at from) k 0 lk ∙ get_or-drop at from k 0)
 

@@ -59,7 +59,7 @@ module _ {p : Modulation} {line : List ℕ} {s : ℕ} (f g at : ℕ) (h : Judged
           let e : s * 7424 + (k - s * 7424) ≡ k = omega arith in
           ap (λ i. line_rule p i (get_or line i 0)) (sym e) ∙ none (k - s * 7424) (omega arith)
 
-  judged_more : 7424 ≤ at → Judged p line (s + 1)
+  pub judged_more : 7424 ≤ at → Judged p line (s + 1)
   judged_more l =
       record {
         turns = omega arith;
@@ -69,7 +69,7 @@ module _ {p : Modulation} {line : List ℕ} {s : ℕ} (f g at : ℕ) (h : Judged
         };
       }
 
-  judged_hit : at < 7424 → f + at ≡ first_illegal (line_rule p) line
+  pub judged_hit : at < 7424 → f + at ≡ first_illegal (line_rule p) line
   unfolding first_illegal first at_line
   judged_hit l =
       let e : f + at ≡ s * 7424 + least 7424 (at_line p line s) = omega (arith, in_line) in
@@ -78,7 +78,7 @@ module _ {p : Modulation} {line : List ℕ} {s : ℕ} (f g at : ℕ) (h : Judged
       (least_passes 7424 (at_line p line s) (omega (arith, in_line)))
       (legal_before (least 7424 (at_line p line s)) (least_before 7424 (at_line p line s))))
 
-judged_all : {p : Modulation} {line : List ℕ} {s : ℕ} (n : ℕ) → Judged p line s → length line ≡ 356352 → n ≡ length line → 48 ≤ s
+pub judged_all : {p : Modulation} {line : List ℕ} {s : ℕ} (n : ℕ) → Judged p line s → length line ≡ 356352 → n ≡ length line → 48 ≤ s
     → n ≡ first_illegal (line_rule p) line
 unfolding first_illegal
 judged_all {p} {line} {s} n h ll en l =

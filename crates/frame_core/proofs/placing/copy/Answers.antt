@@ -1,7 +1,7 @@
 -- `frame_core::placing::copy` meets its contract.
 use Rattle.std.proofs.Common.{rules}
-use Rattle.frame_spec.proofs.RunLaws.{copied}
+use Rattle.frame_spec.proofs.RunLaws.{part_copied}
 use Rattle.frame_core.proofs.placing.copy.Goals as goal
 
 pub returns : goal.returns
-returns c = search (rules, copied)
+returns c = search (rules, part_copied)
