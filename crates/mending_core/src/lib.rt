@@ -1,5 +1,5 @@
-// Workers: the words of a pair repaired where one needs it, by syndromes gathered side by side. Over `locating_core`, `pair_words_core` and
-// `permutation_core`; `receiving_core` receives pairs with them.
+// Workers: the words of a pair repaired where one needs it, by syndromes gathered side by side. Over `locating_core` and
+// `permutation_core`, and specs of `pair_words_core`; `receiving_core` receives pairs with them.
 #![tactic(auto)]
 
 pub mod checks;

@@ -1,11 +1,15 @@
 -- The bytes of a word as the code makes them, of bits where it finds them.
 -- Assumes nothing.
-use Rattle.std.specs.Prelude.{◌≡◌, false, cond, List, ℕ, ◌+◌, ◌-◌, ◌*◌, ◌/◌, ◌%◌, ◌^◌, ◌<◌, ◌≤◌, ltb, length, get_or}
+use Rattle.std.specs.Prelude.{◌≡◌, false, cond, List, ℕ, ◌+◌, ◌-◌, ◌*◌, ◌/◌, ◌%◌, ◌^◌, ◌<◌, ◌≤◌, ltb, length, get_or, set}
 use Rattle.std.proofs.Math.Path.{refl, ap}
-use Rattle.std.proofs.Common.{sym, ◌∙◌, lt-ltb, le-ltb}
+use Rattle.std.proofs.Common.{sym, ◌∙◌, lt-ltb, le-ltb, replicate}
+use borrow.Rule.Slice.PartMut.{put_mid}
 use native.Mathlib.Omega.{arith}
 use Rattle.std.proofs.Math.Decide.{dec_lt}
-use Rattle.bits.specs.Bits.{bit, bit_of, byte_of, from_bits}
+use Rattle.bits.specs.Bits.{bit, bit_of, byte_of, from_bits, pack}
+use Rattle.bits.specs.Filling.{fill_none, fill_more, fill_part, fill_done}
+use Rattle.bits.specs.Lists.{tabulate}
+use Rattle.bits.specs.ListLaws.{tabulate_ext}
 use Rattle.bits.proofs.BitLaws.{from_bits_ext}
 use Rattle.bits.specs.Xor.{◌⊕◌}
 use Rattle.word_spec.specs.Completion.{first_bits}
@@ -43,6 +47,33 @@ unfolding byte_of from_bits
 zero_front h P w j lw lj m =
     from_bits_ext 8 (λ k. 0) (λ k. front_held depth h P w (j * 8 + k)) (λ k lk. ap (λ u. u % 2) (front_none depth h P w (j * 8 + k) lw (omega arith) m))
 
+-- Two of them one after the other,
+pub front_block_is : (h : List ℕ) (w C : ℕ) (d : List ℕ) (x y : ℕ) → length d ≡ 2 → x ≡ byte_of (front_stored h w) (C * 2)
+    → y ≡ byte_of (front_stored h w) (C * 2 + 1)
+    → set (set d 0 x) 1 y ≡ tabulate 2 (λ i. byte_of (front_stored h w) (C * 2 + i))
+front_block_is h w C d x y long ex ey =
+    let none = fill_none (λ i. byte_of (front_stored h w) (C * 2 + i)) 2 d long in
+    let one = fill_more x none (omega arith) (ex ∙ ap (byte_of (front_stored h w)) (omega arith)) in
+    fill_done (fill_more y one (omega arith) ey) (omega arith)
+
+-- and all sixteen.
+pub stored_half : (h : List ℕ) (P w : ℕ) → w < 32 → 10 ≤ P → tabulate 16 (byte_of (front_stored h w)) ≡ pack 16 (front_held depth h P w)
+unfolding pack
+stored_half h P w lw m =
+    tabulate_ext 16 (byte_of (front_stored h w)) (byte_of (front_held depth h P w)) (λ j l. stored_front h P w j lw l m)
+
+pub zero_half : (h : List ℕ) (P w : ℕ) → w < 32 → P < 10 → replicate 16 0 ≡ pack 16 (front_held depth h P w)
+unfolding pack tabulate
+zero_half h P w lw m = tabulate_ext 16 (λ j. 0) (byte_of (front_held depth h P w)) (λ j l. zero_front h P w j lw l m)
+
+-- ---- a word of its halves
+
+pub halves_joined : (f : ℕ → ℕ) (d ys zs : List ℕ) → length d ≡ 32 → ys ≡ tabulate 16 f → zs ≡ tabulate 16 (λ j. f (16 + j))
+    → put_mid 16 16 (put_mid 0 16 d ys) zs ≡ tabulate 32 f
+unfolding tabulate
+halves_joined f d ys zs long ey ez =
+    fill_done (fill_part 16 zs (fill_part 16 ys (fill_none f 32 d long) (omega arith) ey) (omega arith) ez) (omega arith)
+
 -- ---- a word as held
 
 module _ (h p : List ℕ) (P w : ℕ) (size : length h ≡ 512 * depth) (lw : w < 32) where
@@ -64,6 +95,17 @@ module _ (h p : List ℕ) (P w : ℕ) (size : length h ≡ 512 * depth) (lw : w 
           let d : ((w * 16 + j - 16) * 8 + k) / 128 ≡ w = omega arith in
           let c : ((w * 16 + j - 16) * 8 + k) / 128 % 16 ≡ w % 16 = ap (λ n. n % 16) d in
           held_back depth h p P w size lw (j * 8 + k) _ _ (omega arith) (omega arith) refl (rw (a, b, c))
+
+  -- Its halves.
+  pub held_first : pack 16 (front_held depth h P w) ≡ tabulate 16 (byte_of (held_word depth h P p w))
+  unfolding pack
+  held_first = tabulate_ext 16 (byte_of (front_held depth h P w)) (byte_of (held_word depth h P p w)) held_start
+
+  pub held_second : tabulate 16 (λ j. byte_of (λ i. bit p (coded_source i)) (w * 16 + j))
+      ≡ tabulate 16 (λ j. byte_of (held_word depth h P p w) (16 + j))
+  held_second =
+      tabulate_ext 16 (λ j. byte_of (λ i. bit p (coded_source i)) (w * 16 + j)) (λ j. byte_of (held_word depth h P p w) (16 + j))
+      (λ j l. held_byte (16 + j) _ (omega arith) (omega arith) (ap (byte_of (λ i. bit p (coded_source i))) (omega arith)))
 
 -- ---- a word before its completion
 
@@ -105,3 +147,14 @@ module _ (h y : List ℕ) (P w : ℕ) (lw : w < 32) where
   pub open_byte : (j x : ℕ) → 16 ≤ j → j < 32 → x ≡ byte_of (own_bit y w) j → x ≡ byte_of (first_bits (open_word depth h P y w)) j
   open_byte j x l m e =
       e ∙ byte_of_ext (own_bit y w) (first_bits (open_word depth h P y w)) j (λ k lk. own_is (j * 8 + k) (omega arith) (omega arith))
+
+  -- Its halves.
+  pub open_first : pack 16 (front_held depth h P w) ≡ tabulate 16 (byte_of (first_bits (open_word depth h P y w)))
+  unfolding pack
+  open_first = tabulate_ext 16 (byte_of (front_held depth h P w)) (byte_of (first_bits (open_word depth h P y w))) open_start
+
+  pub open_second : tabulate 16 (λ j. byte_of (own_bit y w) (16 + j))
+      ≡ tabulate 16 (λ j. byte_of (first_bits (open_word depth h P y w)) (16 + j))
+  open_second =
+      tabulate_ext 16 (λ j. byte_of (own_bit y w) (16 + j)) (λ j. byte_of (first_bits (open_word depth h P y w)) (16 + j))
+      (λ j l. open_byte (16 + j) _ (omega arith) (omega arith) refl)

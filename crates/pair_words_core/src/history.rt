@@ -11,7 +11,7 @@ pub fn move_part(history: &mut [u8], from: usize, to: usize)
     history.copy_within(from + 512..to + 512, from);
 }
 
-// Copies a buffer into one of the same length. (`loopback` and `loopback_core` call it; here it is `copy_from_slice`.)
+// Copies a buffer into one of the same length. (The crates above call `copy_from_slice` itself.)
 pub fn copy(from: &[u8], to: &mut [u8])
     requires { length to.old ≡ length from.now }
     ensures { to.new ≡ from.now }
