@@ -1,7 +1,7 @@
 -- Laws of blocks by whole rows: what the word operations give, and moves one after the other.
 -- Assumes nothing.
 use Rattle.std.specs.Prelude.{◌≡◌, refl, List, ℕ, zero, suc, ◌+◌, ◌-◌, ◌*◌, ◌/◌, ◌%◌, ◌^◌, ◌<◌, T, eqb, get_or}
-use Rattle.std.proofs.Common.{sym, ◌∙◌, add-mul, div-one, mul-one, mul_assoc, pow-add, shl_lt}
+use Rattle.std.proofs.Common.{sym, ◌∙◌, add-mul, div-one, mul-one, mul_assoc, pow-add, shl_lt, shr-shr}
 use Rattle.std.proofs.Math.Path.{ap, ap₂}
 use native.Mathlib.Omega.{arith}
 use Rattle.std.specs.Int.Bits.{bit_and, bit_or, bit_xor, and_zero_r, and_lt, or_self, xor_zero_r}
@@ -103,11 +103,17 @@ unfolding turned
 turned_none x lx =
     from_bits_ext 16 (λ c. bit_of 16 x ((c + 0) % 16)) (bit_of 16 x) (λ c l. ap (λ k. bit_of 16 x k % 2) (omega arith)) ∙ from_bits_bit_of 16 x lx
 
-pub turn_is : (x n : ℕ) → x < 2 ^ 16 → n < 16 → rotate_left w16 x n ≡ turned x n
-turn_is x zero lx ln =
+-- By two shifts, and as std turns a number.
+pub turn_is : (x n : ℕ) → x < 2 ^ 16 → n < 16 → bit_or (x * 2 ^ n % 2 ^ 16) (x / 2 ^ 1 / 2 ^ (15 - n)) ≡ turned x n
+turn_is x n lx ln =
+    ap (bit_or (x * 2 ^ n % 2 ^ 16)) (shr-shr x 1 (15 - n) ∙ ap (λ k. x / 2 ^ k) (omega arith))
+    ∙ turn_parts x n (16 - n) lx (omega arith)
+
+pub rotated_is : (x n : ℕ) → x < 2 ^ 16 → n < 16 → rotate_left w16 x n ≡ turned x n
+rotated_is x zero lx ln =
     let whole : x % 65536 ≡ x = omega arith in
     rw (mul-one x, whole, div-one x, or_self x) (sym (turned_none x lx))
-turn_is x (suc n) lx ln =
+rotated_is x (suc n) lx ln =
     let m : suc n % 16 ≡ suc n = omega arith in
     let r : (16 - suc n) % 16 ≡ 16 - suc n = omega arith in
     rw (m, r) (turn_parts x (suc n) (16 - suc n) lx (omega arith))

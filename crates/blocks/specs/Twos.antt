@@ -11,43 +11,44 @@ use Rattle.bits.specs.ListLaws.{is_tabulate}
 use Rattle.bits.proofs.NumberLaws.{half_is, two_bytes}
 use Rattle.blocks.specs.SideBySide.{read_word, row_byte, word_byte}
 
--- Two bytes as they are read, the second the upper.
-pub read_made : (s : List ℕ) (j : ℕ) → ((i : ℕ) → get_or s i 0 < 256) → get_or s j 0 + get_or s (j + 1) 0 * 256 ≡ read_word s j
+-- Two bytes as they are read.
+pub read_made : (s : List ℕ) (j x y : ℕ) → x ≡ get_or s (j + 1) 0 → y ≡ get_or s j 0 → x < 256 → y < 256 → x * 256 + y ≡ read_word s j
 unfolding read_word
-read_made s j small =
-    omega (
-      arith,
-      two_bytes s (j + 1) j (get_or s (j + 1) 0) (get_or s j 0) (λ c. bit s (8 * j + (c + 8) % 16)) refl refl (small (j + 1)) (small j)
-          (λ k l. ap (bit s) (omega arith)) (λ k l. ap (bit s) (omega arith)),
-    )
+read_made s j x y p q lx ly =
+    two_bytes s (j + 1) j x y (λ c. bit s (8 * j + (c + 8) % 16)) p q lx ly
+    (λ k l. ap (bit s) (omega arith)) (λ k l. ap (bit s) (omega arith))
+
+-- The same of a string of bytes, the second the upper.
+pub read_from_le : (s : List ℕ) (j : ℕ) → ((i : ℕ) → get_or s i 0 < 256) → get_or s j 0 + get_or s (j + 1) 0 * 256 ≡ read_word s j
+read_from_le s j small = omega (arith, read_made s j (get_or s (j + 1) 0) (get_or s j 0) refl refl (small (j + 1)) (small j))
 
 -- A word's bytes.
 module _ (row : List ℕ) (x w : ℕ) (e : w ≡ get_or row x 0) (l : w < 2 ^ 16) where
   half_of_lem : (h : ℕ) → h < 2 → w / 2 ^ (8 - 8 * h) % 256 ≡ from_bits 8 (λ c. bit_of 16 (get_or row x 0) (8 * h + c))
   half_of_lem h lh = half_is w h l lh ∙ ap (λ v. from_bits 8 (λ c. bit_of 16 v (8 * h + c))) e
 
-  row_upper : w / 256 % 256 ≡ row_byte row (2 * x)
+  pub row_upper : w / 256 % 256 ≡ row_byte row (2 * x)
   unfolding row_byte
   row_upper =
       let word : 2 * x / 2 ≡ x = omega arith in
       let half : 2 * x % 2 ≡ 0 = omega arith in
       rw (word, half) (half_of_lem 0 (omega arith))
 
-  row_lower : w % 256 ≡ row_byte row (2 * x + 1)
+  pub row_lower : w % 256 ≡ row_byte row (2 * x + 1)
   unfolding row_byte
   row_lower =
       let word : (2 * x + 1) / 2 ≡ x = omega arith in
       let half : (2 * x + 1) % 2 ≡ 1 = omega arith in
       rw (word, half) (omega (arith, half_of_lem 1 (omega arith)))
 
-  word_lower : w % 256 ≡ word_byte row (2 * x)
+  pub word_lower : w % 256 ≡ word_byte row (2 * x)
   unfolding word_byte
   word_lower =
       let word : 2 * x / 2 ≡ x = omega arith in
       let half : 2 * x % 2 ≡ 0 = omega arith in
       rw (word, half) (omega (arith, half_of_lem 1 (omega arith)))
 
-  word_upper : w / 256 % 256 ≡ word_byte row (2 * x + 1)
+  pub word_upper : w / 256 % 256 ≡ word_byte row (2 * x + 1)
   unfolding word_byte
   word_upper =
       let word : (2 * x + 1) / 2 ≡ x = omega arith in

@@ -21,7 +21,7 @@ pub fn read_word(s: &[u8], j: usize) -> u16
 }
 
 // A row turned left by n columns.
-#[tactic(auto, using(crate::specs::MoveLaws::turn_is))]
+#[tactic(auto, using(crate::specs::MoveLaws::rotated_is))]
 pub fn turn(x: u16, n: usize) -> u16
     requires { n < 16 }
     ensures { result ≡ turned x n }

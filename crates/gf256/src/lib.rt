@@ -5,7 +5,28 @@ mod tables;
 
 ghost use Rattle.std.specs.Prelude.{◌≡◌, ◌<◌, get_or};
 ghost use Rattle.gf256.specs.Field.{◌·◌, cube};
-ghost use Rattle.gf256.specs.Tables.{powers};
+ghost use Rattle.gf256.specs.Tables.{powers, logs as exponents, cubed};
+
+// The table of powers.
+pub fn powers() -> [u8; 255]
+    ensures { result ≡ powers }
+{
+    tables::POWERS
+}
+
+// The table of exponents.
+pub fn logs() -> [u8; 256]
+    ensures { result ≡ exponents }
+{
+    tables::LOGS
+}
+
+// The table of cubes.
+pub fn cubes() -> [u8; 256]
+    ensures { result ≡ cubed }
+{
+    tables::CUBES
+}
 
 // Power k of a.
 pub fn power(k: usize) -> u8

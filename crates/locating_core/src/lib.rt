@@ -5,8 +5,16 @@
 pub mod locating;
 mod tables;
 
-ghost use Rattle.std.specs.Prelude.{◌<◌, MatchOption};
+ghost use Rattle.std.specs.Prelude.{◌≡◌, ◌<◌, MatchOption};
+ghost use Rattle.locating_core.specs.Roots.{rooted};
 ghost use Rattle.locating_core.specs.RootLaws.{Root};
+
+// The table of roots.
+pub fn roots() -> [u8; 256]
+    ensures { result ≡ rooted }
+{
+    tables::ROOTS
+}
 
 // A root of y y + y = c that is not 0, if there is one.
 fn root(c: u8) -> Option<u8>

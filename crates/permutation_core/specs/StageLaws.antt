@@ -2,12 +2,12 @@
 -- Assumes nothing.
 use Rattle.std.specs.Prelude.{◌≡◌, refl, Bool, List, ℕ, zero, suc, ◌+◌, ◌-◌, ◌*◌, ◌/◌, ◌%◌, ◌^◌, ◌<◌, ◌≤◌, T, ltb, leb, eqb, length, map}
 use Rattle.std.proofs.Math.Path.{sym, ap}
-use Rattle.std.proofs.Common.{ap₂, ◌∙◌, one-mul, zero-mul, mul_assoc, ltb→lt, leb→le, eqb→eq, shr-shr, pow-add}
+use Rattle.std.proofs.Common.{ap₂, ◌∙◌, one-mul, zero-mul, mul_assoc, mod-lt, ltb→lt, leb→le, eqb→eq, shr-shr, pow-add, pow_pos}
 use Rattle.std.proofs.lemmas.List.{map-id, get_or-map}
 use native.Mathlib.Omega.{arith}
 use Rattle.std.proofs.Math.Decide.{dec_lt}
-use Rattle.std.specs.Int.Bits.{bit_and, bit_xor, and_zero_r, xor_zero_r, shifted_even}
-use Rattle.std.proofs.lemmas.Nat.{xor_comm, shl-shr}
+use Rattle.std.specs.Int.Bits.{bit_and, bit_xor, and_zero_r, and_le_r, xor_zero_r, shifted_even}
+use Rattle.std.proofs.lemmas.Nat.{xor_comm, xor_lt, shl-shr}
 use Rattle.std.proofs.Math.ListN.{get_or}
 use Rattle.std.proofs.Math.Pow.{field, mod-mod-pow}
 use Rattle.bits.specs.Bits.{bit_of, from_bits}
@@ -184,32 +184,39 @@ module _ (w m n x y : ℕ) (k : Mask w m n) where
           ∙ and_zero_r (bit_xor (bit_of w x (c + n)) (bit_of w (y / 2 ^ n) (c + n)))
       go (no h) = shl_zero w differing n c l (omega arith)
 
-  -- As code has them.
-  crossed_first_lem : bit_xor x differing < 2 ^ w → bit_xor x differing ≡ crossed_first w m n x y
+  -- As code has them: where the numbers that it makes have w digits,
+  crossed_first_below : bit_xor x differing < 2 ^ w → bit_xor x differing ≡ crossed_first w m n x y
   unfolding crossed_first pick
-  crossed_first_lem l =
+  crossed_first_below l =
       sym (from_bits_bit_of w (bit_xor x differing) l)
       ∙ from_bits_ext w (bit_of w (bit_xor x differing)) (λ c. pick (bit_of w m c) (bit_of w y (c - n)) (bit_of w x c))
       (λ c l. ap (λ u. u % 2) (by_mask w m c (λ e. rw e (first_in c l e)) (λ e. rw e (first_out c e))))
 
-  crossed_second_lem : bit_xor y (differing * 2 ^ n % 2 ^ w) < 2 ^ w → bit_xor y (differing * 2 ^ n % 2 ^ w) ≡ crossed_second w m n x y
+  crossed_second_below : bit_xor y (differing * 2 ^ n % 2 ^ w) < 2 ^ w → bit_xor y (differing * 2 ^ n % 2 ^ w) ≡ crossed_second w m n x y
   unfolding crossed_second pick
-  crossed_second_lem l =
+  crossed_second_below l =
       sym (from_bits_bit_of w (bit_xor y (differing * 2 ^ n % 2 ^ w)) l)
       ∙ from_bits_ext w (bit_of w (bit_xor y (differing * 2 ^ n % 2 ^ w))) (λ c. pick (bit_of w m c) (bit_of w y c) (bit_of w x (c + n)))
       (λ c l. ap (λ u. u % 2) (by_mask w m c (λ e. rw e (second_in c l e)) (λ e. rw e (second_out c l e))))
+
+  -- and where the numbers that change columns have.
+  pub crossed_first_lem : x < 2 ^ w → m < 2 ^ w → bit_xor x differing ≡ crossed_first w m n x y
+  crossed_first_lem lx lm = let h = and_le_r (bit_xor x (y / 2 ^ n)) m in crossed_first_below (xor_lt w x differing lx (omega arith))
+
+  pub crossed_second_lem : y < 2 ^ w → bit_xor y (differing * 2 ^ n % 2 ^ w) ≡ crossed_second w m n x y
+  crossed_second_lem ly = crossed_second_below (xor_lt w y (differing * 2 ^ n % 2 ^ w) ly (mod-lt (differing * 2 ^ n) (pow_pos w)))
 
   module _ (s u d : ℕ) (es : s ≡ y / 2 ^ n) (eu : u ≡ bit_xor x s) (ed : d ≡ bit_and u m) where
     d_is : d ≡ differing
     d_is = ed ∙ ap (λ v. bit_and v m) (eu ∙ ap (bit_xor x) es)
 
     pub made_first : (t : ℕ) → t ≡ bit_xor x d → t < 2 ^ w → t ≡ crossed_first w m n x y
-    made_first t e l = let h : t ≡ bit_xor x differing = e ∙ ap (bit_xor x) d_is in h ∙ crossed_first_lem (rw h at l)
+    made_first t e l = let h : t ≡ bit_xor x differing = e ∙ ap (bit_xor x) d_is in h ∙ crossed_first_below (rw h at l)
 
     pub made_second : (v t : ℕ) → v ≡ d * 2 ^ n % 2 ^ w → t ≡ bit_xor y v → t < 2 ^ w → t ≡ crossed_second w m n x y
     made_second v t ev e l =
         let h : t ≡ bit_xor y (differing * 2 ^ n % 2 ^ w) = e ∙ ap (bit_xor y) (ev ∙ ap (λ q. q * 2 ^ n % 2 ^ w) d_is) in
-        h ∙ crossed_second_lem (rw h at l)
+        h ∙ crossed_second_below (rw h at l)
 
 -- Numbers whose columns are chosen by a mask, by their bits.
 picked_bits : (w m : ℕ) (g h f : ℕ → ℕ) → ((c : ℕ) → c < w → bit_of w m c ≡ 1 → g c ≡ f c) → ((c : ℕ) → c < w → bit_of w m c ≡ 0 → h c ≡ f c)

@@ -7,16 +7,23 @@ use Rattle.riffle_core.specs.Riffles.{riffled_number, riffled, by_blocks, by_wor
 
 -- ---- what code makes
 
--- Two numbers of a riffle, of the halves of a row.
-pub riffle_even : (x : List ℕ) (n v : ℕ) → n < 64 → v ≡ get_or (take 64 x) n 0 → v ≡ riffled_number x (2 * n)
+-- Two numbers of a riffle,
+pub riffle_even : (x : List ℕ) (n v : ℕ) → v ≡ get_or x n 0 → v ≡ riffled_number x (2 * n)
 unfolding riffled_number
-riffle_even x n v l e = e ∙ get_or-take 64 x n 0 l ∙ ap (λ k. get_or x k 0) (omega arith)
+riffle_even x n v e = e ∙ ap (λ k. get_or x k 0) (omega arith)
 
-pub riffle_odd : (x : List ℕ) (n v : ℕ) → v ≡ get_or (drop 64 x) n 0 → v ≡ riffled_number x (2 * n + 1)
+pub riffle_odd : (x : List ℕ) (n v : ℕ) → v ≡ get_or x (64 + n) 0 → v ≡ riffled_number x (2 * n + 1)
 unfolding riffled_number
-riffle_odd x n v e = e ∙ get_or-drop 64 x n 0 ∙ ap (λ k. get_or x k 0) (omega arith)
+riffle_odd x n v e = e ∙ ap (λ k. get_or x k 0) (omega arith)
 
-pub ruleset riffling = (riffle_even, riffle_odd)
+-- and the same from the two halves of a row.
+pub riffle_first : (x : List ℕ) (n v : ℕ) → n < 64 → v ≡ get_or (take 64 x) n 0 → v ≡ riffled_number x (2 * n)
+riffle_first x n v l e = riffle_even x n v (e ∙ get_or-take 64 x n 0 l)
+
+pub riffle_second : (x : List ℕ) (n v : ℕ) → v ≡ get_or (drop 64 x) n 0 → v ≡ riffled_number x (2 * n + 1)
+riffle_second x n v e = riffle_odd x n v (e ∙ get_or-drop 64 x n 0)
+
+pub ruleset riffling = (riffle_even, riffle_odd, riffle_first, riffle_second)
 
 -- ---- where a number comes from
 

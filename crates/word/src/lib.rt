@@ -4,7 +4,7 @@
 
 pub mod checks;
 pub mod syndrome;
-mod tables;
+pub mod tables;
 
 ghost use Rattle.std.specs.Prelude.{◌≡◌, ◌<◌, length};
 ghost use Rattle.bits.specs.Bits.{bit, pack};

@@ -1,7 +1,16 @@
 // The table of check bits.
+ghost use Rattle.std.specs.Prelude.{◌≡◌};
+ghost use Rattle.word_spec.specs.Checks.{checks};
 
-// The check bits of single bits: specs/Checks.antt of `word_spec`. Entry i belongs to bit 255 - i.
-pub const CHECKS: [u32; 256] = [
+// The check bits of single bits: specs/Checks.antt of `word_spec`.
+pub fn checks() -> [u32; 256]
+    ensures { result ≡ checks }
+{
+    CHECKS
+}
+
+// Entry i belongs to bit 255 - i.
+pub(crate) const CHECKS: [u32; 256] = [
     1, 2, 4, 8, 16, 32, 64, 128, 256, 512, 1024, 2048, 4096, 8192, 16384, 32768, 65536, 57031,
     114061, 107998, 103803, 128050, 79523, 45954, 91908, 4303, 8605, 17209, 34417, 68833, 50950,
     101900, 115423, 88954, 26675, 53349, 106697, 106326, 122987, 73234, 58083, 116165, 87374,
