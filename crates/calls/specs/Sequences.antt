@@ -1,5 +1,5 @@
 -- Lists of calls that hand a state on, refused calls among them. 01, "Whole runs": "Each accepted call gets the history and
--- pair number that the accepted call before it returned, and nobody else writes them meanwhile. Err calls, whatever they
+-- pair number that the accepted call before it returned, and nobody else writes them meanwhile. Refused calls, whatever they
 -- are lent, may stand anywhere in a list and leave both as they were." Since 02, E2, the pair number is part of the history.
 -- Assumes nothing.
 use Rattle.std.specs.Prelude.{◌≡◌, List, [], ◌∷◌, cond, ◌≢◌, ℕ, suc, eqb}

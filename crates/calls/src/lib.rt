@@ -42,7 +42,11 @@ impl Refusal {
     {
         match self {
             Refusal::OffGrid(index) => index,
-            _ => 0,
+            Refusal::Misfit => 0,
+            Refusal::BadHeader => 0,
+            Refusal::CountSpent => 0,
+            Refusal::NoSuchFrame => 0,
+            Refusal::StrayHistory => 0,
         }
     }
 }

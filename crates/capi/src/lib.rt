@@ -180,8 +180,8 @@ pub fn ofec_open_line(file: &[u8]) -> Line
             overhead: header.overhead,
             frames: header.frames,
         },
-        Err(refusal) => Line {
-            refusal: refusal.number(),
+        Err(_) => Line {
+            refusal: line_file::open_refusal(file),
             superframes: 0,
             overhead: 0,
             frames: 0,

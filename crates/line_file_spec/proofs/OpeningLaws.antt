@@ -78,12 +78,12 @@ pub ruleset openings = (opens, closes)
 -- ---- the call, case by case
 
 module _ (file : List ℕ) where
-  -- Err, whatever the refusal: the empty part and zeros.
+  -- Refused, whatever the refusal: the empty part and zeros.
   pub open_refused : (r : Refusal) → open_answer file ≡ Err r → open_call file ≡ open_file [] 0 0 0
   unfolding open_call
   open_refused r e = ap (open_with file) (judged_refused file (length file) r e)
 
-  -- Ok: the file itself, with the numbers in its bytes.
+  -- Done: the file itself, with the numbers in its bytes.
   pub open_done : Sound file (length file) → open_call file ≡ open_file file (header_number file 0) (header_number file 1) (header_number file 2)
   unfolding open_call
   open_done s = ap (open_with file) s.is

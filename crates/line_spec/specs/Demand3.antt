@@ -24,7 +24,7 @@ pub record Goes (p : Modulation) (o : Outward p) : Type 0 where
       → line_bit p (frames p o) e R C r c ≡ o.sent e R C r c
   -- "From a fresh history, passed on from answer to call, the accepted calls are that encoder's pairs 0, 1, 2 and on." (02, E2)
   pub numbered : (e : Side) → Numbered Encodings (λ c. c.encoder) (λ c. c.pair) (encoder e) (o.calls e)
-  -- "Err calls, whatever they are lent, may stand anywhere in a list and leave both as they were": history and pair number, which is in
+  -- "Refused calls, whatever they are lent, may stand anywhere in a list and leave both as they were": history and pair number, which is in
   -- its front, go on as if only the accepted calls had been made; and the buffers that a refused call may write are as they were lent.
   pub states : (e : Side) → Run Encodings (fresh_history (encoder e)) (accepted Encodings (o.calls e)) (o.last e)
   pub refused : (e : Side) (i : ℕ) (c : Encoding) → At (o.calls e) i c → TurnedBack (encode c).answer

@@ -24,7 +24,7 @@ pub record EncodeBuffers : Type 0 where
 abbrev pub encode_buffers : List ℕ → List ℕ → EncodeBuffers
 encode_buffers coded history = record { coded = coded; history = history }
 
--- What stands after it: Ok with the next pair number, and these.
+-- What stands after it: `Ok` with the next pair number, and these.
 abbrev pub Encoded : Type 0
 Encoded = After EncodeBuffers
 
