@@ -95,7 +95,7 @@ impl Name {
         &self.bytes[..self.length]
     }
 
-    // The bytes, to be written over: the name keeps its length.
+    // The bytes, to be written over.
     pub fn as_bytes_mut(&mut self) -> &mut [u8]
         ensures value { result.now ≡ self.old }
         ensures fits { length result.now ≤ 4096 }

@@ -9,18 +9,27 @@ mod line;
 mod superframes;
 
 use calls::Refusal;
-use files::Name;
+use files::{Name, Said};
 use inputs::{Inputs, LINE, PROFILE};
 use profile::Profile;
 use std::io::Read;
 use std::random::RandomSource;
 use std::rt::{Env, Files};
 
-// The path beside a name, whose X's are still to be drawn; empty where it would be too long. Not compiled into its caller, which would then
-// hold the names of both cases all along.
+// Puts the name of the line file, which is none of the inputs', and the path beside it, whose X's are still to be drawn, where they are lent;
+// or says why it cannot. The path is empty where it would be too long. Not compiled into its caller, which would then hold the names that
+// are passed on here as long as the file is made.
 #[inline(never)]
-fn beside(name: &Name) -> Name {
-    name.beside(b"XXXXXX").unwrap_or(Name::new())
+fn place<R: Files + Env + Alloc + Eprint>(
+    rt: &R,
+    inputs: &Inputs<R::File>,
+    name: &mut Name,
+    path: &mut Name,
+) -> Result<(), Said> {
+    *name = files::target(rt, LINE)?;
+    inputs::spare(rt, inputs, name)?;
+    *path = name.beside(b"XXXXXX").unwrap_or(Name::new());
+    Ok(())
 }
 
 // Makes the line file, at a path beside its name, which it takes when it is whole.
@@ -30,9 +39,9 @@ fn make<R: Files + Env + RandomSource + Alloc + Eprint>(
     inputs: &mut Inputs<R::File>,
 ) -> Result<(), Refusal> {
     let superframes = inputs::superframes(rt, profile, inputs)?;
-    let name = files::target(rt, LINE)?;
-    inputs::spare(rt, inputs, &name)?;
-    let mut path = beside(&name);
+    let mut name = Name::new();
+    let mut path = Name::new();
+    place(rt, inputs, &mut name, &mut path)?;
     let mut out = files::create(rt, name.as_bytes(), path.as_bytes_mut())?;
     match line::write(rt, profile, inputs, superframes, &mut out) {
         Ok(()) => Ok(files::finish(rt, out, path.as_bytes(), name.as_bytes())?),
